@@ -1,8 +1,8 @@
 -- What a relay links.
 -- No relaxed push leaves a closed set. So if pushes lead from one cell to another, the second cell is in the reach of the first, and so is
 -- every cell in the reach of the second.
-use Rattle.std.proofs.Common.{◌≡◌, ℕ, ◌<◌, List, length, sym, ◌∙◌, ap, subst, arith}
-use Rattle.std.specs.Prelude.{Option, None, Some, IfSome}
+use Rattle.std.proofs.Common.{◌≡◌, ℕ, ◌<◌, List, length, refl, sym, ◌∙◌, ap, subst, arith}
+use Rattle.std.specs.Prelude.{Option, None, Some, IfSome, MatchOption}
 use Rattle.cellset.specs.Cell.{IsOn}
 use Rattle.cellset.specs.CellSet.{Cells, CellsOn, Has}
 use Rattle.cellset.specs.declared.cell.Cell.{Cell}
@@ -13,7 +13,7 @@ use Rattle.maker.specs.Matching.{InReach}
 use Rattle.maker.specs.Search.{visit_at, cell_visited, IsTraced, IsSearch, IsFreeGoal}
 use Rattle.maker.specs.declared.zones.search.Visit.{Visit}
 use Rattle.maker.specs.Dead.{IsRoomOf}
-use Rattle.maker.specs.Relay.{IsRelay, IsSameRelay, HasFreeGoal}
+use Rattle.maker.specs.Relay.{IsRelay, IsSameRelay, HasFreeGoal, IsReachOf}
 use Rattle.maker.specs.declared.zones.relay.Relay.{Relay}
 use Rattle.maker.proofs.Searches.{push_stays}
 
@@ -39,6 +39,27 @@ pushed_reach level formed source cell is c (by_step b before p) = λ zone closed
     (push_stays level zone b p.dir closed (record { player = p.behind; floor = subst (IsFloor level) p.next (formed.room c p.ahead) })
     (pushed_reach level formed source cell is b before zone closed h))
 
+-- a free goal in the reach of a cell is in each closed set that holds the cell
+pub reached_goal : (level : Level) (matching : List (Option Cell)) (cell : Cell) (reach : Cells) (found : Option Cell) → IsWellFormed level
+    → IsReachOf level cell reach → IfSome found (λ g. Has reach g × IsFreeGoal level matching g)
+    → MatchOption found (IsReachOf level cell reach) (λ g. IsFreeGoal level matching g × InReach level cell g)
+reached_goal level matching cell reach None formed is goal = is
+reached_goal level matching cell reach (Some g) formed is (has, free) =
+    (free, pushed_reach level formed (Has is.seeds) cell (λ c h. (is.only c).0 h) g ((is.exact g).0 has))
+
+-- a free goal is on the grid
+pub free_on_grid : (level : Level) (matching : List (Option Cell)) (cells : Cells) (found : Option Cell)
+    → IfSome found (λ g. Has cells g × IsFreeGoal level matching g) → IfSome found (IsOn level.shape)
+free_on_grid level matching cells None goal = tt
+free_on_grid level matching cells (Some g) (has, free) = free.on
+
+-- a free goal among the targets is in the reach of each source
+pub free_linked : (level : Level) (matching : List (Option Cell)) (sources targets : Cells) (found : Option Cell)
+    → ((b c : Cell) → Has sources b → Has targets c → InReach level b c) → IfSome found (λ g. Has targets g × IsFreeGoal level matching g)
+    → IfSome found (λ g. IsFreeGoal level matching g × ((b : Cell) → Has sources b → InReach level b g))
+free_linked level matching sources targets None linked goal = tt
+free_linked level matching sources targets (Some g) linked (has, free) = (free, λ b h. linked b g h has)
+
 -- if an alternating path leads to a cell, one leads to every cell in the reach of the cell
 pub traced_to : (level : Level) (matching : List (Option Cell)) (start : Cell) (queue : List Visit) (i n : ℕ) (c g : Cell) (via : Option ℕ) → i < n
     → InReach level c g
@@ -55,24 +76,27 @@ traced_last level matching start visited queue at v g is_search below is near =
     (traced_to level matching start queue at (length queue) (cell_visited queue at) g (visit_at queue at).via below
     (subst (λ (x : Visit). InReach level x.cell g) is near) (is_search.traced at below))
 
--- a relay stays sound if its scratch buffer alone is written
+-- a relay stays sound if the reach of the last box alone is written
 pub relay_kept : (level : Level) (relay new : Relay) → IsSameRelay relay new → IsRelay level relay → IsRelay level new
 relay_kept level relay new same is = record {
   room = subst (IsRoomOf level) (sym same.room) is.room;
   sources_on = ap (λ (r : CellsOn). r.extent) same.sources ∙ is.sources_on;
   targets_on = ap (λ (r : CellsOn). r.extent) same.targets ∙ is.targets_on;
-  scratch_on = same.scratch ∙ is.scratch_on;
+  reach_on = same.reach ∙ is.reach_on;
   linked = λ b c sources targets. is.linked b c (subst (λ (r : CellsOn). Has r.members b) same.sources sources)
       (subst (λ (r : CellsOn). Has r.members c) same.targets targets);
   free_on = subst (λ (o : Option Cell). IfSome o (IsOn level.shape)) (sym same.free) is.free_on;
 }
+
+pub same_relay : (relay : Relay) → IsSameRelay relay relay
+same_relay relay = record { room = refl; sources = refl; targets = refl; reach = refl; free = refl }
 
 pub same_twice : (a b c : Relay) → IsSameRelay a b → IsSameRelay b c → IsSameRelay a c
 same_twice a b c first then = record {
   room = then.room ∙ first.room;
   sources = then.sources ∙ first.sources;
   targets = then.targets ∙ first.targets;
-  scratch = then.scratch ∙ first.scratch;
+  reach = then.reach ∙ first.reach;
   free = then.free ∙ first.free;
 }
 

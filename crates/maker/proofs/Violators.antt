@@ -13,7 +13,7 @@ use Rattle.cellset.specs.SortedList.{index}
 use Rattle.cellset.specs.declared.cell.Cell.{Cell}
 use Rattle.cellset.specs.declared.dir.Dir.{Dir}
 use Rattle.cellset.specs.declared.dir.Dir.TheVariants.{L, U, R, D}
-use Rattle.cellset.proofs.Members.{not_both, inserted, kept_by_insert, has_insert, has_empty}
+use Rattle.cellset.proofs.Members.{not_both, kept_by_insert, has_insert}
 use Rattle.cellset.proofs.Neighbors.{neighbor_back}
 use Rattle.cellset.proofs.Truth.{either}
 use Rattle.reach.specs.Reached.{Reached, at_seed, by_step, PushesTo}
@@ -64,15 +64,12 @@ module _ (level : Level) (formed : IsWellFormed level) where
       not_both zone (neighbor x d) (settled x d leak.inside leak.behind (formed.goes_on x d in_room leak.ahead)) leak.outside
 
   module _ (matching : List (Option Cell)) (start : Cell) where
-    pub searched_first : IsFloor level start → (s : Cells) → s ≡ set.insert set.empty start → AreSearched level matching start s
-    searched_first floor s is =
-        let is_start : (q : Cell) → Has s q → q ≡ start =
-        λ q h. either (has_insert set.empty start q (subst (λ (x : Cells). Has x q) is h)) (λ e. e) (λ none. has_empty q none) in
-        record {
-          floor = λ q h. subst (IsFloor level) (sym (is_start q h)) floor;
-          begins = subst (λ (x : Cells). Has x start) (sym is) (inserted set.empty start);
-          least = λ zone q confines h. subst (Has zone) (sym (is_start q h)) confines.begins;
-        }
+    pub searched_first : IsFloor level start → (s : Cells) → ((q : Cell) → Has s q ↔ (q ≡ start)) → AreSearched level matching start s
+    searched_first floor s is = record {
+      floor = λ q h. subst (IsFloor level) (sym ((is q).0 h)) floor;
+      begins = (is start).1 refl;
+      least = λ zone q confines h. subst (Has zone) (sym ((is q).0 h)) confines.begins;
+    }
 
     pub searched_spread : (s t : Cells) → AreSearched level matching start s → ((c : Cell) → Has t c ↔ Reached (PushesTo (Has level.room)) (Has s) c)
         → AreSearched level matching start t

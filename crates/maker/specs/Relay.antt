@@ -1,9 +1,10 @@
 -- A relay: a cell through which boxes can be pushed to goals. It is kept as the cells from which a box can be pushed to it and the cells to
 -- which a box can be pushed from it. No clause names the cell itself.
-use Rattle.std.specs.Prelude.{◌≡◌, Option, IfSome, List}
+use Rattle.std.specs.Prelude.{◌≡◌, ◌↔◌, Option, IfSome, List}
 use Rattle.cellset.specs.Cell.{IsOn}
-use Rattle.cellset.specs.CellSet.{Has}
+use Rattle.cellset.specs.CellSet.{Cells, Has}
 use Rattle.cellset.specs.declared.cell.Cell.{Cell}
+use Rattle.reach.specs.Reached.{Reached, PushesTo}
 use Rattle.board.specs.Game.{Level}
 use Rattle.maker.specs.Dead.{IsRoomOf}
 use Rattle.maker.specs.Matching.{InReach}
@@ -16,18 +17,24 @@ pub record IsRelay (level : Level) (relay : Relay) : Type 0 where
   pub room : IsRoomOf level relay.room.now
   pub sources_on : relay.sources.extent ≡ level.shape
   pub targets_on : relay.targets.extent ≡ level.shape
-  pub scratch_on : relay.scratch.extent ≡ level.shape
+  pub reach_on : relay.reach.extent ≡ level.shape
   pub linked : (b c : Cell) → Has relay.sources.members b → Has relay.targets.members c → InReach level b c
   pub free_on : IfSome relay.free (IsOn level.shape)
 
--- the relays are the same, except perhaps for the members of the scratch buffer
+-- the relays are the same, except perhaps for the reach of the last box
 pub record IsSameRelay (relay new : Relay) : Type 0 where
   pub room : new.room.now ≡ relay.room.now
   pub sources : new.sources ≡ relay.sources
   pub targets : new.targets ≡ relay.targets
-  pub scratch : new.scratch.extent ≡ relay.scratch.extent
+  pub reach : new.reach.extent ≡ relay.reach.extent
   pub free : new.free ≡ relay.free
 
 -- the goal of the relay, if it has one, is free and in the reach of each source
 abbrev pub HasFreeGoal : Level → List (Option Cell) → Relay → Type 0
 HasFreeGoal level matching relay = IfSome relay.free (λ g. IsFreeGoal level matching g × ((b : Cell) → Has relay.sources.members b → InReach level b g))
+
+-- the cells are those to which pushes bring a box from the cell `start`, if there are no other boxes
+pub record IsReachOf (level : Level) (start : Cell) (reach : Cells) : Type 0 where
+  pub seeds : Cells
+  pub only : (c : Cell) → Has seeds c ↔ (c ≡ start)
+  pub exact : (c : Cell) → Has reach c ↔ Reached (PushesTo (Has level.room)) (Has seeds) c

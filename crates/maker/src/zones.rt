@@ -12,15 +12,15 @@
 //! as matched boxes, and the set must hold the box of the search and exactly as many matched boxes as goals. The boxes matched to its
 //! goals are then all inside. No alternating path of the search leaves such a set, so the set holds every visited cell.
 //!
-//! Three measures keep the work small. A relay gives many boxes a goal at the price of two floods. A search stops after a budget of
-//! visits. Then a flood by rows of bits looks for a Hall violator, and only if it decides nothing does the search run again without a
-//! budget.
+//! Floods by rows of bits do most of the work. A relay gives many boxes a goal at the price of two floods. For any other box a flood
+//! finds all cells in its reach, and a free goal among them is an augmenting path. If there is none, more floods look for a Hall
+//! violator. The search cell by cell runs only if they decide nothing.
 ghost use Rattle.std.specs.Prelude.{◌≡◌, ℕ, None, IfOk, IfSome, MatchBool, MatchOption, vec_capacity, slice_index_or};
 ghost use Rattle.cellset.specs.CellSet.{Cells, Has};
 ghost use Rattle.maker.specs.Zones.{SomeZoneRefutes, IsLeastZone};
 ghost use Rattle.maker.specs.Matching.{IsHallViolator};
 ghost use Rattle.maker.specs.Search.{Pairs, HasEntries, IsReady, EndsPath, IsMatchingOf, MatchesOneMore};
-ghost use Rattle.maker.specs.Relay.{IsRelay, IsSameRelay, HasFreeGoal};
+ghost use Rattle.maker.specs.Relay.{IsRelay, IsSameRelay, HasFreeGoal, IsReachOf};
 
 use board::Board;
 use cellset::{Cell, CellSet, MembersOf};
@@ -108,21 +108,19 @@ fn match_box<S: CellSet>(
         (IsHallViolator board.now (Pairs board.now.shape matching.old) start (S.members search.new.visited)) }
 {
     let shape = board.shape();
-    relay.renew(board, matching, start);
-    if let Some(goal) = relay.goal_for(start) {
+    if let Some(goal) = relay.goal_in_reach(board, matching, start) {
         matching[shape.index_of(goal)] = Some(start);
-        relay.pass_goal(board);
         return true;
     }
     let Some(found) = find_path(board, matching, relay, search, start) else {
         return false;
     };
     flip(board, matching, &search.queue, found, start);
-    relay.spend(search.queue.len());
     true
 }
 
-// Returns the last visit of an augmenting path from a box, at a free goal, or None if no augmenting path begins at the box.
+// Returns the last visit of an augmenting path from a box, at a free goal, or None if no augmenting path begins at the box. The relay has
+// the reach of the box.
 fn find_path<S: CellSet>(
     board: &Board<S>,
     matching: &[Option<Cell>],
@@ -136,20 +134,16 @@ fn find_path<S: CellSet>(
     requires start { Has board.now.boxes start }
     requires relay { IsRelay board.now relay.old }
     requires free { HasFreeGoal board.now matching.now relay.old }
+    requires reach { IsReachOf board.now start relay.old.reach.members }
     ensures same { IsSameRelay relay.old relay.new }
     ensures ready { IsReady board.now.shape (S.extent search.new.visited) (vec_capacity search.new.queue) }
     ensures exact { MatchOption result
         (IsHallViolator board.now (Pairs board.now.shape matching.now) start (S.members search.new.visited))
         (EndsPath board.now matching.now start (S.members search.new.visited) search.new.queue.items) }
 {
-    let cells = matching.len();
-    search.begin(board, start);
-    if let Some(found) = search.find_free_goal(board, matching, relay, cells / 256) {
-        return Some(found);
-    }
     if finds_violator(board, matching, relay, &mut search.visited, start) {
         return None;
     }
     search.begin(board, start);
-    search.find_free_goal(board, matching, relay, cells)
+    search.find_free_goal(board, matching, relay)
 }

@@ -3,7 +3,7 @@
 //! A flood by pulls finds the cells from which a box can be pushed to the relay. A flood by pushes finds the cells to which a box can
 //! be pushed from there. So a box on one of the former cells has an augmenting path to any free goal on one of the latter, and needs
 //! no search.
-ghost use Rattle.std.specs.Prelude.{◌≡◌, ◌↔◌, Some, None, true, IfOk, IfSome, slice_index_or};
+ghost use Rattle.std.specs.Prelude.{◌≡◌, ◌↔◌, Some, None, true, IfOk, IfSome, MatchOption, slice_index_or};
 ghost use Rattle.cellset.specs.SortedList.{index};
 ghost use Rattle.std.specs.FinSet as set;
 ghost use Rattle.cellset.specs.Cell.{IsOn};
@@ -12,7 +12,8 @@ ghost use Rattle.cellset.specs.declared.cell.Cell.{Cell as GridCell};
 ghost use Rattle.reach.specs.Reached.{Reached, PushesTo};
 ghost use Rattle.board.specs.Game.{IsFloor};
 ghost use Rattle.maker.specs.Search.{HasEntries, IsFreeGoal};
-ghost use Rattle.maker.specs.Relay.{IsRelay, IsSameRelay, HasFreeGoal};
+ghost use Rattle.maker.specs.Matching.{InReach};
+ghost use Rattle.maker.specs.Relay.{IsRelay, IsSameRelay, HasFreeGoal, IsReachOf};
 
 use board::Board;
 use cellset::{Cell, CellSet, Shape};
@@ -21,17 +22,15 @@ use reach::step::{ByPull, ByPush, Step};
 use std::alloc::{AllocError, Global};
 
 /// A relay: the cells from which a box can be pushed to it (`sources`), the cells to which a box can be pushed from it (`targets`), and a
-/// free goal among the targets.
+/// free goal among the targets. It moves to the next box when no target is a free goal.
 #[derive(Drop)]
 pub struct Relay<'r> {
     room: &'r Rows,
     sources: Rows,
     targets: Rows,
-    // A scratch buffer for `spread`.
-    scratch: Rows,
     free: Option<Cell>,
-    // The number of visits that searches may make before the relay moves, which takes two floods.
-    budget: usize,
+    // The reach of the last box that was flooded, until `spread` uses it as a scratch buffer.
+    reach: Rows,
 }
 
 impl<'r> Relay<'r> {
@@ -51,37 +50,65 @@ impl<'r> Relay<'r> {
             room: board.rows(),
             sources,
             targets,
-            scratch,
             free: None,
-            budget: 0,
+            reach: scratch,
         })
     }
 
-    /// Moves the relay to the cell if the budget of visits is spent, and finds the next free goal among the targets.
-    pub fn renew<S: CellSet>(&mut self, board: &Board<S>, matching: &[Option<Cell>], cell: Cell)
+    /// Returns a free goal to which a box can be pushed from a cell, if there are no other boxes. If there is none, all cells to which the
+    /// box can be pushed are known to `store_reach`.
+    pub fn goal_in_reach<S: CellSet>(
+        &mut self,
+        board: &Board<S>,
+        matching: &[Option<Cell>],
+        cell: Cell,
+    ) -> Option<Cell>
+        requires relay { IsRelay board.now self.old }
+        requires entries { HasEntries board.now.shape matching.now }
+        requires floor { IsFloor board.now cell }
+        ensures relay { IsRelay board.now self.new }
+        ensures free { HasFreeGoal board.now matching.now self.new }
+        ensures exact { MatchOption result (IsReachOf board.now cell self.new.reach.members)
+            (λ goal. IsFreeGoal board.now matching.now goal × InReach board.now cell goal) }
+    {
+        self.renew(board, matching, cell);
+        if let Some(goal) = self.goal_for(cell) {
+            return Some(goal);
+        }
+        flood::<ByPush>(&mut self.reach, self.room, cell);
+        next_free(board, matching, &self.reach, board.shape().cell(1, 1))
+    }
+
+    // Finds the next free goal among the targets. If there is none, moves the relay to the cell.
+    fn renew<S: CellSet>(&mut self, board: &Board<S>, matching: &[Option<Cell>], cell: Cell)
         requires relay { IsRelay board.now self.old }
         requires entries { HasEntries board.now.shape matching.now }
         requires floor { IsFloor board.now cell }
         ensures relay { IsRelay board.now self.new }
         ensures free { HasFreeGoal board.now matching.now self.new }
     {
-        if self.budget == 0 {
-            self.move_to(board, cell);
-        }
         self.free = next_free(board, matching, &self.targets, self.free);
+        if self.free.is_none() {
+            self.move_to(board, matching, cell);
+        }
     }
 
-    // Moves the relay to a cell and renews the budget of visits.
-    fn move_to<S: CellSet>(&mut self, board: &Board<S>, cell: Cell)
+    // Moves the relay to a cell, and finds the first free goal among the targets.
+    fn move_to<S: CellSet>(&mut self, board: &Board<S>, matching: &[Option<Cell>], cell: Cell)
         requires relay { IsRelay board.now self.old }
+        requires entries { HasEntries board.now.shape matching.now }
         requires floor { IsFloor board.now cell }
-        ensures { IsRelay board.now self.new }
+        ensures relay { IsRelay board.now self.new }
+        ensures free { HasFreeGoal board.now matching.now self.new }
     {
-        let shape = board.shape();
-        flood::<ByPull>(&mut self.sources, self.room, cell);
         flood::<ByPush>(&mut self.targets, self.room, cell);
-        self.free = shape.cell(1, 1);
-        self.budget = shape.width() as usize * shape.height() as usize / 64;
+        self.free = next_free(board, matching, &self.targets, board.shape().cell(1, 1));
+        if self.free.is_some() {
+            flood::<ByPull>(&mut self.sources, self.room, cell);
+        } else {
+            // The relay leads to no goal.
+            self.sources.clear();
+        }
     }
 
     /// Returns the free goal, if there is one and a box can be pushed from the cell to the relay.
@@ -96,36 +123,28 @@ impl<'r> Relay<'r> {
         }
     }
 
-    /// Subtracts the visits of a search from the budget.
-    pub fn spend(&mut self, visits: usize)
-        ensures { IsSameRelay self.old self.new }
+    /// Replaces the members of a set by the reach of the last box for which `goal_in_reach` found no goal.
+    pub fn store_reach<S: CellSet>(&self, cells: &mut S)
+        requires { self.now.reach.extent ≡ S.extent cells.old }
+        ensures extent { S.extent cells.new ≡ S.extent cells.old }
+        ensures members { (c : GridCell) → Has (S.members cells.new) c ↔ Has self.now.reach.members c }
     {
-        self.budget = self.budget.saturating_sub(visits);
-    }
-
-    /// Passes the free goal, which is matched now. That counts as one visit.
-    pub fn pass_goal<S: CellSet>(&mut self, board: &Board<S>)
-        requires { IsRelay board.now self.old }
-        ensures { IsRelay board.now self.new }
-    {
-        self.spend(1);
-        if let Some(goal) = self.free {
-            self.free = board.shape().next(goal);
-        }
+        cells.clear();
+        self.reach.store(cells);
     }
 
     /// Adds to a set every cell to which a box can be pushed from one of its cells, if there are no other boxes.
     pub fn spread<S: CellSet>(&mut self, cells: &mut S)
-        requires scratch { self.old.scratch.extent ≡ S.extent cells.old }
+        requires scratch { self.old.reach.extent ≡ S.extent cells.old }
         requires room { self.old.room.now.extent ≡ S.extent cells.old }
         ensures same { IsSameRelay self.old self.new }
         ensures extent { S.extent cells.new ≡ S.extent cells.old }
         ensures exact { (c : GridCell) → Has (S.members cells.new) c
             ↔ Reached (PushesTo (Has self.old.room.now.members)) (Has (S.members cells.old)) c }
     {
-        self.scratch.load(cells);
-        self.scratch.grow::<ByPush>(self.room);
-        self.scratch.store(cells);
+        self.reach.load(cells);
+        self.reach.grow::<ByPush>(self.room);
+        self.reach.store(cells);
     }
 }
 
@@ -134,7 +153,7 @@ fn flood<T: Step>(rows: &mut Rows, room: &Rows, cell: Cell)
     requires extent { rows.old.extent ≡ room.now.extent }
     requires on { IsOn rows.old.extent cell }
     ensures extent { rows.new.extent ≡ rows.old.extent }
-    ensures exact { (seeds : Cells) × ((c : GridCell) → Has seeds c → c ≡ cell)
+    ensures exact { (seeds : Cells) × ((c : GridCell) → Has seeds c ↔ (c ≡ cell))
         × ((c : GridCell) → Has rows.new.members c ↔ Reached (T.leads (set.contains room.now.members)) (Has seeds) c) }
 {
     rows.clear();

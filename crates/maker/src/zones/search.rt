@@ -49,14 +49,13 @@ impl<S: CellSet> Search<S> {
         });
     }
 
-    /// Runs the search until a visit reaches a free goal, and returns the last visit of the augmenting path. Expands at most `budget`
-    /// visits.
+    /// Runs the search until a visit reaches a free goal, and returns the last visit of the augmenting path. If there is none, the visited
+    /// cells are a Hall violator.
     pub(super) fn find_free_goal(
         &mut self,
         board: &Board<S>,
         matching: &[Option<Cell>],
         relay: &Relay<'_>,
-        budget: usize,
     ) -> Option<Visit>
         requires ready { IsReady board.now.shape (S.extent self.old.visited) (vec_capacity self.old.queue) }
         requires entries { HasEntries board.now.shape matching.now }
@@ -66,14 +65,13 @@ impl<S: CellSet> Search<S> {
         ensures ready { IsReady board.now.shape (S.extent self.new.visited) (vec_capacity self.new.queue) }
         ensures exact { (start : GridCell) → IsSearch board.now matching.now start (S.members self.old.visited) self.old.queue.items
             → MatchOption result
-            (board.now.shape.width * board.now.shape.height ≤ budget
-            → IsHallViolator board.now (Pairs board.now.shape matching.now) start (S.members self.new.visited))
+            (IsHallViolator board.now (Pairs board.now.shape matching.now) start (S.members self.new.visited))
             (EndsPath board.now matching.now start (S.members self.new.visited) self.new.queue.items) }
     {
         // For the proof: the board is well formed.
         let _shape = board.shape();
         let mut at = 0;
-        while at < self.queue.len().min(budget) {
+        while at < self.queue.len() {
             if let Some(found) = self.expand(board, matching, relay, at) {
                 return Some(found);
             }

@@ -7,17 +7,18 @@ ghost use Rattle.cellset.specs.declared.cell.Cell.{Cell as GridCell};
 ghost use Rattle.board.specs.Game.{IsFloor};
 ghost use Rattle.maker.specs.Matching.{IsHallViolator};
 ghost use Rattle.maker.specs.Search.{Pairs, HasEntries, IsMatchingOf, AreSearched};
-ghost use Rattle.maker.specs.Relay.{IsRelay, IsSameRelay};
+ghost use Rattle.maker.specs.Relay.{IsRelay, IsSameRelay, IsReachOf};
 
 use super::relay::Relay;
 use board::Board;
 use cellset::{Cell, CellSet, MembersOf};
 
-// The number of floods after which `finds_violator` gives up.
+// The number of floods after which `finds_violator` gives up. A chain of boxes, each of which can be pushed to the goal of the next one,
+// would need a flood for each box, and a search looks at each of its cells once.
 const ROUNDS: usize = 8;
 
-/// Returns true if it finds that no augmenting path begins at the box. Then `visited` is the Hall violator. False decides nothing: a
-/// path may begin at the box or not.
+/// Returns true if it finds that no augmenting path begins at the box, whose reach the relay has. Then `visited` is the Hall violator.
+/// False decides nothing: a path may begin at the box or not.
 pub fn finds_violator<S: CellSet>(
     board: &Board<S>,
     matching: &[Option<Cell>],
@@ -26,6 +27,7 @@ pub fn finds_violator<S: CellSet>(
     start: Cell,
 ) -> bool
     requires relay { IsRelay board.now relay.old }
+    requires reach { IsReachOf board.now start relay.old.reach.members }
     requires visited { S.extent visited.old ≡ board.now.shape }
     requires entries { HasEntries board.now.shape matching.now }
     requires valid { (matched : Cells) × IsMatchingOf board.now matched matching.now }
@@ -36,9 +38,7 @@ pub fn finds_violator<S: CellSet>(
 {
     // For the proof: the board is well formed.
     let _shape = board.shape();
-    visited.clear();
-    visited.insert(start);
-    relay.spread(visited);
+    relay.store_reach(visited);
     for _ in 0..ROUNDS {
         if !add_matched_boxes(board, matching, visited) {
             return !holds_free_goal(board, matching, visited);

@@ -3,31 +3,29 @@
 -- the cells hold the boxes matched to all of their goals. If besides none of their goals is free, they are a Hall violator.
 use Rattle.std.proofs.Common.{sym, ◌∙◌, ap, subst}
 use Rattle.std.specs.Prelude.{◌↔◌}
-use Rattle.std.specs.FinSet as set
 use Rattle.cellset.specs.CellSet.{Cells, CellsOn, Has}
 use Rattle.cellset.specs.declared.cell.Cell.{Cell}
 use Rattle.cellset.proofs.Truth.{not_true}
 use Rattle.reach.specs.Reached.{Reached, PushesTo}
 use Rattle.maker.proofs.Violators.{IsSettled, searched_first, searched_spread, searched_violator, reached_settled}
-use Rattle.maker.proofs.Relays.{same_twice}
+use Rattle.maker.proofs.Relays.{same_relay, same_twice}
 use Rattle.maker.proofs.zones.violator.finds_violator.Goals as goal
 
 pub loop-init : goal.loop-init
 loop-init g c =
-    let members = g.S.CellSet.members in
     let level = c.args.board.now in
     let formed = c.shape-shape.ensures.formed in
-    let from = members c.insert.new.self in
-    let to = members c.spread.new.cells in
-    let first = searched_first level formed c.args.matching.now c.args.start (formed.boxes c.args.start c.requires.start) from
-    (c.insert.ensures.members ∙ ap (λ (x : Cells). set.insert x c.args.start) c.clear.ensures.members) in
-    let exact : (q : Cell) → Has to q ↔ Reached (PushesTo (Has level.room)) (Has from) q =
-    subst (λ (x : Cells). (q : Cell) → Has to q ↔ Reached (PushesTo (Has x)) (Has from) q) c.requires.relay.room.1 c.spread.ensures.exact in
+    let seeds = c.requires.reach.seeds in
+    let reached = c.requires.reach.exact in
+    let first = searched_first level formed c.args.matching.now c.args.start (formed.boxes c.args.start c.requires.start) seeds c.requires.reach.only in
+    let to = g.S.CellSet.members c.store_reach.new.cells in
+    let exact : (q : Cell) → Has to q ↔ Reached (PushesTo (Has level.room)) (Has seeds) q =
+    λ q. ((λ h. (reached q).0 ((c.store_reach.ensures.members q).0 h)), (λ r. (c.store_reach.ensures.members q).1 ((reached q).1 r))) in
     record {
-      extent = c.spread.ensures.extent ∙ c.insert.ensures.extent ∙ c.clear.ensures.extent ∙ c.requires.visited;
-      same = c.spread.ensures.same;
-      searched = searched_spread level formed c.args.matching.now c.args.start from to first exact;
-      settled = reached_settled (Has level.room) from to exact;
+      extent = c.store_reach.ensures.extent ∙ c.requires.visited;
+      same = same_relay _;
+      searched = searched_spread level formed c.args.matching.now c.args.start seeds to first exact;
+      settled = reached_settled (Has level.room) seeds to exact;
     }
 
 pub add_matched_boxes-requires-clause-matching : goal.add_matched_boxes-requires-clause-matching
@@ -39,13 +37,13 @@ loop-preserved g c =
     let members = g.S.CellSet.members in
     let level = c.args.board.now in
     let from = members c.add_matched_boxes.new.visited in
-    let to = members c.spread-in-loop.new.cells in
+    let to = members c.spread.new.cells in
     let room = ap (λ (r : CellsOn). r.members) c.loop.invariant.same.room ∙ c.requires.relay.room.1 in
     let exact : (q : Cell) → Has to q ↔ Reached (PushesTo (Has level.room)) (Has from) q =
-    subst (λ (x : Cells). (q : Cell) → Has to q ↔ Reached (PushesTo (Has x)) (Has from) q) room c.spread-in-loop.ensures.exact in
+    subst (λ (x : Cells). (q : Cell) → Has to q ↔ Reached (PushesTo (Has x)) (Has from) q) room c.spread.ensures.exact in
     record {
-      extent = c.spread-in-loop.ensures.extent ∙ c.add_matched_boxes.ensures.extent;
-      same = same_twice _ _ _ c.loop.invariant.same c.spread-in-loop.ensures.same;
+      extent = c.spread.ensures.extent ∙ c.add_matched_boxes.ensures.extent;
+      same = same_twice _ _ _ c.loop.invariant.same c.spread.ensures.same;
       searched = searched_spread level c.shape-shape.ensures.formed c.args.matching.now c.args.start from to
           (c.add_matched_boxes.ensures.searched c.args.start c.loop.invariant.searched) exact;
       settled = reached_settled (Has level.room) from to exact;

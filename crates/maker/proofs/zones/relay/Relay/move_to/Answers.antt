@@ -1,31 +1,44 @@
-use Rattle.std.proofs.Common.{◌∙◌, subst}
-use Rattle.std.specs.Option.{SomeIff}
-use Rattle.cellset.specs.Shape.{Extent}
-use Rattle.cellset.specs.Cell.{IsOn, cell_at}
-use Rattle.cellset.specs.CellSet.{Cells, Has}
-use Rattle.cellset.proofs.ReadingOrder.{cell_on}
-use Rattle.reach.specs.Reached.{Reached, PullsTo, PushesTo}
-use Rattle.maker.proofs.Relays.{reach_through, pulled_reach, pushed_reach}
+-- If a target is a free goal, pushes lead from each source to the cell of the relay, and from there to each target. Otherwise the relay
+-- has no source.
+use Rattle.std.proofs.Common.{◌∙◌}
+use Rattle.cellset.specs.CellSet.{Has}
+use Rattle.cellset.specs.declared.cell.Cell.{Cell}
+use Rattle.cellset.proofs.Members.{has_empty}
+use Rattle.maker.specs.Matching.{InReach}
+use Rattle.maker.proofs.Relays.{free_linked, free_on_grid, pulled_reach, pushed_reach, reach_through}
 use Rattle.maker.proofs.zones.relay.Relay.move_to.Goals as goal
 
-pub returns : goal.returns
-returns g c =
+pub returns-then-is_some : goal.returns-then-is_some
+returns-then-is_some g c =
     let level = c.args.board.now in
-    let formed = c.shape-shape.ensures.formed in
-    let cell = c.args.cell in
-    let room = c.requires.relay.room.1 in
-    let corner = subst (λ (e : Extent). SomeIff c.cell-self.result (IsOn e (cell_at 1 1)) (cell_at 1 1)) c.shape-shape.ensures.value c.cell-self.ensures in
-    let (sources, from_sources, sources_exact) = c.flood.ensures.exact in
-    let (targets, from_targets, targets_exact) = c.flood-2.ensures.exact in
+    let formed = c.shape.ensures.formed in
+    let relay = c.requires.relay in
+    let (sources, from_sources, sources_exact) = c.flood-then-is_some.ensures.exact in
+    let (targets, from_targets, targets_exact) = c.flood.ensures.exact in
+    let linked : (b q : Cell) → Has c.flood-then-is_some.new.rows.members b → Has c.flood.new.rows.members q → InReach level b q =
+    λ b q to_relay from_relay. reach_through level b c.args.cell q
+    (pulled_reach level formed (Has sources) c.args.cell (λ x h. (from_sources x).0 h) b (rw relay.room.1 at (sources_exact b).0 to_relay))
+    (pushed_reach level formed (Has targets) c.args.cell (λ x h. (from_targets x).0 h) q (rw relay.room.1 at (targets_exact q).0 from_relay)) in
     record {
-      room = c.requires.relay.room;
-      sources_on = c.flood.ensures.extent ∙ c.requires.relay.sources_on;
-      targets_on = c.flood-2.ensures.extent ∙ c.requires.relay.targets_on;
-      scratch_on = c.requires.relay.scratch_on;
-      linked = λ b q to_relay from_relay. reach_through level b cell q
-          (pulled_reach level formed (Has sources) cell from_sources b
-          (subst (λ (s : Cells). Reached (PullsTo (Has s)) (Has sources) b) room ((sources_exact b).0 to_relay)))
-          (pushed_reach level formed (Has targets) cell from_targets q
-          (subst (λ (s : Cells). Reached (PushesTo (Has s)) (Has targets) q) room ((targets_exact q).0 from_relay)));
-      free_on = cell_on level.shape (cell_at 1 1) c.cell-self.result corner;
+      relay = record {
+        room = relay.room;
+        sources_on = c.flood-then-is_some.ensures.extent ∙ relay.sources_on;
+        targets_on = c.flood.ensures.extent ∙ relay.targets_on;
+        reach_on = relay.reach_on;
+        linked = linked;
+        free_on = free_on_grid _ _ _ _ c.next_free-self.ensures;
+      };
+      free = free_linked _ _ _ _ _ linked c.next_free-self.ensures;
+    }
+
+pub returns-else-is_some-clause-relay : goal.returns-else-is_some-clause-relay
+returns-else-is_some-clause-relay g c =
+    let relay = c.requires.relay in
+    record {
+      room = relay.room;
+      sources_on = c.clear.ensures.extent ∙ relay.sources_on;
+      targets_on = c.flood.ensures.extent ∙ relay.targets_on;
+      reach_on = relay.reach_on;
+      linked = λ b q h _. absurd (has_empty b (rw c.clear.ensures.members at h));
+      free_on = free_on_grid _ _ _ _ c.next_free-self.ensures;
     }

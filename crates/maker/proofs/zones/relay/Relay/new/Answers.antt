@@ -8,7 +8,7 @@ returns g c = record {
   room = (c.rows.ensures.extent, c.rows.ensures.members);
   sources_on = c.in_ok-sources.ensures.0 ∙ c.shape-shape.ensures.value;
   targets_on = c.in_ok-targets.ensures.0 ∙ c.shape-shape.ensures.value;
-  scratch_on = c.requires;
+  reach_on = c.requires;
   linked = λ b q h _. absurd (has_empty b (subst (λ (s : Cells). Has s b) c.in_ok-sources.ensures.1 h));
   free_on = tt;
 }

@@ -1,6 +1,6 @@
 -- The invariant says that the visits before `at` are expanded, and that the visited cells and the queue are the state of a search. `expand`
--- keeps both, or returns the end of an augmenting path. The queue has no more visits than the grid has cells, so the loop ends. If the
--- budget was at least the number of cells, every visit is expanded at the end, and the visited cells are a Hall violator.
+-- keeps both, or returns the end of an augmenting path. The queue has no more visits than the grid has cells, so the loop ends. Then every
+-- visit is expanded, and the visited cells are a Hall violator.
 use Rattle.std.proofs.Common.{arith}
 use Rattle.maker.proofs.Searches.{search_violator, expanded_more, queue_fits}
 use Rattle.maker.proofs.zones.search.Search.find_free_goal.Goals as goal
@@ -42,9 +42,8 @@ loop-at-preserved g c = record {
 }
 
 pub returns-clause-exact : goal.returns-clause-exact
-returns-clause-exact g c = λ start begun whole.
+returns-clause-exact g c = λ start begun.
     let (matched, valid) = c.requires.valid in
     let is_search = c.loop-at.invariant.search start begun in
-    let fit = queue_fits c.args.board.now c.args.matching.now start _ _ is_search in
     search_violator c.args.board.now c.args.matching.now start _ _ is_search (λ goal b pair. valid.pairs.goal goal b pair)
-    (λ i h. c.loop-at.invariant.expanded i (omega (arith, fit, whole, h)) h)
+    (λ i h. c.loop-at.invariant.expanded i (omega arith) h)

@@ -1,0 +1,7 @@
+use Rattle.maker.proofs.Relays.{reached_goal}
+use Rattle.maker.proofs.zones.relay.Relay.goal_in_reach.Goals as goal
+
+pub returns-clause-exact : goal.returns-clause-exact
+returns-clause-exact g c =
+    let (seeds, only, exact) = c.flood.ensures.exact in
+    reached_goal _ _ _ _ _ c.shape.ensures.formed (record { seeds = seeds; only = only; exact = rw c.renew.ensures.relay.room.1 at exact }) c.next_free.ensures
