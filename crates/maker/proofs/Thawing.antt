@@ -31,16 +31,6 @@ held_more level dead few many b d within held =
     (λ behind. inl (either behind (λ outside. inl outside) (λ box. inr (within _ box))))
     (λ ahead. inr (either ahead (λ wall. inl wall) (λ held. inr (either held (λ box. inl (within _ box)) (λ is_dead. inr is_dead)))))
 
--- If no box is held in every direction, there is no frozen set but the empty one.
-pub none_frozen : (level : Level) (dead : Cells) → ((b : Cell) → Has level.boxes b → (d : Dir) × (IsHeld level dead level.boxes b d → ⊥))
-    → IsLargestFrozen level dead set.empty
-none_frozen level dead loose c = (
-  (λ h. absurd (has_empty c h)),
-  (λ (some, frozen, has).
-      let (d, free) = loose c (frozen.boxes c has) in
-      absurd (free (held_more level dead some level.boxes c d frozen.boxes (frozen.held c d has)))),
-)
-
 -- ---- one box is taken from the worklist
 module _ (level : Level) (dead : Cells) (b : Cell) (frozen : Cells) (work : List Cell) where
   -- If the box has left the set before, nothing has to change.

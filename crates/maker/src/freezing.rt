@@ -1,6 +1,5 @@
 //! Frozen boxes: the largest set of boxes none of which can be pushed, except onto a dead square.
-ghost use Rattle.std.specs.Prelude.{◌≡◌, ◌↔◌, ◌+◌, ◌≤◌, ◌<◌, ◌⊎◌, length, true, false, vec_capacity, IfOk, MatchBool};
-ghost use Rattle.std.specs.FinSet as set;
+ghost use Rattle.std.specs.Prelude.{◌≡◌, ◌↔◌, ◌+◌, ◌≤◌, ◌<◌, ◌⊎◌, length, true, false, vec_capacity, IfOk};
 ghost use Rattle.std.specs.List.{Contains};
 ghost use Rattle.cellset.specs.Cell.{IsOn, neighbor};
 ghost use Rattle.cellset.specs.CellSet.{Has};
@@ -55,21 +54,6 @@ fn is_held<S: CellSet>(board: &Board<S>, dead: &Rows, frozen: &S, cell: Cell) ->
         }
     }
     true
-}
-
-/// Returns whether some box of the start is held in every direction. If none is, no box is frozen.
-pub fn is_some_held<S: CellSet>(board: &Board<S>, dead: &Rows) -> bool
-    ensures { MatchBool result
-        ((b : GridCell) × Has board.now.boxes b × ((d : GridDir) → IsHeld board.now dead.now.members board.now.boxes b d))
-        (IsLargestFrozen board.now dead.now.members set.empty) }
-{
-    let boxes = board.boxes();
-    for cell in MembersOf::new(boxes) {
-        if is_held(board, dead, boxes, cell) {
-            return true;
-        }
-    }
-    false
 }
 
 // Queues the neighbour in a direction if it is a box of the set.

@@ -12,7 +12,7 @@ ghost use Rattle.maker.specs.Frozen.{IsLargestFrozen};
 
 use crate::cells::{coords_in, coords_of};
 use crate::dead::dead_rows;
-use crate::freezing::{frozen_among, is_some_held};
+use crate::freezing::frozen_among;
 use crate::zones::least_zone;
 use answers::{Coord, Pattern, Seeds, Zone};
 use board::Board;
@@ -125,10 +125,6 @@ fn frozen_list<S: CellSet>(
 {
     // For the proof: the board is well formed.
     let _shape = board.shape();
-    // Most levels have no such box, and need no set of frozen boxes.
-    if !is_some_held(board, dead) {
-        return Ok(None);
-    }
     let held = frozen_among(alloc, board, dead)?;
     let list = list_off_goals(alloc, board, dead, &held);
     drop(held);
