@@ -19,6 +19,8 @@ complete -c sokotool -n "__fish_seen_subcommand_from check convert" -l best -x -
 complete -c sokotool -n "__fish_seen_subcommand_from convert" -l replace -d 'Replace files, and keep the old ones'
 complete -c sokotool -n "__fish_seen_subcommand_from convert" -l split -d 'Write several collections'
 complete -c sokotool -n "__fish_seen_subcommand_from export" -l to -x -a 'slc sok xsb rle' -d 'The form'
+complete -c sokotool -n "__fish_seen_subcommand_from check" -l solver -x -d 'A command for levels that are left'
+complete -c sokotool -n "__fish_seen_subcommand_from check" -l verbose -d 'Print what the solver prints'
 complete -c sokotool -n "__fish_seen_subcommand_from check" -l answers -r -F -d 'More answers'
 complete -c sokotool -n "__fish_seen_subcommand_from check find table" -l seconds -x -d 'Limit of time'
 complete -c sokotool -n "__fish_seen_subcommand_from check find" -l jobs -x -d 'How many at once'

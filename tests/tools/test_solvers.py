@@ -3,12 +3,16 @@ import os
 import signal
 import sys
 import time
+import unittest.mock
 from typing import List
 
 from sokotool import levels, solvers, texts
+from sokotool.search import refute
 from sokotool.search.budget import Budget
 from tests.tools.exports import ALPHA, BETA, GAMMA
-from tests.tools.helping import Case
+from tests.tools.helping import TOP, Case
+from tests.tools.test_check import LOST, Check
+from tests.tools.test_export import Generator
 
 LEVELS = levels.read(f"{ALPHA}\n\n{BETA}\n\n{GAMMA}\n".encode())
 RECORD = b"level 1\nsolution\nrRR\nend\n"
@@ -19,9 +23,9 @@ class Solvers(Case):
                words: str = "", total: float = 60) -> List[solvers.Result]:
         """Runs a script in Python on the first levels."""
         self.write("solver.py", "import os, signal, sys, time\n" + script)
-        limits = solvers.Limits(seconds, jobs, Budget(total))
         command = f"{sys.executable} solver.py {words}"
-        return list(solvers.Solvers(command, LEVELS[:count], limits).results())
+        limits = solvers.Limits(command, seconds, jobs, Budget(total))
+        return list(solvers.Solvers(LEVELS[:count], limits).results())
 
     def outcome(self, script: str, **how) -> str:
         """The outcome of a script on the first level."""
@@ -59,12 +63,15 @@ class Solvers(Case):
             self.assertIn(line, result.said)
 
     def test_no_command(self):
-        limits = solvers.Limits(1, 1, Budget(60))
-        for command in ("", "  ", "'a"):
-            self.assertRaises(texts.Stop, solvers.Solvers, command, LEVELS, limits)
-        (result,) = solvers.Solvers("./nothing", LEVELS[:1], limits).results()
+        for command in ("", "  ", "'a", "./nothing", "no-such-program {}"):
+            limits = solvers.Limits(command, 1, 1, Budget(60))
+            self.assertRaises(texts.Stop, solvers.Solvers, LEVELS, limits)
+        self.write("nothing", "\0")
+        os.chmod("nothing", 0o755)
+        limits = solvers.Limits("./nothing", 1, 1, Budget(60))
+        (result,) = solvers.Solvers(LEVELS[:1], limits).results()
         self.assertEqual(result.what, solvers.FAILED)
-        self.assertIn("No such file", result.said[0])
+        self.assertIn("cannot be run", result.said[0])
 
     def test_a_gigabyte(self):
         """Without end, or with the letters at the end; of letters alone, and in one line."""
@@ -139,17 +146,19 @@ print("rRR" if "$ ." in text else "rR")
         self.assertLess(time.monotonic() - began, 4)
 
     def test_interrupt(self):
-        """When the caller stops, all runs end, and no file is left."""
-        self.write("solver.py", "import os, time\nopen('pid-' + str(os.getpid()), 'w').close()\n"
-                   "time.sleep(99)\n")
-        limits = solvers.Limits(50, 3, Budget(60))
-        runs = solvers.Solvers(f"{sys.executable} solver.py", LEVELS, limits)
+        """When the caller stops, all runs end, and what was printed before counts."""
+        self.write("solver.py", "import os, time\nprint('rRR', flush=True)\n"
+                   "open('pid-' + str(os.getpid()), 'w').close()\ntime.sleep(99)\n")
+        limits = solvers.Limits(f"{sys.executable} solver.py", 50, 3, Budget(60))
+        runs = solvers.Solvers(LEVELS, limits)
 
         def watch():
             if len([it for it in os.listdir() if it.startswith("pid-")]) == 3:
                 raise KeyboardInterrupt
         self.assertRaises(KeyboardInterrupt, list, runs.results(watch))
         self.assertFalse(any(is_alive(int(it[4:])) for it in os.listdir() if it[:4] == "pid-"))
+        self.assertEqual([(it.what, it.record) for it in runs.rest],
+                         [(solvers.SOLVED, RECORD), (solvers.LATE, b""), (solvers.LATE, b"")])
 
 
 def is_alive(pid: int) -> bool:
@@ -159,3 +168,58 @@ def is_alive(pid: int) -> bool:
             return file.read().rpartition(")")[2].split()[0] not in "ZX"
     except OSError:
         return False
+
+
+class Checks(Check):
+    """The option --solver of check."""
+
+    def solve(self, script: str, *words: str):
+        """Runs check with a solver in Python, and with a search that finds nothing."""
+        self.write("solver.py", "import os, signal, sys, time\n" + script)
+        with unittest.mock.patch("sokotool.searches.outcome", lambda *_: refute.Outcome("late")):
+            return self.tool("check", "mine", "a.txt", "--solver", f"{sys.executable} solver.py",
+                             "--jobs", "2", *words)
+
+    def test_levels_that_are_left(self):
+        """Only levels without an answer are given to the solver, and its answers are audited."""
+        self.write("a.txt", f"{ALPHA}\nrRR\n\n{BETA}\n\n{GAMMA}\n\n{LOST}")
+        result = self.solve("text = sys.stdin.read()\nopen('seen', 'a').write(text + ';')\n"
+                            "print('it is', 'rR' if text.startswith('######\\n#@ $') else 'l')")
+        self.assertEqual(sorted(self.read("seen").decode().split(";")),
+                         ["", BETA + "\n", GAMMA + "\n"])
+        self.assertEqual(self.report()[:4], [
+            "level 1 solved moves 3 pushes 2 changes 1",
+            "level 2 solved moves 2 pushes 1 changes 1", "level 3 missing",
+            "level 4 unsolvable patterns 4"])
+        self.assertEqual(result.status, 1)
+        said = result.err.splitlines()
+        self.assertEqual({line.partition(" (")[0] for line in said[2:]},
+                         {"check: level 2: solved by the solver",
+                          "check: level 3: the solver found nothing"})
+        self.assertTrue(said[-1].endswith("(2 of 2 done, 1 solved)"))
+
+    def test_verbose(self):
+        self.write("a.txt", BETA)
+        result = self.solve("print('thinking\\nrr\\n\\x1b[2Jup')\nsys.exit(7)", "--verbose")
+        for line in ("thinking", "rr", " [2Jup", "ended with status 7"):
+            self.assertIn(f"check: level 1: | {line}\n", result.err)
+        self.assertEqual(self.report()[0], "level 1 solved moves 2 pushes 1 changes 1")
+        self.assertNotIn("thinking", self.solve("print('thinking')", "--seconds", "9").err)
+
+    def test_no_search_and_no_program(self):
+        self.write("a.txt", BETA)
+        result = self.solve("open('seen', 'w')", "--seconds", "0")
+        self.assertFalse(os.path.exists("seen"))
+        result = self.tool("check", "other", "a.txt", "--solver", "no-such-program {}")
+        self.assertEqual((result.status, result.out, result.err), (
+            2, b"", "check: --solver: there is no program no-such-program\n"))
+
+    def test_the_example(self):
+        """The solver of the examples solves fifty small levels."""
+        boards = [Generator(seed).level()[0] for seed in range(50)]
+        self.write("a.txt", "\n\n".join("\n".join(rows) for rows in boards) + "\n")
+        found = levels.read(self.read("a.txt"))
+        limits = solvers.Limits(f"{sys.executable} {TOP}/examples/solver.py", 60, 2, Budget(600))
+        results = list(solvers.Solvers(found, limits).results())
+        self.assertEqual(len(results), 50)
+        self.assertEqual({it.what for it in results}, {solvers.SOLVED})

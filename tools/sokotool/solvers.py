@@ -10,6 +10,7 @@ import os
 import re
 import selectors
 import shlex
+import shutil
 import signal
 import subprocess
 import tempfile
@@ -26,7 +27,7 @@ PLACE = "{}"
 # the bytes of a solver's output that are kept of its beginning, and of its end
 KEPT = 1 << 20
 # the bytes after which a solver is ended
-MOST_PRINTED = 1 << 28
+MOST_PRINTED = 250_000_000
 # the seconds from SIGTERM to SIGKILL
 GRACE = 1.0
 # how many texts of letters are replayed, and how many letters in all
@@ -53,8 +54,9 @@ class Result(NamedTuple):
 
 
 class Limits(NamedTuple):
-    """The seconds of a run, how many run at once, and the time of all."""
+    """The command of a solver, the seconds of a run, how many run at once, and the time of all."""
 
+    command: str
     seconds: float
     jobs: int
     budget: Budget
@@ -68,6 +70,8 @@ def words_of(command: str) -> List[str]:
         raise texts.Stop(f"--solver {texts.shown(command)}: {error}") from None
     if not words:
         raise texts.Stop("--solver: no command")
+    if shutil.which(words[0]) is None:
+        raise texts.Stop(f"--solver: there is no program {texts.shown(words[0])}")
     return words
 
 
@@ -252,11 +256,11 @@ def _texts(part: bytes) -> Iterator[str]:
 
 class Solvers:
     """The runs of a solver on some levels, up to some at once. Results come in the order in which
-    the runs end."""
+    the runs end. `rest` has those of runs that an interrupt ended."""
 
-    def __init__(self, command: str, levels: Sequence[Level], limits: Limits) -> None:
-        self.words, self.limits = words_of(command), limits
-        self.waiting = list(levels)
+    def __init__(self, levels: Sequence[Level], limits: Limits) -> None:
+        self.words, self.limits = words_of(limits.command), limits
+        self.waiting, self.rest = list(levels), []  # type: List[Level], List[Result]
         self._running: Dict[int, Run] = {}
         self._selector = selectors.DefaultSelector()
 
@@ -274,7 +278,8 @@ class Solvers:
                         yield self._ended(number, run)
         finally:
             for number, run in list(self._running.items()):
-                self._ended(number, run)
+                run.what = LATE
+                self.rest.append(self._ended(number, run))
             self._selector.close()
 
     def at_work(self) -> str:

@@ -13,12 +13,14 @@ wrong."""
 import argparse
 import os
 import tempfile
-from typing import Dict, Iterator, List, NamedTuple, Optional, Sequence, Tuple
+from typing import Any, Dict, Iterator, List, NamedTuple, Optional, Sequence, Tuple
 
-from .. import (answers, auditor, boards, changes, levels, output, report, summary, texts)
+from .. import (answers, auditor, boards, changes, levels, output, report, solvers, summary, texts)
 from ..collection import MOVES, PUSHES, Collection
 from ..picks import Picks, Source
 from ..progress import Progress
+from ..search.budget import Budget
+from ..solving import Solving
 from . import carry, convert, page
 from .find import SECONDS, Search, above_zero
 
@@ -43,6 +45,10 @@ def arguments(parser: argparse.ArgumentParser) -> None:
     parser.add_argument("--jobs", metavar="N", type=above_zero(int),
                         default=len(os.sched_getaffinity(0)),
                         help="search N levels at once (default one for each processor)")
+    parser.add_argument("--solver", metavar="COMMAND",
+                        help="run this command for each level that is left then: it gets the level "
+                             "on standard input, and in the file {}")
+    parser.add_argument("--verbose", action="store_true", help="print what the solver prints")
 
 
 class Former(NamedTuple):
@@ -111,6 +117,8 @@ class Audits:
 
 def run(options: argparse.Namespace) -> int:
     refuse_inputs(options)
+    if options.solver:
+        solvers.words_of(options.solver)
     program, shown = auditor.find(), Progress("check")
     former = former_of(options.name)
     text, exported, problems = converted(options, shown)
@@ -247,12 +255,25 @@ def answered(kept: Picks, audits: Audits, options: argparse.Namespace, shown: Pr
         left = unanswered(kept, read)
     if not left or not options.seconds > 0:
         return written, read
-    search = Search(shown, left, options.seconds, options.jobs)
+    if searched(kept, Search(shown, left, options.seconds, options.jobs)):
+        written, read = kept.audited(audits.audit)
+        left = unanswered(kept, read)
+    if not left or not options.solver:
+        return written, read
+    limits = solvers.Limits(options.solver, options.seconds, options.jobs,
+                            Budget(len(left) * options.seconds))
+    is_solved = searched(kept, Solving(shown, left, limits, options.verbose))
+    return kept.audited(audits.audit) if is_solved else (written, read)
+
+
+def searched(kept: Picks, search: Any) -> int:
+    """Adds the answers of a search or a solver, and returns how many levels got one."""
     for result in search.results():
         search.report(result)
         if result.record:
             kept.add(result.level.number, result.record)
-    return kept.audited(audits.audit) if search.answered() else (written, read)
+    answered: int = search.answered()
+    return answered
 
 
 def unanswered(kept: Picks, read: report.Report) -> List[levels.Level]:
