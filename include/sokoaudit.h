@@ -21,6 +21,8 @@
  *             needs for itself it takes by malloc and frees.
  *   Threads   Calls may come from several threads at once, each with its own buffer and outcome. The library has no variable
  *             that is written, so calls share no state.
+ *   System    Linux on x86-64 with glibc 2.34 or later, and a processor of x86-64-v2 (with POPCNT and SSE4.2). On an older processor the
+ *             loader ends the program with status 127, or dlopen fails.
  *   Bytes     A byte order mark at the start of a level text is skipped; an answers text has none. Lines end with LF or CR LF. A zero
  *             byte is a byte like any other that no level or answer has.
  *   Levels    Lines with a wall '#' and no other characters than '@' player, '+' player on a goal, '$' box, '*' box on a goal, '.' goal,

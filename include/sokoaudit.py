@@ -2,18 +2,16 @@
 
 sokoaudit.h explains each call, status and number. A text is bytes, or a string, which is passed as
 UTF-8. The library is the one next to this file, or else the one that the system finds. It needs
-Linux and a processor of x86-64-v2; on others the import fails, with ImportError.
+Linux and a processor of x86-64-v2; on others the import fails, with OSError.
 
 >>> found = judge("#####\\n#@$.#\\n#####", Kind.SOLUTION, "R")
 >>> found.status.name, found.moves, words(found)
 ('SOLVED', 1, 'solved moves 1 pushes 1 changes 1')
 """
-import contextlib
 import ctypes
 import enum
 import operator
 import os
-import platform
 import typing
 
 VERSION = "0.2.0"
@@ -67,30 +65,14 @@ class _Outcome(ctypes.Structure):
                 for name in ("bytes", *Counts._fields, "records", "fault", "line")]
 
 
-def _lacking(flags):
-    """What x86-64-v2 has and a processor with these flags of /proc/cpuinfo lacks."""
-    return sorted({"cx16", "lahf_lm", "pni", "popcnt", "sse4_1", "sse4_2", "ssse3"} - {*flags})
-
-
-def _look():
-    """Ends the import where the library would end the process."""
-    if platform.machine() != "x86_64":
-        raise ImportError(f"libsokoaudit.so is for x86-64, and this is {platform.machine()}")
-    with contextlib.suppress(OSError), open("/proc/cpuinfo", encoding="ascii") as file:
-        flags = next((line.split() for line in file if line.startswith("flags")), None)
-        if flags and _lacking(flags):
-            lacks = ", ".join(_lacking(flags))
-            raise ImportError(f"libsokoaudit.so is for x86-64-v2, and this processor lacks {lacks}")
-
-
-_look()
 _BESIDE = os.path.join(os.path.dirname(os.path.abspath(__file__)), "libsokoaudit.so")
 _LIBRARY = ctypes.CDLL(_BESIDE if os.path.exists(_BESIDE) else "libsokoaudit.so")
 _TEXT, _BUFFER = (ctypes.c_char_p, ctypes.c_size_t), (ctypes.c_void_p, ctypes.c_size_t)
 _OUTCOME = ctypes.POINTER(_Outcome)
 for _name, _types in {
         "judge": (*_TEXT, ctypes.c_uint32, *_TEXT, ctypes.POINTER(_Line)),
-        "lines": (*_TEXT, *_TEXT, *_BUFFER, _OUTCOME), "audit": (*_TEXT, *_TEXT, *_BUFFER, _OUTCOME),
+        "lines": (*_TEXT, *_TEXT, *_BUFFER, _OUTCOME),
+        "audit": (*_TEXT, *_TEXT, *_BUFFER, _OUTCOME),
         "make": (*_TEXT, *_BUFFER, _OUTCOME),
         "dead": (*_TEXT, ctypes.c_size_t, *_BUFFER, _OUTCOME),
         "fault_text": (_OUTCOME, *_BUFFER)}.items():

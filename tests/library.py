@@ -28,6 +28,7 @@ PRINTED = {
     "nm -D --defined-only out/lib/libsokoaudit.so | cut -d ' ' -f 3 | xargs":
         "sokoaudit_audit sokoaudit_dead sokoaudit_fault_text sokoaudit_judge sokoaudit_lines "
         "sokoaudit_make\n",
+    "readelf -n out/lib/libsokoaudit.so judging | grep -c 'x86 ISA needed:.* x86-64-v2'": "2\n",
     f"{CC} examples/through.c out/lib/libsokoaudit.a -o through": "",
     **{f"{CC} -std={std} -fsyntax-only examples/check.c examples/search.c": ""
        for std in ("c99", "c11", "c17")},
@@ -104,6 +105,9 @@ for command, printed in (*zip(heads, printed_by_heads), *PRINTED.items()):
     cases.prints(command, f"{printed}status 0\n", command)
 if cases.needs("pkg-config", "finding the library"):
     cases.prints("check.c with what pkg-config finds", f"{LINE}status 0\n", FOUND)
+if cases.needs("qemu-x86_64", "an old processor"):
+    old = "qemu-x86_64 -cpu core2duo ./judging 2>&1"
+    cases.prints(old, "./judging: CPU ISA level is lower than required\nstatus 127\n", old)
 if cases.needs("c++", "the examples as C++"):
     cases.prints("the examples as C++", "status 0\n",
                  "c++ -Wall -Wextra -pedantic -Werror -fsyntax-only -I out/lib "

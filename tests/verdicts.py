@@ -56,7 +56,7 @@ def verdicts(cases: Cases) -> None:
     module = library.module
     for name, *texts in AUDITS:
         given = [encode(text(it)) for it in texts]
-        due, found = (it.run("audit", *given) for it in (Reference(), library))
+        due, found = Reference().run("audit", *given), library.run("audit", *given)
         cases.same(f"{name}: verdicts", whole(due), whole(found))
     for words, wanted in JUDGED.items():
         try:
@@ -67,16 +67,16 @@ def verdicts(cases: Cases) -> None:
         cases.same(f"judge {shown}", str(wanted), str(found))
     none = "([], Counts(levels=0, solved=0, unsolvable=0, refused=0, missing=0))"
     cases.same("no level", none, str(module.lines("", "sokoban-answers 1")))
-    for name, given in (("header", (levels, b"")), ("levels too long", (b" " * 33554433, b""))):
+    for name, *wrong in (("header", levels, b""), ("levels too long", b" " * 33554433, b"")):
         try:
-            cases.holds(name, False, str(module.lines(*given)))
+            cases.holds(name, False, str(module.lines(*wrong)))
         except module.Fault as fault:
             cases.holds(name, name in str(fault), str(fault))
 
 
 def module_calls(cases: Cases) -> None:
-    """Cases of the Python module: answers that it makes and maps that it draws, arguments of wrong
-    types, and processors that the library isn't for."""
+    """Cases of the Python module: answers that it makes, maps that it draws, and arguments of wrong
+    types."""
     module, reference = Library("out/lib/libsokoaudit.so").module, Reference()
     levels = encode(text(WHOLE_LEVELS))
     made = reference.make(levels).output
@@ -89,9 +89,6 @@ def module_calls(cases: Cases) -> None:
             cases.holds(f"{call.__name__}{(*given,)}", False, str(call(*given)))
         except TypeError as error:
             cases.holds(f"{call.__name__}{(*given,)}", "not" in str(error), str(error))
-    for flags, lacks in (("fpu cx16 lahf_lm pni popcnt sse4_1 sse4_2 ssse3 avx", []),
-                         ("fpu cx16 lahf_lm pni ssse3", ["popcnt", "sse4_1", "sse4_2"])):
-        cases.same(f"what a processor lacks: {flags}", str(lacks), str(module._lacking(flags.split())))
 
 
 def constants(cases: Cases, program: str) -> None:

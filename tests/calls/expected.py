@@ -4,7 +4,8 @@ from typing import Dict, Iterable, Iterator, Mapping, Tuple
 
 from formats import Fault, read_answers, write_answers
 from rules import (DIRECTIONS, MOST_LEVELS, Board, Cell, Push, Zone, check, dead_cells, joined,
-                   largest_frozen, levels_in, neighbour, pushes_out, read_board, replay, start, step)
+                   largest_frozen, levels_in, neighbour, pushes_out, read_board, replay, start,
+                   step)
 
 from tests.drawing import drawn
 
