@@ -86,7 +86,7 @@ def compare(cases: Cases, program: str) -> None:
 
 program, *library = arguments("library PROGRAM [LIBRARY]")
 cases, _room = Cases("examples"), enter_folder()
-if not library and not cases.builds_soon("the library for C", "lib"):
+if not library and not cases.builds_soon("the library for C", "lib", 22800):
     cases.finish()
 os.mkdir("out")
 if library:

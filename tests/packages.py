@@ -91,7 +91,7 @@ def make(cases: Cases, kind: str, built: str, library: Sequence[str]) -> List[st
     this machine lacks something."""
     said = run([f"{TOP}/packaging/{kind}", built, kind, *library])
     if said.endswith("status 3\n"):
-        cases.say(f"skipped: {said.splitlines()[0]}")
+        cases.skip(f"packaging/{kind}", said.splitlines()[0])
     else:
         cases.holds(f"packaging/{kind}", said.endswith("status 0\n"), said)
     return sorted(glob.glob(f"{kind}/*"))
@@ -100,7 +100,7 @@ def make(cases: Cases, kind: str, built: str, library: Sequence[str]) -> List[st
 (built,) = arguments("packages BUILT")
 cases, folder = Cases("packages"), enter_folder()
 version, room = run([f"{built}/sokoaudit", "--version"]).split()[1], folder.name
-library = [f"{room}/lib"] if cases.builds_soon("the library for C", "lib") else []
+library = [f"{room}/lib"] if cases.builds_soon("the library for C", "lib", 3) else []
 os.environ.update(top=TOP, built=built, version=version, room=room, library="".join(library))
 os.environ.update(first="share/sokoaudit/samples/first", second=f"{room}/a/second/folder")
 cases.each("the sources", SOURCES)
@@ -121,7 +121,7 @@ for kind, (unpack, prefix, places, commands) in PACKAGES.items():
 if os.path.exists("deb"):
     lintian = "lintian --allow-root deb/*.deb 2>/dev/null | diff - /dev/null"
     cases.each("deb", {"lintian says nothing": lintian}, needs="lintian")
-if cases.builds_soon("a second build", "dist deb"):
+if cases.builds_soon("a second build", "dist deb", len(SECOND) + len(again)):
     cases.each("a second build", {**SECOND, **again})
 for typed, offered in COMPLETIONS.items():
     cases.prints(f"completion of {typed}", f"{offered}\nstatus 0\n", OFFERS, typed)

@@ -1,6 +1,6 @@
 """The runner of all tests. A case compares what a command prints with what is wanted, and shows a
 difference as a diff. What this machine can't do is skipped, with a line that names it. The last
-line of each part is 'N passed, M failed'."""
+line of each part is 'N passed, M failed', and then ', K skipped' if something was."""
 import difflib
 import multiprocessing
 import os
@@ -51,17 +51,24 @@ def run_apart(words: Sequence[str], **how: Any) -> Tuple[str, str]:
 
 
 class Cases:
-    """The cases of a part: how many passed and how many failed."""
+    """The cases of a part: how many passed, failed and were skipped."""
 
     def __init__(self, part: str):
-        self.part, self.passed, self.failed = part, 0, 0
+        self.part, self.passed, self.failed, self.skipped = part, 0, 0, 0
 
     def __str__(self) -> str:
-        return f"{self.passed} passed, {self.failed} failed"
+        skipped = f", {self.skipped} skipped" if self.skipped else ""
+        return f"{self.passed} passed, {self.failed} failed{skipped}"
 
-    def add(self, passed: int, failed: int) -> None:
+    def add(self, passed: int, failed: int, skipped: int = 0) -> None:
         """Adds cases that were counted elsewhere."""
         self.passed, self.failed = self.passed + passed, self.failed + failed
+        self.skipped += skipped
+
+    def skip(self, what: str, why: str, number: int = 1) -> None:
+        """Skips cases, by default one, and says why."""
+        self.skipped += number
+        self.say(f"skipped: {what}: {why}")
 
     def say(self, text: str) -> None:
         """Prints a line, with the part before it."""
@@ -107,17 +114,17 @@ class Cases:
         """The path of a command on this machine; if there is none, says what is skipped."""
         found = shutil.which(command)
         if not found:
-            self.say(f"skipped: {what}: there is no command {command}")
+            self.skip(what, f"there is no command {command}")
         return found
 
-    def builds_soon(self, what: str, target: str) -> bool:
+    def builds_soon(self, what: str, target: str, number: int) -> bool:
         """Whether a build is quick because rt has built the libraries, which then have stamps.
-        After 'rt ci' alone a build would prove every library again; then what needs it is skipped.
-        """
+        After 'rt ci' alone a build would prove every library again; then what needs it is skipped,
+        about this number of cases."""
         is_soon = os.path.exists(f"{TOP}/crates/report/out/rlib/stamp")
         if not is_soon:
-            self.say(f"skipped: {what}: 'rt ci' left no library to build over; "
-                     f"'make {target}' builds and tests it")
+            self.skip(what, f"'rt ci' left no library to build over; 'make {target}' builds and "
+                      "tests it", number)
         return is_soon
 
     def side_by_side(self, parts: Mapping[str, Sequence[Any]]) -> None:
@@ -130,17 +137,17 @@ class Cases:
                 self.add(*it.result())
 
     def finish(self) -> None:
-        """Prints how many cases passed and failed, and ends the process."""
+        """Prints how many cases passed, failed and were skipped, and ends the process."""
         print(self, flush=True)
         sys.exit(self.failed != 0)
 
 
-def _part(name: str, function: Callable[..., None], *words: Any) -> Tuple[int, int]:
+def _part(name: str, function: Callable[..., None], *words: Any) -> Tuple[int, int, int]:
     cases = Cases(name)
     with enter_folder():
         function(cases, *words)
     cases.say(str(cases))
-    return cases.passed, cases.failed
+    return cases.passed, cases.failed, cases.skipped
 
 
 def decode(data: bytes) -> str:

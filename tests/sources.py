@@ -46,7 +46,7 @@ def scripts() -> Dict[str, List[str]]:
     return found
 
 
-def imports(name: str, tree: ast.AST) -> Iterator[str]:
+def imports(cases: Cases, name: str, tree: ast.AST) -> Iterator[str]:
     """The errors of a file's imports."""
     package = re.sub("^tools/|/[^/]*$", "", name).replace("/", ".")
     for node in ast.walk(tree):
@@ -63,7 +63,7 @@ def imports(name: str, tree: ast.AST) -> Iterator[str]:
         except ImportError as error:
             yield f"line {getattr(node, 'lineno', 0)}: {error}"
         except OSError as error:  # include/sokoaudit.py needs the library for C
-            print(f"sources: skipped: what {name} imports: {error}")
+            cases.skip(f"what {name} imports", str(error))
 
 
 def compiles(cases: Cases, name: str) -> None:
@@ -73,7 +73,7 @@ def compiles(cases: Cases, name: str) -> None:
     except SyntaxError as error:
         cases.holds(name, False, str(error))
         return
-    missing = list(imports(name, tree))
+    missing = list(imports(cases, name, tree))
     cases.holds(name, not missing, *missing)
 
 
@@ -96,7 +96,7 @@ def install(cases: Cases) -> None:
     python = [it for it in (sys.executable, "/usr/bin/python3")
               if os.path.exists(it) and run([it, "-c", needed]).endswith("status 0\n")]
     if not python:
-        cases.say("skipped: pip install: there is no pip, setuptools and wheel")
+        cases.skip("pip install", "there is no pip, setuptools and wheel")
         return
     first = f"{TOP}/samples/first"
     with enter_folder():

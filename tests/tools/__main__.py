@@ -15,7 +15,7 @@ else:
 result = unittest.TextTestRunner(stream=sys.stdout, verbosity=0).run(tests)
 cases = Cases("tools")
 for test, why in result.skipped:
-    cases.say(f"skipped: {test}: {why}")
+    cases.skip(str(test), why)
 failed = len(result.failures) + len(result.errors)
 cases.add(result.testsRun - failed - len(result.skipped), failed)
 cases.finish()
