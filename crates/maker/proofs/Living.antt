@@ -30,7 +30,7 @@ module _ (level : Level) (formed : IsWellFormed level) where
       (subst (IsLive level) p.next (pulled_live b before))
 
   -- The floor beside the room is in it.
-  beside_room : (c : Cell) (d : Dir) → IsFloor level c → Has level.room (neighbor c (opposite d)) → Has level.room c
+  pub beside_room : (c : Cell) (d : Dir) → IsFloor level c → Has level.room (neighbor c (opposite d)) → Has level.room c
   beside_room c d floor behind =
       let on = floor.0 in
       let back = neighbor_forth c d on.top on.left in

@@ -14,7 +14,7 @@ use Rattle.cellset.specs.declared.cell.Cell.{Cell}
 use Rattle.cellset.specs.declared.dir.Dir.{Dir}
 use Rattle.cellset.specs.declared.dir.Dir.TheVariants.{L, U, R, D}
 use Rattle.std.proofs.lemmas.Bool.{false≢true}
-use Rattle.cellset.proofs.Members.{has_empty, has_or_lacks, not_both, same, same_itself, same_or_other, kept_by_remove, has_remove}
+use Rattle.cellset.proofs.Members.{has_or_lacks, not_both, same, same_itself, same_or_other, kept_by_remove, has_remove}
 use Rattle.closure.proofs.Counts.{len-remove_member}
 use Rattle.board.specs.Game.{Level}
 use Rattle.board.specs.Board.{IsWellFormed}

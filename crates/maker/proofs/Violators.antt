@@ -2,7 +2,7 @@
 -- Take cells that a search visits. Every set that confines the paths has them, the cells to which pushes lead from them, and the boxes
 -- matched to the goals among them. If no push leads out of these cells, the boxes matched to their goals are among them, and none of
 -- their goals is free, then they confine the paths themselves, and are the least such set.
-use Rattle.std.proofs.Common.{◌≡◌, ◌≤◌, Bool, true, false, List, refl, sym, ◌∙◌, subst}
+use Rattle.std.proofs.Common.{◌≡◌, Bool, true, false, List, refl, sym, ◌∙◌, subst}
 use Rattle.std.specs.Prelude.{◌↔◌, ◌||◌, Option, None, Some}
 use Rattle.std.proofs.lemmas.Bool.{true≢false}
 use Rattle.std.specs.FinSet as set
@@ -12,9 +12,7 @@ use Rattle.cellset.specs.CellSet.{Cells, Has}
 use Rattle.cellset.specs.SortedList.{index}
 use Rattle.cellset.specs.declared.cell.Cell.{Cell}
 use Rattle.cellset.specs.declared.dir.Dir.{Dir}
-use Rattle.cellset.specs.declared.dir.Dir.TheVariants.{L, U, R, D}
 use Rattle.cellset.proofs.Members.{not_both, kept_by_insert, has_insert}
-use Rattle.cellset.proofs.Neighbors.{neighbor_back}
 use Rattle.cellset.proofs.Truth.{either}
 use Rattle.reach.specs.Reached.{Reached, at_seed, by_step, PushesTo}
 use Rattle.board.specs.Game.{Level, IsFloor}
@@ -22,16 +20,10 @@ use Rattle.board.specs.Board.{IsWellFormed}
 use Rattle.closure.specs.Zone.{IsClosedZone}
 use Rattle.maker.specs.Matching.{InReach, IsHallViolator}
 use Rattle.maker.specs.Search.{Pairs, HasEntries, IsFreeGoal, AreSearched, MatchesOneMore}
+use Rattle.maker.proofs.Living.{beside_room}
 use Rattle.maker.proofs.Searches.{push_stays}
 use Rattle.maker.proofs.Flipped.{freed_start, all_matched}
 use Rattle.maker.proofs.Flipping.{one_match, table_matched}
-
--- a step back and a step in the direction lead to the same cell again
-back_here : (c : Cell) (d : Dir) → 1 ≤ c.row → 1 ≤ c.column → neighbor (neighbor c (opposite d)) d ≡ c
-back_here c L top left = neighbor_back c R top left
-back_here c U top left = neighbor_back c D top left
-back_here c R top left = neighbor_back c L top left
-back_here c D top left = neighbor_back c U top left
 
 -- no push within the room brings a box out of the set
 abbrev pub IsSettled : (Cell → Type 0) → (Cell → Type 0) → Type 0
@@ -58,9 +50,7 @@ module _ (level : Level) (formed : IsWellFormed level) where
   settled_closed : (zone : Cells) → ((q : Cell) → Has zone q → IsFloor level q) → IsSettled (Has level.room) (Has zone) → IsClosedZone level zone
   settled_closed zone floor settled x d leak =
       let here = floor x leak.inside in
-      let back = back_here x d here.0.top here.0.left in
-      let in_room : Has level.room x = subst (Has level.room) back
-      (formed.goes_on (neighbor x (opposite d)) d leak.behind (subst (IsFloor level) (sym back) here)) in
+      let in_room = beside_room level formed x d here leak.behind in
       not_both zone (neighbor x d) (settled x d leak.inside leak.behind (formed.goes_on x d in_room leak.ahead)) leak.outside
 
   module _ (matching : List (Option Cell)) (start : Cell) where
