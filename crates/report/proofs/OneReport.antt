@@ -233,13 +233,13 @@ pub said_in : {lt at text : List ℕ} {summary : Summary} (report : IsReport lt 
     (status : Status)
     → HasLine report before rows answer status → Says rows answer status
 said_in report before rows answer status (there, answered, line) =
-    held_in Says report.levels report.entries report.statuses before rows answer status report.say there answered line
+    held_in Says report.are.levels report.are.entries report.statuses before rows answer status report.are.say there answered line
 
 pub meant_in : {lt at text : List ℕ} {summary : Summary} (report : IsReport lt at text summary) (before : ℕ) (rows : List (List ℕ)) (answer : Option Body)
     (status : Status)
     → HasLine report before rows answer status → Means rows answer status
 meant_in report before rows answer status (there, answered, line) =
-    held_in Means report.levels report.entries report.statuses before rows answer status report.mean there answered line
+    held_in Means report.are.levels report.are.entries report.statuses before rows answer status report.are.mean there answered line
 
 -- ---- one report
 module _ (one : (rows : List (List ℕ)) (answer : Option Body) (a b : Status) → Says rows answer a → Says rows answer b → a ≡ b)
@@ -261,11 +261,11 @@ module _ (one : (rows : List (List ℕ)) (answer : Option Body) (a b : Status) �
   same_statuses : (lt at text other : List ℕ) (summary others : Summary) (r : IsReport lt at text summary) (q : IsReport lt at other others)
       → r.statuses ≡ q.statuses
   same_statuses lt at text other summary others r q =
-      let levels = one_list r.levels q.levels (lines_in (without_mark lt)) r.levels_are q.levels_are in
-      let spelled = subst (λ (ls : List (List (List ℕ))). SpellsEntries at (length ls) r.entries) levels r.answers_are in
-      let entries = one_reading at (length q.levels) r.entries q.entries spelled q.answers_are in
-      let say = subst (λ (ls : List (List (List ℕ))). AllSay ls r.entries r.statuses) levels r.say in
-      one_by_one 1 q.levels q.entries r.statuses q.statuses (subst (λ (es : List Entry). AllSay q.levels es r.statuses) entries say) q.say
+      let levels = one_list r.are.levels q.are.levels (lines_in (without_mark lt)) r.are.levels_are q.are.levels_are in
+      let spelled = subst (λ (ls : List (List (List ℕ))). SpellsEntries at (length ls) r.are.entries) levels r.are.answers_are in
+      let entries = one_reading at (length q.are.levels) r.are.entries q.are.entries spelled q.are.answers_are in
+      let say = subst (λ (ls : List (List (List ℕ))). AllSay ls r.are.entries r.statuses) levels r.are.say in
+      one_by_one 1 q.are.levels q.are.entries r.statuses q.statuses (subst (λ (es : List Entry). AllSay q.are.levels es r.statuses) entries say) q.are.say
 
   pub one_report : (lt at text other : List ℕ) (summary others : Summary) → IsReport lt at text summary → IsReport lt at other others
       → (text ≡ other) × (summary ≡ others)
@@ -276,13 +276,13 @@ module _ (one : (rows : List (List ℕ)) (answer : Option Body) (a b : Status) �
   -- two texts with a report have no error
   none_of_two : (lt at text : List ℕ) (summary : Summary) (error : AuditError) → IsReport lt at text summary → IsTextError lt at error → ⊥
   none_of_two lt at text summary error r =
-      no_text_error lt at r.levels r.entries (record { short = r.short.levels; levels_are = r.levels_are; few = r.few }) r.answers_are
-      (λ other are. one_list r.levels other (lines_in (without_mark lt)) r.levels_are are)
-      (λ fault spelled first. no_fault at (length r.levels) r.entries fault spelled first) error
+      no_text_error lt at r.are.levels r.are.entries (record { short = r.are.short.levels; levels_are = r.are.levels_are; few = r.are.few }) r.are.answers_are
+      (λ other are. one_list r.are.levels other (lines_in (without_mark lt)) r.are.levels_are are)
+      (λ fault spelled first. no_fault at (length r.are.levels) r.are.entries fault spelled first) error
 
   pub no_error : (lt at text : List ℕ) (summary : Summary) (error : AuditError) → IsReport lt at text summary → IsFirstError lt at error → ⊥
-  no_error lt at text summary (TooLong which.Levels) r long = let fits = r.short.levels in omega (arith, fits, long)
-  no_error lt at text summary (TooLong which.Answers) r (_, long) = let fits = r.short.answers in omega (arith, fits, long)
+  no_error lt at text summary (TooLong which.Levels) r long = let fits = r.are.short.levels in omega (arith, fits, long)
+  no_error lt at text summary (TooLong which.Answers) r (_, long) = let fits = r.are.short.answers in omega (arith, fits, long)
   no_error lt at text summary (Read w) r error = error.1
   no_error lt at text summary Write r error = error.1
   no_error lt at text summary TooManyLevels r (_, error) = none_of_two lt at text summary TooManyLevels r error

@@ -21,17 +21,4 @@ each_long Holds n (rows ∷ levels) entries (s ∷ statuses) (_, rest) = ap (λ 
 pub report_by : (lt at : List ℕ) (statuses : List Status) (text : List ℕ) (summary : Summary) → AreStatuses lt at statuses
     → text ≡ report_text statuses → summary ≡ summary_of statuses → IsReport lt at text summary
 report_by lt at statuses text summary are words numbers =
-    record {
-      levels = are.levels;
-      entries = are.entries;
-      statuses = statuses;
-      short = are.short;
-      levels_are = are.levels_are;
-      few = are.few;
-      answers_are = are.answers_are;
-      say = are.say;
-      mean = are.mean;
-      text_is = words;
-      lines = true_lines are.levels are.entries statuses are.mean text words;
-      summary_is = numbers;
-    }
+    record { statuses = statuses; are = are; text_is = words; lines = true_lines are.levels are.entries statuses are.mean text words; summary_is = numbers }

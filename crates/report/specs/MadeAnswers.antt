@@ -80,4 +80,4 @@ MadeHasNoError = (levels_text text : List ℕ) (count : ℕ) (error : AuditError
 -- in the report on a collection with its made answers each level with an answer is unsolvable by it, and no other level is
 abbrev pub MadeIsAccepted : Type 0
 MadeIsAccepted = (levels_text text report : List ℕ) (count : ℕ) (summary : Summary) → AreMadeAnswers levels_text text count
-    → (r : IsReport levels_text text report summary) → AreAccepted 1 r.entries r.statuses × (summary.unsolvable ≡ count)
+    → (r : IsReport levels_text text report summary) → AreAccepted 1 r.are.entries r.statuses × (summary.unsolvable ≡ count)

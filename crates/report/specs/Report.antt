@@ -54,21 +54,14 @@ pub record AreStatuses (levels_text answers_text : List ℕ) (statuses : List St
 
 -- two texts have this report, with these numbers in its last line
 pub record IsReport (levels_text answers_text text : List ℕ) (summary : Summary) : Type 0 where
-  pub levels : List (List (List ℕ))
-  pub entries : List Entry
   pub statuses : List Status
-  pub short : AreShort levels_text answers_text
-  pub levels_are : AreLevelsOf levels (lines_in (without_mark levels_text))
-  pub few : length levels ≤ most_levels
-  pub answers_are : SpellsEntries answers_text (length levels) entries
-  pub say : AllSay levels entries statuses
-  pub mean : AllMean levels entries statuses
+  pub are : AreStatuses levels_text answers_text statuses
   pub text_is : text ≡ report_text statuses
-  pub lines : AreTrue levels entries text
+  pub lines : AreTrue are.levels are.entries text
   pub summary_is : summary ≡ summary_of statuses
 
 -- the report has these rows, this answer and this status for level number before + 1
 abbrev pub HasLine : {levels_text answers_text text : List ℕ} {summary : Summary} → IsReport levels_text answers_text text summary → ℕ → List (List ℕ)
     → Option Body → Status → Type 0
 HasLine report before rows answer status =
-    (slice_get report.levels before ≡ Some rows) × (answer_to (before + 1) report.entries ≡ answer) × (slice_get report.statuses before ≡ Some status)
+    (slice_get report.are.levels before ≡ Some rows) × (answer_to (before + 1) report.are.entries ≡ answer) × (slice_get report.statuses before ≡ Some status)

@@ -1,12 +1,27 @@
-//! The levels of a text in memory.
-ghost use Rattle.std.specs.Prelude.{◌≡◌, ◌≤◌, ◌⊎◌, length, IfOk, IfErr};
+//! The texts of a call: what is said of one that can't be read whole, and the levels of one.
+ghost use Rattle.std.specs.Prelude.{◌≡◌, ◌≢◌, ◌≤◌, ◌⊎◌, length, IfOk, IfErr};
 ghost use Rattle.board.specs.Levels.{AreLevelsOf, most_levels};
 ghost use Rattle.board.specs.Lines.{lines_in, without_mark};
 ghost use Rattle.report.specs.Collection.{HasTooManyLevels};
 
-use crate::fault::AuditError;
+use crate::fault::{AuditError, Which};
 use board::{LevelText, LevelsFault, levels};
+use devices::ReadFault;
 use std::alloc::Global;
+
+/// Returns the error of a call that can't read that text whole.
+pub fn read_error(fault: ReadFault, which: Which) -> AuditError
+    ensures device { fault ≡ ReadFault.Device → result ≡ AuditError.Read which }
+    ensures long { fault ≡ ReadFault.TooLong → result ≡ AuditError.TooLong which }
+    ensures memory { fault ≡ ReadFault.Memory → result ≡ AuditError.Memory }
+    ensures no_write { result ≢ AuditError.Write }
+{
+    match fault {
+        ReadFault::Device => AuditError::Read { which },
+        ReadFault::TooLong => AuditError::TooLong { which },
+        ReadFault::Memory => AuditError::Memory,
+    }
+}
 
 /// Returns the levels of a text, in order.
 pub fn levels_in(alloc: Global, text: &[u8]) -> Result<Vec<LevelText<'_>>, AuditError>

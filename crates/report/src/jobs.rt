@@ -7,9 +7,9 @@ ghost use Rattle.devices.specs.Reading.{most_bytes, TakesAtMost};
 ghost use Rattle.report.specs.Audit.{IsReportText, IsDue, CountsAudit};
 
 use crate::fault::{AuditError, Which};
+use crate::input::read_error;
 use crate::summary::Summary;
 use crate::texts::audit_texts;
-use crate::whole::read_error;
 use devices::{Sink, Source, read_whole, write_whole};
 use std::alloc::Global;
 

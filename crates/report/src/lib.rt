@@ -9,8 +9,8 @@
 //! `specs/MadeAnswers.antt` has made answers, and `specs/DeadMap.antt` the map.
 #![tactic(auto)]
 
-mod collection;
 mod fault;
+mod input;
 mod jobs;
 mod judging;
 mod laws;
@@ -21,7 +21,6 @@ mod report;
 mod status;
 mod summary;
 mod texts;
-mod whole;
 
 pub use fault::{AuditError, DeadError, Which, Why};
 pub use jobs::audit;

@@ -12,9 +12,8 @@ ghost use Rattle.report.specs.Making.{AreDraftsOf, IsDraftFor, IsDraftOf, IsFoun
 ghost use Rattle.devices.specs.Reading.{most_bytes, TakesAtMost};
 ghost use Rattle.devices.specs.Writing.{Writes};
 
-use crate::collection::levels_in;
 use crate::fault::{AuditError, Which};
-use crate::whole::read_error;
+use crate::input::{levels_in, read_error};
 use answers::{Coord, MadeBody, MadeRecord, write_header, write_lone_record, write_record};
 use board::{Board, BoardFault, LevelText, read_next_board};
 use cellset::{BitSet, CellSet};

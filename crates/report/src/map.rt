@@ -7,9 +7,8 @@ ghost use Rattle.cellset.specs.Cell.{IsOn};
 ghost use Rattle.devices.specs.Reading.{most_bytes, TakesAtMost};
 ghost use Rattle.report.specs.DeadMap.{IsMap, IsMapOf, IsDueMap, CountsMap, IsOfNoDevice, character_of, row_text, rows_text, level_at as level_in};
 
-use crate::collection::levels_in;
 use crate::fault::{AuditError, DeadError, Which};
-use crate::whole::read_error;
+use crate::input::{levels_in, read_error};
 use board::{Board, BoardFault, LevelText, read_board};
 use cellset::{BitSet, Cell, CellSet};
 use devices::{Sink, Source, read_whole, write_whole};

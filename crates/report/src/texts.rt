@@ -5,8 +5,8 @@ ghost use Rattle.report.specs.Report.{AreStatuses, IsReport};
 ghost use Rattle.report.specs.Summary.{summary_of};
 ghost use Rattle.report.specs.Audit.{IsFirstError, answers_fault_of};
 
-use crate::collection::levels_in;
 use crate::fault::{AuditError, Which, Why};
+use crate::input::levels_in;
 use crate::laws::texts_have_one_report;
 use crate::report::{judge_levels, report_of};
 use crate::status::Status;

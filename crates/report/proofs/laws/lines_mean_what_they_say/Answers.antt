@@ -11,11 +11,11 @@ returns-clause-status c = λ lt at text summary report before rows answer status
 pub returns-clause-unsolvable : goal.returns-clause-unsolvable
 returns-clause-unsolvable c = λ lt at text summary report levels are.
     subst (λ (ls : List (List (List ℕ))). AreUnsolvable ls text)
-    (c.lines_have_one_list_of_levels.ensures report.levels levels _ report.levels_are are) report.lines.unsolvable
+    (c.lines_have_one_list_of_levels.ensures report.are.levels levels _ report.are.levels_are are) report.lines.unsolvable
 
 pub returns-clause-lines : goal.returns-clause-lines
 returns-clause-lines c = λ lt at text summary report levels entries are spells.
-    let same : report.levels ≡ levels = c.lines_have_one_list_of_levels.ensures report.levels levels _ report.levels_are are in
-    let spelled = subst (λ (ls : List (List (List ℕ))). SpellsEntries at (length ls) report.entries) same report.answers_are in
-    let read : report.entries ≡ entries = c.texts_have_one_reading.ensures.same at (length levels) report.entries entries spelled spells in
-    subst (λ (es : List Entry). AreTrue levels es text) read (subst (λ (ls : List (List (List ℕ))). AreTrue ls report.entries text) same report.lines)
+    let same : report.are.levels ≡ levels = c.lines_have_one_list_of_levels.ensures report.are.levels levels _ report.are.levels_are are in
+    let spelled = subst (λ (ls : List (List (List ℕ))). SpellsEntries at (length ls) report.are.entries) same report.are.answers_are in
+    let read : report.are.entries ≡ entries = c.texts_have_one_reading.ensures.same at (length levels) report.are.entries entries spelled spells in
+    subst (λ (es : List Entry). AreTrue levels es text) read (subst (λ (ls : List (List (List ℕ))). AreTrue ls report.are.entries text) same report.lines)

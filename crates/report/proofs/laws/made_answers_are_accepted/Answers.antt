@@ -15,13 +15,13 @@ returns-clause-no_error c = λ levels_text text count error made is.
 
 pub returns-clause-accepted : goal.returns-clause-accepted
 returns-clause-accepted c = λ levels_text text report count summary made r.
-    let levels : made.levels ≡ r.levels = c.lines_have_one_list_of_levels.ensures made.levels r.levels _ made.collection.levels_are r.levels_are in
+    let levels : made.levels ≡ r.are.levels = c.lines_have_one_list_of_levels.ensures made.levels r.are.levels _ made.collection.levels_are r.are.levels_are in
     let lawful = lawful_records 1 0 (length made.levels) made.levels made.records made.made (omega arith) (omega arith) in
-    let spelled = subst (λ (t : List ℕ). SpellsEntries t (length made.levels) r.entries) made.text_is
-    (subst (λ (ls : List (List (List ℕ))). SpellsEntries text (length ls) r.entries) (sym levels) r.answers_are) in
-    let same = c.written_is_read.ensures.same made.records (length made.levels) lawful r.entries spelled in
+    let spelled = subst (λ (t : List ℕ). SpellsEntries t (length made.levels) r.are.entries) made.text_is
+    (subst (λ (ls : List (List (List ℕ))). SpellsEntries text (length ls) r.are.entries) (sym levels) r.are.answers_are) in
+    let same = c.written_is_read.ensures.same made.records (length made.levels) lawful r.are.entries spelled in
     let both = accepted c.rows_have_one_board.ensures.same c.rows_have_one_board.ensures.refused c.closed_lists_have_no_fault.ensures
     c.refuting_zones_have_no_fault.ensures
-    1 made.levels made.records r.entries r.entries r.statuses made.made same (λ m above. refl)
-    (subst (λ (ls : List (List (List ℕ))). AllSay ls r.entries r.statuses) (sym levels) r.say) in
+    1 made.levels made.records r.are.entries r.are.entries r.statuses made.made same (λ m above. refl)
+    (subst (λ (ls : List (List (List ℕ))). AllSay ls r.are.entries r.statuses) (sym levels) r.are.say) in
     (both.0, ap (λ s. s.unsolvable) r.summary_is ∙ both.1 ∙ sym made.count_is)
