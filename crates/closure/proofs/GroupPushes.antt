@@ -2,18 +2,21 @@
 -- region doesn't lie on that side, or the cell ahead isn't free, no push out of the group moves the box that way. After a push the player
 -- is on the side of the box from which it came. So a group that has this box covers the result if its boxes are all there after the push
 -- and its region lies on that side. A push out of a pattern is a push out of its group.
-use Rattle.std.proofs.Common.{◌≡◌, ℕ, ◌<◌, ◌≤◌, List, length, refl, sym, ◌∙◌, ap, subst, arith}
-use Rattle.std.specs.Prelude.{Option, None, Some, MatchOption, slice_index}
+use Rattle.std.proofs.Common.{◌≡◌, ◌≢◌, Bool, false, ℕ, ◌<◌, ◌≤◌, List, length, get_or, set, refl, sym, ◌∙◌, ap, subst, inl, inr, arith}
+use Rattle.std.specs.Prelude.{Option, None, Some, IsTrue, MatchOption, slice_index}
+use Rattle.std.specs.List.{Contains}
+use Rattle.std.proofs.lemmas.Bool.{cases_lt}
+use Rattle.std.proofs.lemmas.List.{get_or-set_other, get_or-set_same, length-set}
 use Rattle.std.specs.FinSet.{contains}
 use Rattle.std.specs.Option.{is_some}
 use Rattle.cellset.specs.Shape.{Extent}
-use Rattle.cellset.specs.Cell.{IsOn, neighbor, opposite}
+use Rattle.cellset.specs.Cell.{neighbor, opposite}
 use Rattle.cellset.specs.CellSet.{Cells, Has, Lacks}
 use Rattle.cellset.specs.declared.cell.Cell.{Cell}
 use Rattle.cellset.specs.declared.dir.Dir.{Dir}
 use Rattle.cellset.specs.declared.dir.Dir.TheVariants.{L, U, R, D}
 use Rattle.cellset.proofs.Neighbors.{neighbor_back}
-use Rattle.reach.specs.Region.{IsFree, at_seed, beside}
+use Rattle.reach.specs.Region.{IsFree}
 use Rattle.reach.specs.declared.pushes.Push.{Push}
 use Rattle.board.specs.Game.{Level, moved}
 use Rattle.closure.specs.Pattern.{Pattern, InPatternRegion, IsCovered, PushesOut, after_push}
@@ -23,14 +26,12 @@ use Rattle.closure.specs.Run.{state_after}
 use Rattle.closure.specs.Sides.{cell_no, cells_in}
 use Rattle.closure.specs.declared.groups.Groups.{Groups}
 use Rattle.closure.specs.declared.tables.Tables.{Tables}
-use Rattle.closure.specs.Tables.{CoversFrom, CoversToward, HasNoPush, IsGrouped, AreTables, IsPushAt, IsPushOf, IsStepBack, boxes_of, list_of, position_at}
+use Rattle.closure.specs.Tables.{AreNoted, CoversFrom, CoversToward, HasNoPush, IsGrouped, AreTables, IsPushAt, IsPushOf, IsStepBack, boxes_of, list_of, position_at}
+use Rattle.closure.proofs.Arenas.{list_long}
 use Rattle.closure.proofs.CellLists.{at_any, in_list, no_cell, of_list}
-use Rattle.closure.proofs.Grouped.{covered_of_group, line_boxes, of_line}
-
--- a cell of a region is on the grid
-pub region_on : (level : Level) (pattern : Pattern) (c : Cell) → InPatternRegion level pattern c → IsOn level.shape c
-region_on level pattern c (at_seed seed free) = free.on
-region_on level pattern c (beside d before free) = free.on
+use Rattle.closure.proofs.Grouped.{box_floor, covered_of_group, group_in_room, line_boxes, of_line}
+use Rattle.closure.proofs.Regions.{region_on}
+use Rattle.closure.proofs.Traps.{onto_trap, trapped_push}
 
 -- A push of the box on a cell to a free cell of the grid is a push of one of the boxes.
 pub push_in_box : (shape : Extent) (boxes : Cells) (cell : Cell) (dir : Dir) (push : Push) → Has boxes cell → Lacks boxes push.to →
@@ -117,3 +118,61 @@ module _ {S : Type 0} (tables : Tables S) (is : AreTables tables) (g : ℕ) wher
         player =
             subst (InPatternRegion tables.board.now (position_at tables.board.now tables.groups g)) back side;
       })
+
+  -- ---- the trap
+  module _ (lt : g < length tables.groups.spans.items) where
+    abbrev position : Pattern
+    position = position_at tables.board.now tables.groups g
+
+    -- The results of the pushes of a group with a box on the trap are covered, and those of the pushes of a group to the trap.
+    pub trapped_pushes : (c : Cell) → Has (cells_in (boxes_of tables.groups g)) c → Has tables.trap.members c →
+        CoversPushesOf tables.board.now (list_of tables.groups) position
+    trapped_pushes c box has push out =
+        trapped_push tables.board.now is.formed (list_of tables.groups) tables.trap is.trap position (box_floor tables.board.now tables.groups is.lawful is.grouped g lt)
+        (group_in_room tables.board.now is.formed tables.groups is.grouped is.lawful g) push out c box has
+
+    pub toward_trap : (cell : Cell) (dir : Dir) (p : Push) → IsPushAt tables.board.now.shape cell dir p → Has tables.trap.members p.to →
+        CoversToward tables.board.now (list_of tables.groups) position cell dir
+    toward_trap cell dir p at has push out from toward =
+        onto_trap tables.board.now is.formed (list_of tables.groups) tables.trap is.trap position (box_floor tables.board.now tables.groups is.lawful is.grouped g lt)
+        (group_in_room tables.board.now is.formed tables.groups is.grouped is.lawful g) push out
+        (subst (Has tables.trap.members) (at.to ∙ sym (out.cell_behind ∙ (ap (λ c. neighbor c push.dir) from ∙ ap (λ e. neighbor cell e) toward))) has)
+
+-- ---- notes
+module _ (level : Level) (groups : Groups) (noted : List Bool) (are : AreNoted level groups noted) where
+  -- Another note is right if the list covers the pushes of its group or it is false.
+  pub noted_more : (g : ℕ) (b : Bool) → g < length groups.spans.items → (IsTrue b → CoversPushesOf level (list_of groups) (position_at level groups g)) →
+      AreNoted level groups (set noted g b)
+  noted_more g b lt here = record {
+    long = length-set noted g b ∙ are.long;
+    covers = λ k low.
+        let was = length-set noted g b in
+        let long = are.long in
+        let low_old : k < length noted = omega (arith, low, was) in
+        let other = λ (ne : k ≢ g) (true_there : IsTrue (get_or (set noted g b) k false)).
+        are.covers k low_old (subst IsTrue (get_or-set_other noted g k b false ne) true_there) in
+        elim (cases_lt k g) [
+          | inl before ↦ other (λ e. omega (arith, before, e))
+          | inr from ↦ elim (cases_lt g k) [
+            | inl past ↦ other (λ e. omega (arith, past, e))
+            | inr until ↦
+                let same : g ≡ k = omega (arith, from, until) in
+                λ true_there. subst (λ (j : ℕ). CoversPushesOf level (list_of groups) (position_at level groups j)) same
+                (here (subst IsTrue (get_or-set_same noted g b false (omega (arith, lt, long)))
+                (subst (λ (j : ℕ). IsTrue (get_or (set noted g b) j false)) (sym same) true_there)))
+          ]
+        ];
+  }
+
+  -- If all notes are true, the list covers the pushes of each of its patterns.
+  pub covers_all : IsGrouped groups → ((g : ℕ) → g < length noted → IsTrue (get_or noted g false)) → (p : Pattern) → Contains (list_of groups) p →
+      CoversPushesOf level (list_of groups) p
+  covers_all grouped all p (k, low, is) =
+      let listed = list_long groups.arena in
+      let lt : k < length groups.arena.lines.items = omega (arith, low, listed) in
+      let g = slice_index groups.of.items k in
+      let into = grouped.all.into k lt in
+      let long = are.long in
+      let in_notes : g < length noted = omega (arith, into, long) in
+      subst (CoversPushesOf level (list_of groups)) (at_any (list_of groups) k _ p low ∙ is)
+      (pattern_of_group level groups grouped k lt (are.covers g in_notes (all g in_notes)))

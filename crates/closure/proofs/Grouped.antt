@@ -12,7 +12,7 @@ use Rattle.cellset.proofs.Members.{has_empty}
 use Rattle.reach.specs.Region.{InRegion, IsFree}
 use Rattle.reach.specs.Region as region
 use Rattle.reach.specs.Reached.{Reached, at_seed, by_step, WalksTo}
-use Rattle.board.specs.Game.{Level, State}
+use Rattle.board.specs.Game.{Level, State, IsFloor}
 use Rattle.board.specs.Board.{IsWellFormed}
 use Rattle.closure.specs.Pattern.{Pattern, Seeds, whole_room, listed, seed_cells, Covers, InPatternRegion, IsCovered}
 use Rattle.closure.specs.Closed.{IsLawful, AreLawful, IsListedSeed}
@@ -163,7 +163,7 @@ module _ (level : Level) (formed : IsWellFormed level) where
   chain_in_room boxes seeds fair c (region.at_seed seed free) = fair c seed
   chain_in_room boxes seeds fair c (region.beside {c = b} d before free) = formed.goes_on b d (chain_in_room boxes seeds fair b before) (free.on, free.no_wall)
 
-  region_in_room : (p : Pattern) → IsLawful level p → (c : Cell) → InPatternRegion level p c → Has level.room c
+  pub region_in_room : (p : Pattern) → IsLawful level p → (c : Cell) → InPatternRegion level p c → Has level.room c
   region_in_room p lawful = chain_in_room p.boxes (seed_cells level p.boxes p.seeds) (λ q has. seed_in_room p.boxes p.seeds q (λ x h. (lawful.seed x h).0) has)
 
   pub group_in_room : (groups : Groups) → IsGrouped groups → AreLawful level (list_of groups) → (g : ℕ) (c : Cell) →
@@ -178,12 +178,17 @@ module _ (level : Level) (groups : Groups) (lawful : AreLawful level (list_of gr
   abbrev line : ℕ
   line = (grouped.all.first g lt).0
 
+  -- the boxes of a group are on floor
+  pub box_floor : (c : Cell) → Has (cells_in (boxes_of groups g)) c → IsFloor level c
+  box_floor c has =
+      let at = grouped.all.first g lt in
+      let lawful_line = lawful _ (listed_at groups.arena line at.1) in
+      let box = subst (λ (s : Cells). Has s c) (sym (line_boxes level groups grouped g line at.1 at.2)) has in
+      (lawful_line.board c (inl box), lawful_line.wall c box)
+
   -- the boxes of a group are on the grid
   pub box_on : (c : Cell) → Has (cells_in (boxes_of groups g)) c → IsOn level.shape c
-  box_on c has =
-      let at = grouped.all.first g lt in
-      (lawful _ (listed_at groups.arena line at.1)).board c
-      (inl (subst (λ (s : Cells). Has s c) (sym (line_boxes level groups grouped g line at.1 at.2)) has))
+  box_on c has = (box_floor c has).0
 
   -- A list that is the boxes of a group is on the grid.
   pub boxes_on : (boxes : List Cell) → boxes ≡ boxes_of groups g → (c : Cell) → Has (cells_in boxes) c → IsOn level.shape c

@@ -3,6 +3,7 @@
 -- room of a level that was read goes on over every floor cell beside it.
 use Rattle.std.specs.Prelude.{◌↔◌}
 use Rattle.std.specs.FinSet as set
+use Rattle.cellset.specs.Cell.{IsOn}
 use Rattle.cellset.specs.CellSet.{Cells, Has, Lacks}
 use Rattle.cellset.specs.declared.cell.Cell.{Cell}
 use Rattle.reach.specs.Region.{InRegion, at_seed, beside}
@@ -30,6 +31,11 @@ module _ (level : Level) (formed : IsWellFormed level) (boxes : Cells) where
 pub region_lacks : (level : Level) (pattern : Pattern) (c : Cell) → InPatternRegion level pattern c → Lacks pattern.boxes c
 region_lacks level pattern c (at_seed seed free) = free.no_bar
 region_lacks level pattern c (beside d before free) = free.no_bar
+
+-- a cell of a region is on the grid
+pub region_on : (level : Level) (pattern : Pattern) (c : Cell) → InPatternRegion level pattern c → IsOn level.shape c
+region_on level pattern c (at_seed seed free) = free.on
+region_on level pattern c (beside d before free) = free.on
 
 -- The cells of the room without a box are the region of `*`. A region is the same if its boxes are taken out of it.
 pub room_outside : (level : Level) (formed : IsWellFormed level) (boxes : Cells) (c : Cell) → (Has level.room c × Lacks boxes c) ↔ InPatternRegion level

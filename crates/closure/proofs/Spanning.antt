@@ -45,14 +45,13 @@ index_within shape sides c on =
     omega (arith, bottom, right, wide)
 
 -- The tree of the root alone spans no other cell.
-module _ (level : Level) (root : Cell) (room : Has level.room root) where
-  pub root_alone : (left : Cells) (s : Node) (new : Tree) → left ≡ finset.remove level.room root → s.cell ≡ root → new.root ≡ root →
-      new.nodes.items ≡ s ∷ [] → length new.numbers.items ≡ 256 * (level.shape.height + 1)
+module _ (level : Level) (root : Cell) (room : Has level.room root) (player : root ≡ level.player) where
+  pub root_alone : (left : Cells) (s : Node) (new : Tree) → left ≡ finset.remove level.room root → s.cell ≡ root → new.nodes.items ≡ s ∷ [] → length new.numbers.items ≡ 256 * (level.shape.height + 1)
       → get_or new.numbers.items (index_of root) 0 ≡ 0 → IsGrowing level left new
-  root_alone left s new left_is cell_is root_is steps_is long number = record {
+  root_alone left s new left_is cell_is steps_is long number = record {
     nodes = record {
       some = subst (λ (l : List Node). 0 < length l) (sym steps_is) (omega arith);
-      begin = λ d. subst (λ (l : List Node). (get_or l 0 d).cell ≡ new.root) (sym steps_is) (cell_is ∙ sym root_is);
+      begin = λ d. subst (λ (l : List Node). (get_or l 0 d).cell ≡ level.player) (sym steps_is) (cell_is ∙ player);
       room = λ i d lt. only_one (λ x. Has level.room x.cell) i d lt (subst (Has level.room) (sym cell_is) room);
       down = λ i d up lt. absurd (first_alone i up lt);
       leads = λ i d up lt. absurd (first_alone i up lt);
@@ -68,7 +67,7 @@ module _ (level : Level) (root : Cell) (room : Has level.room root) where
         }))
         (λ other. absurd (not_both left c (subst (λ (t : Cells). Has t c) (sym left_is) (kept_by_remove level.room root c (other_cell c root other) inside))
         lacks));
-    begun = subst (Lacks left) (sym root_is) (subst (λ (t : Cells). Lacks t root) (sym left_is) (removed_lacks level.room root));
+    begun = subst (Lacks left) player (subst (λ (t : Cells). Lacks t root) (sym left_is) (removed_lacks level.room root));
   }
     where
       one : length new.nodes.items ≡ 1
@@ -120,13 +119,13 @@ module _ (level : Level) (formed : IsWellFormed level) (left : Cells) (old : Tre
         ap (λ q. neighbor q s.dir) (cell_is ∙ sym (next d)) ∙ ap (neighbor (neighbor (get_or nodes from d).cell dir)) dir_is ∙
         neighbor_back (get_or nodes from d).cell dir on.top on.left
 
-    more_steps : AreNodes level old.root more
+    more_steps : AreNodes level more
     more_steps =
         let some = growing.nodes.some in
         let long = length_more nodes s in
         record {
           some = omega (arith, some, long);
-          begin = λ d. kept_item (λ x. x.cell ≡ old.root) 0 d some (growing.nodes.begin d);
+          begin = λ d. kept_item (λ x. x.cell ≡ level.player) 0 d some (growing.nodes.begin d);
           room = λ i d below. low_or_last i below
               (λ low. kept_item (λ x. Has level.room x.cell) i d low (growing.nodes.room i d low))
               (λ last. last_item (λ x. Has level.room x.cell) i d last (subst (Has level.room) (sym cell_is) (growing.in_room cell has)));
@@ -170,21 +169,21 @@ module _ (level : Level) (formed : IsWellFormed level) (left : Cells) (old : Tre
               (was.same d));
         })
 
-    pub laid_more : (new : Tree) → new.root ≡ old.root → new.numbers.items ≡ set old.numbers.items (index_of cell) (length nodes) → new.nodes.items ≡ more →
+    pub laid_more : (new : Tree) → new.numbers.items ≡ set old.numbers.items (index_of cell) (length nodes) → new.nodes.items ≡ more →
         IsGrowing level (finset.remove left cell) new
-    laid_more new root_is numbers_is steps_is = record {
-      nodes = subst (λ (h : Cell). AreNodes level h new.nodes.items) (sym root_is) (subst (AreNodes level old.root) (sym steps_is) more_steps);
+    laid_more new numbers_is steps_is = record {
+      nodes = subst (AreNodes level) (sym steps_is) more_steps;
       long = ap (λ (l : List ℕ). length l) numbers_is ∙ length-set old.numbers.items (index_of cell) (length nodes) ∙ growing.long;
       in_room = λ c h. growing.in_room c (has_remove left cell c h).1;
       each = λ c room lacks. subst (λ (n : List ℕ). IsNumbered n new.nodes.items c) (sym numbers_is)
           (subst (λ (l : List Node). IsNumbered (set old.numbers.items (index_of cell) (length nodes)) l c) (sym steps_is) (numbered c room lacks));
-      begun = subst (λ (h : Cell). Lacks (finset.remove left cell) h) (sym root_is) (lacks_remove left cell old.root growing.begun);
+      begun = lacks_remove left cell level.player growing.begun;
     }
 
   -- ---- at the end
   module _ (joined : AreJoinedBeside level left nodes (length nodes)) where
     default : Node
-    default = record { cell = old.root; dir = L; parent = 0 }
+    default = record { cell = level.player; dir = L; parent = 0 }
 
     goes_on : (c : Cell) (d : Dir) → Has level.room c → Lacks left c → Has level.room (neighbor c d) → Lacks left (neighbor c d)
     goes_on c d room lacks ahead =
@@ -193,24 +192,15 @@ module _ (level : Level) (formed : IsWellFormed level) (left : Cells) (old : Tre
         subst (λ (q : Cell). Lacks left (neighbor q d)) (number.same default)
         (joined i default d number.within (subst (λ (q : Cell). Has level.room (neighbor q d)) (sym (number.same default)) ahead))
 
-    along : (c : Cell) → Joined (IsFloor level) (λ q. q ≡ level.player) c → Has level.room c × (Lacks left level.player → Lacks left c)
-        × (Lacks left c → Lacks left level.player)
-    along c (at_seed seed floor) = (subst (Has level.room) (sym seed) formed.here, (λ l. subst (Lacks left) (sym seed) l), (λ l. subst (Lacks left) seed l))
+    along : (c : Cell) → Joined (IsFloor level) (λ q. q ≡ level.player) c → Has level.room c × Lacks left c
+    along c (at_seed seed floor) = (subst (Has level.room) (sym seed) formed.here, subst (Lacks left) (sym seed) growing.begun)
     along _ (beside {c = b} d before floor) =
         let was = along b before in
         let room = formed.goes_on b d was.0 floor in
-        let on = (formed.room b was.0).0 in
-        let back = neighbor_back b d on.top on.left in (
-          room,
-          (λ l. goes_on b d was.0 (was.1 l) room),
-          (λ l. was.2 (subst (Lacks left) back (goes_on (neighbor b d) (opposite d) room l (subst (Has level.room) (sym back) was.0)))),
-        )
-
-    root_in_room : Has level.room old.root
-    root_in_room = subst (Has level.room) (growing.nodes.begin default) (growing.nodes.room 0 default growing.nodes.some)
+        (room, goes_on b d was.0 was.1 room)
 
     pub none_left : (c : Cell) → Has level.room c → Lacks left c
-    none_left c room = (along c (formed.joined c room)).1 ((along old.root (formed.joined old.root root_in_room)).2 growing.begun)
+    none_left c room = (along c (formed.joined c room)).1
 
 -- ---- the four directions of one cell
 pub record IsTurn (level : Level) (from : ℕ) (dir : Dir) (left : Cells) (nodes : List Node) (left_after : Cells) (steps_after : List Node) : Type 0 where

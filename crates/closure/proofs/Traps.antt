@@ -1,66 +1,101 @@
--- Why a lawful list of singles is closed if its cells are a trap, out of which no push within the room leads, and a box of the start is on
--- one of them. The player of a push out of a single is in the room. Each floor cell beside the room is in the room, so the box's old cell
--- and its new one are too. So the push is one within the room, and the box comes to a cell of the trap. The list has the single of that
--- cell, and the player, who is on the box's old cell, is in its region.
+-- Why a list covers each state with a box on its trap, and the results of the pushes of a pattern with such a box. The list has the single of
+-- each cell of the trap, which covers a state with that box if the player is in the room. The player of a push out of a pattern is in the
+-- room, and each floor cell beside the room is in the room, so the box's old cell and its new one are too. So a box that is pushed from the
+-- trap comes to a cell of the trap, since no push within the room leads out of it, and any other push leaves the box on the trap there.
 use Rattle.std.proofs.Common.{◌≡◌, ◌≢◌, List, sym, ◌∙◌, ap, subst, inl}
 use Rattle.std.specs.FinSet as set
+use Rattle.std.specs.List.{Contains}
 use Rattle.cellset.specs.Cell.{neighbor, opposite}
-use Rattle.cellset.specs.CellSet.{Cells, Has, only}
+use Rattle.cellset.specs.CellSet.{Cells, CellsOn, Has, Lacks, only}
 use Rattle.cellset.specs.declared.cell.Cell.{Cell}
-use Rattle.cellset.proofs.Members.{inserted, has_only, lacks_only}
+use Rattle.cellset.proofs.Members.{has_empty, has_insert, has_only, has_remove, inserted, kept_by_insert, kept_by_remove, lacks_only, lacks_where, same_or_other}
 use Rattle.cellset.proofs.Neighbors.{neighbor_back}
-use Rattle.reach.specs.Reached.{IsClosedUnder, PushesTo}
-use Rattle.board.specs.Game.{Level, State, IsFloor, start}
+use Rattle.cellset.proofs.Truth.{either}
+use Rattle.reach.specs.declared.pushes.Push.{Push}
+use Rattle.board.specs.Game.{Level, State, IsFloor, moved, start}
 use Rattle.board.specs.Board.{IsWellFormed}
-use Rattle.closure.specs.Pattern.{Pattern, Covers, after_push}
-use Rattle.closure.specs.Closed.{AreLawful, CoversPushesOf, Closed}
-use Rattle.closure.specs.Singles.{single, AreSinglesOf}
-use Rattle.closure.proofs.Regions.{room_outside}
-use Rattle.closure.proofs.GroupPushes.{region_on}
+use Rattle.closure.specs.Pattern.{Pattern, InPatternRegion, IsCovered, PushesOut, after_push}
+use Rattle.closure.specs.Closed.{AreLawful, Closed}
+use Rattle.closure.specs.Sides.{cells_in}
+use Rattle.closure.specs.Trap.{AreOff, IsTrapOf, IsTrapped, single}
+use Rattle.closure.proofs.Grouped.{region_in_room}
+use Rattle.closure.proofs.Regions.{region_on, room_outside}
 use Rattle.closure.proofs.Sets.{other_member, other_where}
+use Rattle.closure.proofs.Spanning.{other_cell}
 
-module _ (level : Level) (formed : IsWellFormed level) (patterns : List Pattern) (lawful : AreLawful level patterns) (cells : Cells)
-    (singles : AreSinglesOf cells patterns) (closed : IsClosedUnder (PushesTo (Has level.room)) (Has cells)) where
-  floor_at : (c : Cell) → Has cells c → IsFloor level c
-  floor_at c has =
-      let single_lawful = lawful (single c) (singles.each c has) in
-      (single_lawful.board c (inl (inserted set.empty c)), single_lawful.wall c (inserted set.empty c))
+-- No box is on a trap without cells.
+pub none_off : (trap : Cells) → trap ≡ set.empty → (boxes : List Cell) → AreOff trap boxes
+none_off trap none boxes c has = lacks_where trap c (λ on. has_empty c (subst (λ (s : Cells). Has s c) none on))
 
-  covers_single : (c : Cell) (s : State) → Has s.boxes c → Has level.room s.player → s.player ≢ c → Covers level (single c) s
-  covers_single c s stands inside other = record {
-    boxes = λ q box. subst (Has s.boxes) (sym (has_only c q box)) stands;
-    player = (room_outside level formed (only c) s.player).0 (inside, lacks_only c s.player other);
-  }
+-- No cells are a trap of any list.
+pub no_trap : (level : Level) (patterns : List Pattern) (trap : CellsOn) → trap.extent ≡ level.shape → trap.members ≡ set.empty → IsTrapOf level patterns trap
+no_trap level patterns trap extent none =
+    let never = λ (c : Cell) (has : Has trap.members c). has_empty c (subst (λ (s : Cells). Has s c) none has) in
+    record { extent = extent; singles = λ c has. absurd (never c has); closed = λ b c has _. absurd (never b has) }
 
-  single_pushes : (c : Cell) → Has cells c → CoversPushesOf level patterns (single c)
-  single_pushes c has push out =
-      let from_is : push.from ≡ c = has_only c push.from out.box in
-      let inside = (room_outside level formed (only c) push.player).1 out.standing in
-      let player_on = region_on level (single c) push.player out.standing in
-      let behind : neighbor push.from (opposite push.dir) ≡ push.player =
-      ap (λ q. neighbor q (opposite push.dir)) out.next_cell ∙ neighbor_back push.player push.dir player_on.top player_on.left in
-      let floor : IsFloor level push.from = subst (IsFloor level) (sym from_is) (floor_at c has) in
-      let from_room : Has level.room push.from =
-      subst (Has level.room) (sym out.next_cell) (formed.goes_on push.player push.dir inside.0 (subst (IsFloor level) out.next_cell floor)) in
-      let to_room : Has level.room (neighbor push.from push.dir) =
-      formed.goes_on push.from push.dir from_room (subst (IsFloor level) out.cell_behind (out.free.on, out.free.no_wall)) in
-      let comes : Has cells push.to = closed push.from push.to (subst (Has cells) (sym from_is) has)
-      (record {
-        dir = push.dir;
-        next = out.cell_behind;
-        behind = subst (Has level.room) (sym behind) inside.0;
-        ahead =
-            subst (Has level.room) (sym out.cell_behind) to_room;
-      }) in (
-        single push.to,
-        singles.each push.to comes,
-        covers_single push.to (after_push (single c) push) (inserted _ push.to) from_room (other_member (only c) push.from push.to out.box out.free.no_bar),
-      )
+-- Boxes that are off the trap are so after a push to a cell off it.
+pub off_after : (trap : Cells) (boxes : List Cell) (from to : Cell) → AreOff trap boxes → Lacks trap to → (c : Cell) → Has (moved (cells_in boxes) from to) c →
+    Lacks trap c
+off_after trap boxes from to off free c has = either (has_insert (set.remove (cells_in boxes) from) to c has)
+    (λ same. subst (Lacks trap) (sym same) free)
+    (λ rest. off c (has_remove (cells_in boxes) from c rest).1)
 
-  pub closed_singles : (c : Cell) → Has cells c → Has level.boxes c → Closed level patterns
-  closed_singles c has box = record {
+module _ (level : Level) (formed : IsWellFormed level) (patterns : List Pattern) (trap : CellsOn) (is : IsTrapOf level patterns trap) where
+  covers_trapped : (s : State) (c : Cell) → Has trap.members c → Has s.boxes c → Has level.room s.player → s.player ≢ c → IsCovered level patterns s
+  covers_trapped s c has box inside other = (
+    single c,
+    is.singles c has,
+    record {
+      boxes = λ q named. subst (Has s.boxes) (sym (has_only c q named)) box;
+      player = (room_outside level formed (only c) s.player).0 (inside, lacks_only c s.player other);
+    },
+  )
+
+  pub start_trapped : (c : Cell) → Has trap.members c → Has level.boxes c → IsCovered level patterns (start level)
+  start_trapped c has box = covers_trapped (start level) c has box formed.here (other_where level.boxes level.player c formed.apart box)
+
+  module _ (pattern : Pattern) (floor : (c : Cell) → Has pattern.boxes c → IsFloor level c) (room : (c : Cell) → InPatternRegion level pattern c → Has level.room c)
+      (push : Push) (out : PushesOut level pattern push) where
+    from_room : Has level.room push.from
+    from_room =
+        subst (Has level.room) (sym out.next_cell) (formed.goes_on push.player push.dir (room push.player out.standing)
+        (subst (IsFloor level) out.next_cell (floor push.from out.box)))
+
+    to_room : Has level.room (neighbor push.from push.dir)
+    to_room = formed.goes_on push.from push.dir from_room (subst (IsFloor level) out.cell_behind (out.free.on, out.free.no_wall))
+
+    behind : neighbor push.from (opposite push.dir) ≡ push.player
+    behind =
+        let on = region_on level pattern push.player out.standing in
+        ap (λ q. neighbor q (opposite push.dir)) out.next_cell ∙ neighbor_back push.player push.dir on.top on.left
+
+    -- The result of a push to the trap is covered.
+    pub onto_trap : Has trap.members push.to → IsCovered level patterns (after_push pattern push)
+    onto_trap has = covers_trapped (after_push pattern push) push.to has (inserted _ push.to) from_room
+        (other_member pattern.boxes push.from push.to out.box out.free.no_bar)
+
+    -- So is that of each push of a pattern with a box on the trap.
+    pub trapped_push : (c : Cell) → Has pattern.boxes c → Has trap.members c → IsCovered level patterns (after_push pattern push)
+    trapped_push c box has = same_or_other c push.from
+        (λ same. onto_trap (is.closed push.from push.to (subst (Has trap.members) same has) (record {
+          dir = push.dir;
+          next = out.cell_behind;
+          behind = subst (Has level.room) (sym behind) (room push.player out.standing);
+          ahead = subst (Has level.room) (sym out.cell_behind) to_room;
+        })))
+        (λ other.
+        let apart = other_cell c push.from other in
+        covers_trapped (after_push pattern push) c has
+        (kept_by_insert (set.remove pattern.boxes push.from) push.to c (kept_by_remove pattern.boxes push.from c apart box)) from_room (λ e. apart (sym e)))
+
+  -- A list whose patterns are all trapped is closed if a box of the start is on the trap.
+  pub closed_trapped : AreLawful level patterns → (c : Cell) → Has trap.members c → Has level.boxes c → ((p : Pattern) → Contains patterns p →
+      IsTrapped trap.members p) → Closed level patterns
+  closed_trapped lawful c has box all = record {
     lawful = lawful;
-    start = (single c, singles.each c has, covers_single c (start level) box formed.here (other_where level.boxes level.player c formed.apart box));
-    pushes = λ pattern listed. let (k, in_cells, is) = singles.none_else pattern listed in
-        subst (CoversPushesOf level patterns) (sym is) (single_pushes k in_cells);
+    start = start_trapped c has box;
+    pushes = λ p listed push out.
+        let fair = lawful p listed in
+        let trapped = all p listed in
+        trapped_push p (λ q named. (fair.board q (inl named), fair.wall q named)) (region_in_room level formed p fair) push out trapped.0 trapped.1 trapped.2;
   }

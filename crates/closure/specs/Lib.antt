@@ -11,7 +11,7 @@ pub mod Tables
 pub mod Run
 pub mod Scan
 pub mod Sides
-pub mod Singles
+pub mod Trap
 pub mod Zone
 pub use Rattle.cellset.specs.Shape
 pub use Rattle.cellset.specs.Cell

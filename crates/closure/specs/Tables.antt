@@ -14,10 +14,12 @@ use Rattle.cellset.specs.CellSet.{Cells, Has, Lacks}
 use Rattle.cellset.specs.declared.cell.Cell.{Cell}
 use Rattle.cellset.specs.declared.dir.Dir.{Dir}
 use Rattle.reach.specs.declared.pushes.Push.{Push}
+use Rattle.board.specs.Board.{IsWellFormed}
 use Rattle.board.specs.Game.{Level, State}
 use Rattle.closure.specs.Pattern.{Pattern, Seeds, whole_room, listed, seed_cells, InPatternRegion, Covers, IsCovered, PushesOut, after_push}
 use Rattle.closure.specs.Closed.{AreLawful, CoversPushesOf}
 use Rattle.closure.specs.Sides.{IsAround, cell_no, cells_in}
+use Rattle.closure.specs.Trap.{AreOff, IsTrapOf}
 use Rattle.closure.specs.Chains.{AreChains}
 use Rattle.closure.specs.declared.lookup.Scratch.{Scratch}
 use Rattle.closure.specs.declared.tables.Buckets.{Buckets}
@@ -104,24 +106,24 @@ HasSeedsOnly Free Region groups g = (c : Cell) → Region c → Free c × IsSeed
 abbrev pub no_sides : Sides
 no_sides = record { left = false; up = false; right = false; down = false }
 
--- what is kept of the region of a group's position besides its sides: whether it has the root, and whether it is surely all of the room
--- but the boxes
-pub record IsRegionAt (level : Level) (groups : Groups) (root : Cell) (g : ℕ) (region : Region) : Type 0 where
-  pub root_in : IsTrue region.has_root ↔ InPatternRegion level (position_at level groups g) root
+-- what is kept of the region of a group's position besides its sides: whether it has the root of the tree, unless the group is trapped,
+-- and whether it is surely all of the room but the boxes
+pub record IsRegionAt (level : Level) (trap : Cells) (groups : Groups) (g : ℕ) (region : Region) : Type 0 where
+  pub root_in : AreOff trap (boxes_of groups g) → IsTrue region.has_root ↔ InPatternRegion level (position_at level groups g) level.player
   pub all : IsTrue region.whole → (c : Cell) → Has level.room c → Lacks (cells_in (boxes_of groups g)) c → InPatternRegion level (position_at level groups g) c
 
--- the entries of a group's boxes say on which sides of them the region of its position lies
-abbrev pub AreSidesAt : Level → Groups → ℕ → List Sides → Type 0
-AreSidesAt level groups g sides =
-    (i : ℕ) → i < length (boxes_of groups g) → IsAround (InPatternRegion level (position_at level groups g)) (cell_no (boxes_of groups g) i)
+-- the entries of a group's boxes say on which sides of them the region of its position lies, unless the group is trapped
+abbrev pub AreSidesAt : Level → Cells → Groups → ℕ → List Sides → Type 0
+AreSidesAt level trap groups g sides =
+    AreOff trap (boxes_of groups g) → (i : ℕ) → i < length (boxes_of groups g) → IsAround (InPatternRegion level (position_at level groups g)) (cell_no (boxes_of groups g) i)
     (slice_index_or sides ((span_at groups.spans.items g).from + i) no_sides)
 
 -- what is kept of the region of each group's position, with an entry for each box in the vector of all boxes
-pub record AreRegions (level : Level) (groups : Groups) (root : Cell) (regions : Regions) : Type 0 where
+pub record AreRegions (level : Level) (trap : Cells) (groups : Groups) (regions : Regions) : Type 0 where
   pub long : length regions.sides.items ≡ length groups.arena.boxes.items
   pub count : length regions.of.items ≡ length groups.spans.items
-  pub sides : (g : ℕ) → g < length groups.spans.items → AreSidesAt level groups g regions.sides.items
-  pub each : (g : ℕ) (r : Region) → g < length groups.spans.items → IsRegionAt level groups root g (slice_index_or regions.of.items g r)
+  pub sides : (g : ℕ) → g < length groups.spans.items → AreSidesAt level trap groups g regions.sides.items
+  pub each : (g : ℕ) (r : Region) → g < length groups.spans.items → IsRegionAt level trap groups g (slice_index_or regions.of.items g r)
 
 -- ---- the tree
 -- the index of a cell in a table by cells
@@ -133,10 +135,10 @@ pub record IsNumbered (numbers : List ℕ) (nodes : List Node) (c : Cell) : Type
   pub within : slice_index numbers (index_of c) < length nodes
   pub same : (d : Node) → (slice_index_or nodes (slice_index numbers (index_of c)) d).cell ≡ c
 
--- the nodes are cells of the room, the root first; from each later one a step leads to its parent, which comes before it
-pub record AreNodes (level : Level) (root : Cell) (nodes : List Node) : Type 0 where
+-- the nodes are cells of the room, first the player's at the start; from each later one a step leads to its parent, which comes before it
+pub record AreNodes (level : Level) (nodes : List Node) : Type 0 where
   pub some : 0 < length nodes
-  pub begin : (d : Node) → (slice_index_or nodes 0 d).cell ≡ root
+  pub begin : (d : Node) → (slice_index_or nodes 0 d).cell ≡ level.player
   pub room : (i : ℕ) (d : Node) → i < length nodes → Has level.room (slice_index_or nodes i d).cell
   pub down : (i : ℕ) (d : Node) → 0 < i → i < length nodes → (slice_index_or nodes i d).parent < i
   pub leads : (i : ℕ) (d : Node) → 0 < i → i < length nodes
@@ -144,17 +146,17 @@ pub record AreNodes (level : Level) (root : Cell) (nodes : List Node) : Type 0 w
 
 -- each cell of the room has a node
 pub record IsTree (level : Level) (tree : Tree) : Type 0 where
-  pub nodes : AreNodes level tree.root tree.nodes.items
+  pub nodes : AreNodes level tree.nodes.items
   pub long : length tree.numbers.items ≡ 256 * (level.shape.height + 1)
   pub each : (c : Cell) → Has level.room c → IsNumbered tree.numbers.items tree.nodes.items c
 
 -- each cell of the room has a node, except the cells that are left
 pub record IsGrowing (level : Level) (left : Cells) (tree : Tree) : Type 0 where
-  pub nodes : AreNodes level tree.root tree.nodes.items
+  pub nodes : AreNodes level tree.nodes.items
   pub long : length tree.numbers.items ≡ 256 * (level.shape.height + 1)
   pub in_room : (c : Cell) → Has left c → Has level.room c
   pub each : (c : Cell) → Has level.room c → Lacks left c → IsNumbered tree.numbers.items tree.nodes.items c
-  pub begun : Lacks left tree.root
+  pub begun : Lacks left level.player
 
 -- no neighbour of the first nodes is left
 abbrev pub AreJoinedBeside : Level → Cells → List Node → ℕ → Type 0
@@ -189,16 +191,23 @@ pub record AreBuckets (level : Level) (groups : Groups) (buckets : Buckets) : Ty
 
 -- ---- all tables
 pub record AreTables {S : Type 0} (tables : Tables S) : Type 0 where
+  pub formed : IsWellFormed tables.board.now
   pub lawful : AreLawful tables.board.now (list_of tables.groups)
+  pub trap : IsTrapOf tables.board.now (list_of tables.groups) tables.trap
   pub grouped : IsGrouped tables.groups
-  pub regions : AreRegions tables.board.now tables.groups tables.tree.root tables.regions
+  pub regions : AreRegions tables.board.now tables.trap.members tables.groups tables.regions
+
+-- the tables have all that lookups need, and no group is trapped
+pub record AreFilled {S : Type 0} (tables : Tables S) : Type 0 where
+  pub are : AreTables tables
+  pub off : tables.trap.members ≡ set.empty
   pub tree : IsTree tables.board.now tables.tree
   pub buckets : AreBuckets tables.board.now tables.groups tables.buckets
 
 -- scratch memory for the lookup of a state; if the player's path was walked, it has the hits on it
 pub record IsReadyFor {S : Type 0} (tables : Tables S) (boxes : Cells) (player : Cell) (scratch : Scratch) : Type 0 where
   pub roomy : length tables.tree.nodes.items ≤ vec_capacity scratch.hits
-  pub walked : IsTrue scratch.walked → AreHits tables.board.now boxes player tables.tree.root scratch.hits.items
+  pub walked : IsTrue scratch.walked → AreHits tables.board.now boxes player tables.board.now.player scratch.hits.items
 
 -- the scratch memory has capacity for the hits of any path
 abbrev pub IsRoomy : {S : Type 0} → Tables S → Scratch → Type 0
@@ -245,17 +254,14 @@ CoversFrom level patterns pattern cell = (push : Push) → PushesOut level patte
 abbrev pub pushed_cell : PushedBox → Cell
 pushed_cell pushed = cell_no pushed.boxes.now pushed.number
 
--- there is a note for each pattern, and the list covers the pushes out of a pattern if its note is true
-pub record AreNoted (level : Level) (patterns : List Pattern) (noted : List Bool) : Type 0 where
-  pub long : length noted ≡ length patterns
-  pub covers : (j : ℕ) → j < length noted → IsTrue (slice_index_or noted j false) → CoversPushesOf level patterns (pattern_at patterns j)
+-- there is a note for each group, and the list covers the pushes out of its position if the note is true
+pub record AreNoted (level : Level) (groups : Groups) (noted : List Bool) : Type 0 where
+  pub long : length noted ≡ length groups.spans.items
+  pub covers : (g : ℕ) → g < length noted → IsTrue (slice_index_or noted g false) → CoversPushesOf level (list_of groups) (position_at level groups g)
 
--- the number is that of a box, and all boxes are on the grid
-pub record IsBox (shape : Extent) (pushed : PushedBox) : Type 0 where
+-- a box of a group, with the sides of it on which the region of the group's position lies
+pub record IsPushedBox (level : Level) (groups : Groups) (pushed : PushedBox) : Type 0 where
+  pub group : pushed.group < length groups.spans.items
+  pub boxes : pushed.boxes.now ≡ boxes_of groups pushed.group
   pub number : pushed.number < length pushed.boxes.now
-  pub on : (c : Cell) → Has (cells_in pushed.boxes.now) c → IsOn shape c
-
--- a box of the pattern, with the sides of it on which the region lies
-pub record IsPushedBox (level : Level) (pattern : Pattern) (pushed : PushedBox) : Type 0 where
-  pub boxes : cells_in pushed.boxes.now ≡ pattern.boxes
-  pub sides : IsAround (InPatternRegion level pattern) (pushed_cell pushed) pushed.sides
+  pub sides : IsAround (InPatternRegion level (position_at level groups pushed.group)) (pushed_cell pushed) pushed.sides

@@ -1,5 +1,5 @@
 //! The check of lawful patterns: whether the list covers the start and what each push out of its patterns leads to.
-ghost use Rattle.std.specs.Prelude.{◌≡◌, ◌≢◌, ◌<◌, ◌↔◌, IsTrue, IfOk, IfErr, OnOk, MatchOption, length};
+ghost use Rattle.std.specs.Prelude.{◌≡◌, ◌≢◌, ◌<◌, ◌↔◌, ℕ, Bool, IsTrue, IfOk, IfErr, OnOk, MatchOption, length, slice_index_or};
 ghost use Rattle.std.specs.List.{Contains};
 ghost use Rattle.cellset.specs.Cell.{IsOn, neighbor};
 ghost use Rattle.cellset.specs.CellSet.{Has, Lacks};
@@ -11,22 +11,23 @@ ghost use Rattle.closure.specs.Closed.{AreLawful, CoversPushesOf, Closed};
 ghost use Rattle.closure.specs.FirstFault.{IsFirstPatternFault};
 ghost use Rattle.closure.specs.Arena.{lines_in, list_in};
 ghost use Rattle.closure.specs.Run.{state_after, AllLead, IsFirstAstray};
-ghost use Rattle.closure.specs.Tables.{AreNoted, AreTables, IsRoomy, list_of};
+ghost use Rattle.closure.specs.Tables.{AreFilled, AreNoted, AreTables, IsRoomy, list_of};
 
 use crate::arena::Arena;
+use crate::cells::stand_beside;
 use crate::fault::CheckFault;
 use crate::lookup::{Scratch, is_any_covering};
-use crate::pushes::{PushScratch, cover_pushes};
+use crate::pushes::{PushScratch, cover_groups};
 use crate::region::Finder;
-use crate::singles::are_closed_singles;
 use crate::tables::Tables;
+use crate::trap::{are_trapped, find_trap};
 use board::Board;
 use cellset::{Cell, CellSet, Dir, MembersOf, Shape};
 use reach::{Push, Pushes};
 use std::alloc::{AllocError, Global};
 use std::marker::Model;
 
-// Checks that a list of lawful patterns is closed, and returns its first fault if it isn't. Closed lists of single boxes need no index.
+// Checks that a list of lawful patterns is closed, and returns its first fault if it isn't.
 pub(crate) fn check_lawful<S: CellSet>(
     alloc: Global,
     board: &Board<S>,
@@ -36,36 +37,85 @@ pub(crate) fn check_lawful<S: CellSet>(
     ensures ok { OnOk result (Closed board.now (list_in arena)) }
     ensures exact { IfErr result (λ fault. fault ≢ CheckFault.Memory → IsFirstPatternFault board.now (lines_in arena) fault) }
 {
-    if are_closed_singles(alloc, board, &arena)? {
+    // For the proof: the board is well formed.
+    let _shape = board.shape();
+    let trap = find_trap(alloc, board, &arena)?;
+    if trap.meets(board.boxes()) && are_trapped(&arena, &trap) {
         return Ok(());
     }
-    let tables = Tables::build(alloc, board, arena)?;
-    let mut scratch = PushScratch::new(alloc, &tables)?;
-    let checked = check_covering(alloc, &tables, &mut scratch);
-    drop(scratch);
+    let mut tables = Tables::build(alloc, board, arena, trap)?;
+    let checked = check_tables(alloc, &mut tables);
     drop(tables);
     checked
 }
 
-// Checks that the list covers the start and what each push out of its patterns leads to.
+// Checks a list by its tables. Most lists need no lookup, since the trap and hints cover all.
+fn check_tables<S: CellSet>(alloc: Global, tables: &mut Tables<S>) -> Result<(), CheckFault>
+    requires tables { AreTables tables.old }
+    ensures ok { OnOk result (Closed tables.old.board.now (list_of tables.old.groups)) }
+    ensures exact { IfErr result (λ fault. fault ≢ CheckFault.Memory
+        → IsFirstPatternFault tables.old.board.now (lines_in tables.old.groups.arena) fault) }
+{
+    let mut covered = vec![in alloc; false; tables.groups.spans.len()]?;
+    cover_groups(tables, &mut None, &mut covered);
+    if is_start_found(tables) && are_all(&covered) {
+        return Ok(());
+    }
+    tables.fill(alloc)?;
+    check_covering(alloc, tables, &mut covered)
+}
+
+// Returns true only if the trap, or a group whose region is all of the room but its boxes, covers the start.
+fn is_start_found<S: CellSet>(tables: &Tables<S>) -> bool
+    requires { AreTables tables.now }
+    ensures { IsTrue result → IsCovered tables.now.board.now (list_of tables.now.groups) (start tables.now.board.now) }
+{
+    let board = tables.board;
+    if tables.trap.meets(board.boxes()) {
+        return true;
+    }
+    for group in 0..tables.groups.spans.len() {
+        let boxes = tables.groups.boxes(group);
+        if tables.is_whole(group) && stand_beside(boxes, board.player(), board.boxes()) {
+            return true;
+        }
+    }
+    false
+}
+
+// Returns whether all notes are true.
+fn are_all(covered: &[bool]) -> bool
+    ensures { IsTrue result → (g : ℕ) → g < length covered.now → IsTrue (slice_index_or covered.now g Bool.false) }
+{
+    for note in covered {
+        if !*note {
+            return false;
+        }
+    }
+    true
+}
+
+// Checks that the list covers the start, and what each push out of its patterns leads to if their group isn't noted as covered.
 fn check_covering<S: CellSet>(
     alloc: Global,
     tables: &Tables<S>,
-    scratch: &mut PushScratch<S>,
+    covered: &mut Vec<bool>,
 ) -> Result<(), CheckFault>
-    requires tables { AreTables tables.now }
-    requires ready { IsRoomy tables.now scratch.old.lookup × (S.extent scratch.old.state ≡ tables.now.board.now.shape) }
+    requires tables { AreFilled tables.now }
+    requires covered { AreNoted tables.now.board.now tables.now.groups covered.old.items }
     ensures ok { OnOk result (Closed tables.now.board.now (list_of tables.now.groups)) }
     ensures exact { IfErr result (λ fault. fault ≢ CheckFault.Memory
         → IsFirstPatternFault tables.now.board.now (lines_in tables.now.groups.arena) fault) }
 {
     let board = tables.board;
-    if !is_any_covering(tables, board.player(), board.boxes(), &mut scratch.lookup) {
+    let mut lookup = Scratch::new(alloc, tables)?;
+    if !is_any_covering(tables, board.player(), board.boxes(), &mut lookup) {
         return Err(CheckFault::Start);
     }
-    let covered = cover_pushes(alloc, tables, scratch)?;
+    let mut scratch = Some(PushScratch::new(alloc, tables)?);
+    cover_groups(tables, &mut scratch, covered);
     let mut trial = Trial::new(alloc, board.shape())?;
-    let checked = check_pushes(tables, &covered, &mut scratch.lookup, &mut trial);
+    let checked = check_pushes(tables, covered, &mut lookup, &mut trial);
     drop(trial);
     checked
 }
@@ -99,18 +149,18 @@ fn check_pushes<S: CellSet>(
     lookup: &mut Scratch,
     trial: &mut Trial<S>,
 ) -> Result<(), CheckFault>
-    requires tables { AreTables tables.now }
+    requires tables { AreFilled tables.now }
     requires start { IsCovered tables.now.board.now (list_of tables.now.groups) (start tables.now.board.now) }
     requires lookup { IsRoomy tables.now lookup.old }
     requires trial { trial.old ≡ tables.now.board.now.shape }
-    requires covered { AreNoted tables.now.board.now (list_of tables.now.groups) covered.now }
+    requires covered { AreNoted tables.now.board.now tables.now.groups covered.now }
     ensures ok { OnOk result ((pattern : PatternSet) → Contains (list_of tables.now.groups) pattern
         → CoversPushesOf tables.now.board.now (list_of tables.now.groups) pattern) }
     ensures exact { IfErr result (λ fault. fault ≢ CheckFault.Memory
         → IsFirstPatternFault tables.now.board.now (lines_in tables.now.groups.arena) fault) }
 {
     for line in 0..tables.groups.arena.lines.len() {
-        if covered[line] {
+        if covered[tables.groups.of[line]] {
             continue;
         }
         if let Some(push) = trial.first_push(tables, line, lookup) {
@@ -149,7 +199,7 @@ impl<S: CellSet> Trial<S> {
     // Returns the first push out of the pattern of a line whose result isn't covered.
     fn first_push(&mut self, tables: &Tables<S>, line: usize, lookup: &mut Scratch) -> Option<Push>
         requires shape { self.old ≡ tables.now.board.now.shape }
-        requires tables { AreTables tables.now }
+        requires tables { AreFilled tables.now }
         requires line { line < length tables.now.groups.arena.lines.items }
         requires lookup { IsRoomy tables.now lookup.old }
         ensures shape { self.new ≡ tables.now.board.now.shape }
@@ -211,7 +261,7 @@ fn first_uncovered<S: CellSet>(
     lookup: &mut Scratch,
     moving: &mut S,
 ) -> Option<Push>
-    requires tables { AreTables tables.now }
+    requires tables { AreFilled tables.now }
     requires boxes { S.extent boxes.now ≡ tables.now.board.now.shape }
     requires region { S.extent region.now ≡ tables.now.board.now.shape }
     requires lookup { IsRoomy tables.now lookup.old }
@@ -240,7 +290,7 @@ fn is_covered_after<S: CellSet>(
     lookup: &mut Scratch,
     boxes: &mut S,
 ) -> bool
-    requires tables { AreTables tables.now }
+    requires tables { AreFilled tables.now }
     requires lookup { IsRoomy tables.now lookup.old }
     requires boxes { S.extent boxes.old ≡ tables.now.board.now.shape }
     requires from_on { IsOn tables.now.board.now.shape push.from }

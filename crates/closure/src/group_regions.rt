@@ -14,6 +14,7 @@ ghost use Rattle.closure.specs.Sides.{IsAround, cell_no, cells_in};
 
 use crate::groups::Groups;
 use crate::sides::Sides;
+use crate::trap::is_trapped;
 use board::Board;
 use cellset::{Cell, CellSet, Shape};
 use reach::Rows;
@@ -43,16 +44,16 @@ struct Flood {
     whole: bool,
 }
 
-// Finds the region of each group, one flood for each.
+// Finds the region of each group without a box on the trap, one flood for each.
 pub(crate) fn find_regions<S: CellSet>(
     alloc: Global,
     board: &Board<S>,
     groups: &Groups,
-    root: Cell,
+    trap: &Rows,
 ) -> Result<Regions, AllocError>
     requires lawful { AreLawful board.now (list_of groups.now) }
     requires groups { IsGrouped groups.now }
-    ensures { IfOk result (AreRegions board.now groups.now root) }
+    ensures { IfOk result (AreRegions board.now trap.now.members groups.now) }
 {
     let room = board.rows();
     let mut sides = vec![in alloc; Sides::default(); groups.arena.boxes.len()]?;
@@ -60,10 +61,17 @@ pub(crate) fn find_regions<S: CellSet>(
     let mut flood = Flood::new(alloc, board.shape())?;
     for group in 0..groups.spans.len() {
         let boxes = groups.boxes(group);
+        if is_trapped(boxes, trap) {
+            of.push_reserved(Region {
+                has_root: false,
+                whole: false,
+            });
+            continue;
+        }
         flood.take_out(room, boxes);
         let whole = flood.find_region(groups, group);
         flood.note_sides(boxes, groups.spans[group].from, &mut sides);
-        let has_root = flood.region.has(root);
+        let has_root = flood.region.has(board.player());
         of.push_reserved(Region { has_root, whole });
     }
     drop(flood);
@@ -99,7 +107,9 @@ impl Flood {
         }
     }
 
-    // Returns whether free corners join the free neighbours of a cell, with one gap at most. If they don't, a longer way may.
+    // Returns whether the free cells around a cell join its free neighbours. If they don't, a longer way may.
+    //
+    // Going round the cell, each neighbour is linked to the next one by the corner between them, or not. One missing link is allowed.
     #[inline]
     fn are_sides_joined(&self, cell: Cell) -> bool
         requires cell { IsOn self.now.free.extent cell }

@@ -1,4 +1,4 @@
-//! The quick coverage.
+//! A coverage that looks states up in tables.
 ghost use Rattle.std.specs.Prelude.{◌≡◌, ◌↔◌, IfOk, map};
 ghost use Rattle.board.specs.Game.{State};
 ghost use Rattle.answers.specs.Grammar.{said_pattern};
@@ -12,6 +12,7 @@ use crate::tables::Tables;
 use answers::Pattern;
 use board::Board;
 use cellset::{Cell, CellSet};
+use reach::Rows;
 use std::alloc::{AllocError, Global};
 use std::marker::Model;
 
@@ -25,7 +26,7 @@ pub struct Index<'a, S: CellSet> {
 impl<'a, S: CellSet> Model for Index<'a, S> {
     ghost use Rattle.closure.specs.Index.{Listed, coded_listed};
     ghost use Rattle.closure.specs.Arena.{lines_in};
-    ghost use Rattle.closure.specs.Tables.{AreTables, IsRoomy};
+    ghost use Rattle.closure.specs.Tables.{AreFilled, IsRoomy};
 
     ghost Value = { Listed };
 
@@ -33,7 +34,7 @@ impl<'a, S: CellSet> Model for Index<'a, S> {
 
     ghost view = { λ index. record { level = index.tables.board.now; lines = lines_in index.tables.groups.arena } };
 
-    ghost invariant = { λ index. AreTables index.tables × IsRoomy index.tables index.scratch };
+    ghost invariant = { λ index. AreFilled index.tables × IsRoomy index.tables index.scratch };
 }
 
 impl<'a, S: CellSet> Index<'a, S> {
@@ -51,7 +52,9 @@ impl<'a, S: CellSet> Index<'a, S> {
             ↔ IsCovered board.now (patterns_of (map said_pattern patterns.now)) s) }
     {
         let arena = arena_of(alloc, board.shape(), patterns)?;
-        let tables = Tables::build(alloc, board, arena)?;
+        let trap = Rows::new(alloc, board.shape())?;
+        let mut tables = Tables::build(alloc, board, arena, trap)?;
+        tables.fill(alloc)?;
         let scratch = Scratch::new(alloc, &tables)?;
         Ok(Index { tables, scratch })
     }

@@ -11,21 +11,24 @@
 //!
 //! 1. Its lines are added one after another (`pattern_list`). Each becomes cells in one arena (`arena`, `cell_patterns`), and is checked for
 //!    its own faults (`lawful`). After a line at fault none is added.
-//! 2. A list of single boxes with `*` is closed if its cells are a trap. Rows of bits decide it (`checking`, `singles`).
-//! 3. An index is built (`index`, `tables`). Lines with the same boxes are one group, found by a hash (`groups`, `hints`, `chains`). One
-//!    flood for each group finds on which sides of its boxes its region lies (`group_regions`, `sides`), unless all that is free is in one
-//!    piece or a line says `*`. A breadth-first search builds a spanning tree of the room (`tree`). Each group is in the bucket of one of
-//!    its boxes.
-//! 4. The start is looked up (`lookup`).
-//! 5. Each push out of each group is looked up (`pushes`). A hash finds the group of just the boxes after the push, and one side of
-//!    the pushed box decides. If that fails, the state is looked up among all groups.
+//! 2. The cells of its lines of one box with `*` may be a trap, which no box leaves (`trap`). If a box of the start and one of each line are
+//!    on it, the list is closed.
+//! 3. Tables are built (`tables`). Lines with the same boxes are one group, found by a hash (`groups`, `hints`, `chains`). One flood for
+//!    each group off the trap finds on which sides of its boxes its region lies (`group_regions`, `sides`), unless all that is free is in one
+//!    piece or a line says `*`.
+//! 4. Each push out of each group is tried (`pushes`). If it leads to the trap, it is covered. Otherwise a hash finds the group of just the
+//!    boxes after the push, and one side of the pushed box decides. If that settles all pushes, and the start is found as quickly, the list
+//!    is closed (`checking`). This is so for nearly every list that a program writes.
+//! 5. Otherwise the tables are filled. A breadth-first search builds a spanning tree of the room (`tree`), and each group goes into the
+//!    bucket of its first box. The start and the pushes that are left are looked up among all groups (`lookup`).
 //! 6. If a push isn't covered, the lines of its group are gone through again, with one flood each, up to the first fault (`region`).
 //!
-//! So a list takes at most 2n floods. A lookup goes through the buckets of the state's boxes. A group costs a look at its boxes. If
+//! So a list takes at most 2n floods, and n more for a list with a trap that has to be looked up. A lookup goes through the buckets of the
+//! state's boxes. A group costs a look at its boxes. If
 //! they match and the region is parted, the player's path to the root is walked, once for each lookup: at most as many steps as
 //! the room has cells. In the worst case a lookup looks at each group.
 //!
-//! `Scan` answers the same questions as the index, line by line (`coverage`, `scan`). Zones are `zone`'s, and `cells` has the loops over
+//! `Index` answers lookups alone (`index`), and `Scan` answers the same questions line by line (`coverage`, `scan`). Zones are `zone`'s, and `cells` has the loops over
 //! lists of cells. `fault` has the faults, and `laws` what follows from an answer.
 #![tactic(auto)]
 
@@ -48,8 +51,8 @@ mod pushes;
 mod region;
 mod scan;
 mod sides;
-mod singles;
 mod tables;
+mod trap;
 mod tree;
 mod zone;
 

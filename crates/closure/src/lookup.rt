@@ -8,7 +8,7 @@ ghost use Rattle.cellset.specs.Cell.{IsOn};
 ghost use Rattle.cellset.specs.CellSet.{Has, Lacks};
 ghost use Rattle.closure.specs.Pattern.{InPatternRegion, Covers, IsCovered};
 ghost use Rattle.closure.specs.Sides.{cells_in};
-ghost use Rattle.closure.specs.Tables.{AreHits, AreTables, GroupCovers, IsReadyFor, IsRoomy, boxes_of, list_of, index_of, position_at};
+ghost use Rattle.closure.specs.Tables.{AreHits, AreFilled, GroupCovers, IsReadyFor, IsRoomy, boxes_of, list_of, index_of, position_at};
 
 use crate::cells::{number_of, stand_beside};
 use crate::tables::Tables;
@@ -49,10 +49,10 @@ impl Scratch {
 
 // Returns whether the player is in the region of a group. `hits` has the boxes on the player's path to the root.
 fn is_inside<S: CellSet>(tables: &Tables<S>, group: usize, player: Cell, hits: &[Hit]) -> bool
-    requires tables { AreTables tables.now }
+    requires tables { AreFilled tables.now }
     requires group { group < length tables.now.groups.spans.items }
     requires outside { Lacks (cells_in (boxes_of tables.now.groups group)) player }
-    requires hits { AreHits tables.now.board.now (cells_in (boxes_of tables.now.groups group)) player tables.now.tree.root hits.now }
+    requires hits { AreHits tables.now.board.now (cells_in (boxes_of tables.now.groups group)) player tables.now.board.now.player hits.now }
     ensures { IsTrue result ↔ InPatternRegion tables.now.board.now (position_at tables.now.board.now tables.now.groups group) player }
 {
     let boxes = tables.groups.boxes(group);
@@ -71,7 +71,7 @@ fn is_covering<S: CellSet>(
     query: &Query<S>,
     scratch: &mut Scratch,
 ) -> bool
-    requires tables { AreTables tables.now }
+    requires tables { AreFilled tables.now }
     requires group { group < length tables.now.groups.spans.items }
     requires player { Has tables.now.board.now.room query.now.player }
     requires extent { S.extent query.now.boxes.now ≡ tables.now.board.now.shape }
@@ -91,12 +91,12 @@ fn is_covering<S: CellSet>(
 
 // Walks the player's path to the root, unless it was walked.
 fn walk_to_root<S: CellSet>(tables: &Tables<S>, query: &Query<S>, scratch: &mut Scratch)
-    requires tables { AreTables tables.now }
+    requires tables { AreFilled tables.now }
     requires player { Has tables.now.board.now.room query.now.player }
     requires extent { S.extent query.now.boxes.now ≡ tables.now.board.now.shape }
     requires scratch { IsReadyFor tables.now (S.members query.now.boxes.now) query.now.player scratch.old }
     ensures scratch { IsReadyFor tables.now (S.members query.now.boxes.now) query.now.player scratch.new }
-    ensures hits { AreHits tables.now.board.now (S.members query.now.boxes.now) query.now.player tables.now.tree.root scratch.new.hits.items }
+    ensures hits { AreHits tables.now.board.now (S.members query.now.boxes.now) query.now.player tables.now.board.now.player scratch.new.hits.items }
 {
     if !scratch.walked {
         find_hits(tables, query.player, query.boxes, &mut scratch.hits);
@@ -111,7 +111,7 @@ pub(crate) fn is_any_covering<S: CellSet>(
     boxes: &S,
     scratch: &mut Scratch,
 ) -> bool
-    requires tables { AreTables tables.now }
+    requires tables { AreFilled tables.now }
     requires player { IsOn tables.now.board.now.shape player }
     requires boxes { S.extent boxes.now ≡ tables.now.board.now.shape }
     requires roomy { IsRoomy tables.now scratch.old }
@@ -140,7 +140,7 @@ pub(crate) fn is_any_covering<S: CellSet>(
 
 // Returns whether the group that covered the last state covers this one.
 fn is_last_covering<S: CellSet>(tables: &Tables<S>, query: &Query<S>, scratch: &mut Scratch) -> bool
-    requires tables { AreTables tables.now }
+    requires tables { AreFilled tables.now }
     requires player { Has tables.now.board.now.room query.now.player }
     requires extent { S.extent query.now.boxes.now ≡ tables.now.board.now.shape }
     requires scratch { IsReadyFor tables.now (S.members query.now.boxes.now) query.now.player scratch.old }
@@ -160,7 +160,7 @@ fn find_covering<S: CellSet>(
     query: &Query<S>,
     scratch: &mut Scratch,
 ) -> Option<usize>
-    requires tables { AreTables tables.now }
+    requires tables { AreFilled tables.now }
     requires player { Has tables.now.board.now.room query.now.player }
     requires extent { S.extent query.now.boxes.now ≡ tables.now.board.now.shape }
     requires scratch { IsReadyFor tables.now (S.members query.now.boxes.now) query.now.player scratch.old }
@@ -184,7 +184,7 @@ fn find_in_bucket<S: CellSet>(
     query: &Query<S>,
     scratch: &mut Scratch,
 ) -> Option<usize>
-    requires tables { AreTables tables.now }
+    requires tables { AreFilled tables.now }
     requires cell { IsOn tables.now.board.now.shape cell }
     requires player { Has tables.now.board.now.room query.now.player }
     requires extent { S.extent query.now.boxes.now ≡ tables.now.board.now.shape }
@@ -207,12 +207,12 @@ fn find_in_bucket<S: CellSet>(
 
 // Lists the boxes on the path from the player's cell to the root, in order. Allocates nothing.
 fn find_hits<S: CellSet>(tables: &Tables<S>, player: Cell, boxes: &S, hits: &mut Vec<Hit>)
-    requires tables { AreTables tables.now }
+    requires tables { AreFilled tables.now }
     requires player { Has tables.now.board.now.room player }
     requires boxes { S.extent boxes.now ≡ tables.now.board.now.shape }
     requires roomy { length tables.now.tree.nodes.items ≤ vec_capacity hits.old }
     ensures roomy { length tables.now.tree.nodes.items ≤ vec_capacity hits.new }
-    ensures hits { AreHits tables.now.board.now (S.members boxes.now) player tables.now.tree.root hits.new.items }
+    ensures hits { AreHits tables.now.board.now (S.members boxes.now) player tables.now.board.now.player hits.new.items }
 {
     // For the proof: the board is well formed.
     let _shape = tables.board.shape();

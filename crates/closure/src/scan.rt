@@ -1,4 +1,4 @@
-//! The plain coverage: it asks one pattern after another.
+//! A coverage that goes through its patterns, one after another.
 ghost use Rattle.std.specs.Prelude.{◌≡◌, ◌↔◌, IsTrue, IfOk, map};
 ghost use Rattle.std.specs.List.{All, AllZip};
 ghost use Rattle.cellset.specs.Cell.{IsOn};

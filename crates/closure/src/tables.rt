@@ -1,12 +1,14 @@
 //! The tables of an index: all that is kept of a list of patterns.
-ghost use Rattle.std.specs.Prelude.{◌≡◌, ◌+◌, ◌*◌, ◌<◌, ◌≤◌, ◌↔◌, ℕ, IfOk, IsTrue, length};
+ghost use Rattle.std.specs.Prelude.{◌≡◌, ◌+◌, ◌*◌, ◌<◌, ◌≤◌, ◌↔◌, IfOk, IsTrue, OnOk, length};
+ghost use Rattle.std.specs.FinSet as finset;
 ghost use Rattle.cellset.specs.CellSet.{Has, Lacks};
 ghost use Rattle.cellset.specs.declared.cell.Cell.{Cell as GridCell};
 ghost use Rattle.closure.specs.Pattern.{InPatternRegion};
 ghost use Rattle.closure.specs.Sides.{IsAround, cell_no, cells_in};
 ghost use Rattle.closure.specs.Closed.{AreLawful};
 ghost use Rattle.closure.specs.Arena.{list_in};
-ghost use Rattle.closure.specs.Tables.{AreBuckets, AreTables, IsGrouped, boxes_of, list_of, index_of, position_at};
+ghost use Rattle.closure.specs.Trap.{AreOff, IsTrapOf};
+ghost use Rattle.closure.specs.Tables.{AreBuckets, AreFilled, AreTables, IsGrouped, boxes_of, list_of, index_of, position_at};
 
 use crate::arena::Arena;
 use crate::chains::{Chains, chain};
@@ -16,9 +18,10 @@ use crate::sides::Sides;
 use crate::tree::{Tree, grow_tree, index_of};
 use board::Board;
 use cellset::{Cell, CellSet};
+use reach::Rows;
 use std::alloc::{AllocError, Global};
 
-// By index of a cell, the groups whose bucket it is. The bucket of a group is one of its boxes.
+// By index of a cell, the groups whose first box in reading order it is.
 #[derive(Drop)]
 pub(crate) struct Buckets {
     // By group, the index of its bucket.
@@ -26,10 +29,26 @@ pub(crate) struct Buckets {
     pub(crate) chains: Chains,
 }
 
-// A list of patterns on a board, grouped, with the regions of the groups, the room's spanning tree, and the buckets.
+impl Buckets {
+    // Returns no buckets.
+    fn new(alloc: Global) -> Buckets {
+        Buckets {
+            keys: Vec::new(alloc),
+            chains: Chains {
+                first: Vec::new(alloc),
+                next: Vec::new(alloc),
+            },
+        }
+    }
+}
+
+// A list of patterns on a board: its trap, its groups and their regions, except those of groups with a box on the trap.
+//
+// Only lookups need the rest: the room's spanning tree, the buckets, and the regions of all groups. It is filled in before the first one.
 #[derive(Drop)]
 pub(crate) struct Tables<'a, S: CellSet> {
     pub(crate) board: &'a Board<S>,
+    pub(crate) trap: Rows,
     pub(crate) groups: Groups,
     pub(crate) regions: Regions,
     pub(crate) tree: Tree,
@@ -37,29 +56,60 @@ pub(crate) struct Tables<'a, S: CellSet> {
 }
 
 impl<'a, S: CellSet> Tables<'a, S> {
-    // Builds the tables of a list of lawful patterns.
+    // Builds the tables of a list of lawful patterns, without what lookups need.
     pub(crate) fn build(
         alloc: Global,
         board: &'a Board<S>,
         arena: Arena,
+        trap: Rows,
     ) -> Result<Tables<'a, S>, AllocError>
-        requires { AreLawful board.now (list_in arena) }
+        requires lawful { AreLawful board.now (list_in arena) }
+        requires trap { IsTrapOf board.now (list_in arena) trap }
         ensures same { IfOk result (λ k. k.groups.arena ≡ arena) }
         ensures level { IfOk result (λ k. k.board.now ≡ board.now) }
         ensures tables { IfOk result AreTables }
     {
-        let root = root_of(board, &arena);
-        let tree = grow_tree(alloc, board, root)?;
+        // For the proof: the board is well formed.
+        let _shape = board.shape();
         let groups = group(alloc, arena)?;
-        let regions = find_regions(alloc, board, &groups, root)?;
-        let buckets = fill_buckets(alloc, board, &groups)?;
+        let regions = find_regions(alloc, board, &groups, &trap)?;
         Ok(Tables {
             board,
+            trap,
             groups,
             regions,
-            tree,
-            buckets,
+            tree: Tree::new(alloc),
+            buckets: Buckets::new(alloc),
         })
+    }
+
+    // Fills in what lookups need. From then on the trap has no cells.
+    pub(crate) fn fill(&mut self, alloc: Global) -> Result<(), AllocError>
+        requires { AreTables self.old }
+        ensures same { OnOk result (self.new.groups ≡ self.old.groups) }
+        ensures level { OnOk result (self.new.board.now ≡ self.old.board.now) }
+        ensures filled { OnOk result (AreFilled self.new) }
+    {
+        self.find_trapped(alloc)?;
+        self.tree = grow_tree(alloc, self.board)?;
+        self.buckets = fill_buckets(alloc, self.board, &self.groups)?;
+        Ok(())
+    }
+
+    // Empties the trap, and finds the regions that it left out.
+    fn find_trapped(&mut self, alloc: Global) -> Result<(), AllocError>
+        requires { AreTables self.old }
+        ensures same { OnOk result (self.new.groups ≡ self.old.groups) }
+        ensures level { OnOk result (self.new.board.now ≡ self.old.board.now) }
+        ensures off { OnOk result (self.new.trap.members ≡ finset.empty) }
+        ensures tables { OnOk result (AreTables self.new) }
+    {
+        if self.trap.is_empty() {
+            return Ok(());
+        }
+        self.trap.clear();
+        self.regions = find_regions(alloc, self.board, &self.groups, &self.trap)?;
+        Ok(())
     }
 
     // Returns on which sides of a box of a group the region of the group lies.
@@ -67,6 +117,7 @@ impl<'a, S: CellSet> Tables<'a, S> {
         requires tables { AreTables self.now }
         requires group { group < length self.now.groups.spans.items }
         requires number { number < length (boxes_of self.now.groups group) }
+        requires off { AreOff self.now.trap.members (boxes_of self.now.groups group) }
         ensures { IsAround (InPatternRegion self.now.board.now (position_at self.now.board.now self.now.groups group))
             (cell_no (boxes_of self.now.groups group) number) result }
     {
@@ -77,7 +128,8 @@ impl<'a, S: CellSet> Tables<'a, S> {
     pub(crate) fn has_root(&self, group: usize) -> bool
         requires tables { AreTables self.now }
         requires group { group < length self.now.groups.spans.items }
-        ensures { IsTrue result ↔ InPatternRegion self.now.board.now (position_at self.now.board.now self.now.groups group) self.now.tree.root }
+        requires off { AreOff self.now.trap.members (boxes_of self.now.groups group) }
+        ensures { IsTrue result ↔ InPatternRegion self.now.board.now (position_at self.now.board.now self.now.groups group) self.now.board.now.player }
     {
         self.regions.of[group].has_root
     }
@@ -93,22 +145,7 @@ impl<'a, S: CellSet> Tables<'a, S> {
     }
 }
 
-// Returns the root of the tree: the first seed that is listed, or the player's cell if no line lists any. Floods reach it early.
-fn root_of<S: CellSet>(board: &Board<S>, arena: &Arena) -> Cell
-    requires { AreLawful board.now (list_in arena.now) }
-    ensures { Has board.now.room result }
-{
-    // For the proof: the board is well formed.
-    let _shape = board.shape();
-    for line in 0..arena.lines.len() {
-        if let Some([seed, ..]) = arena.pattern(line).seeds {
-            return *seed;
-        }
-    }
-    board.player()
-}
-
-// Puts each group into the bucket of one of its boxes.
+// Puts each group into the bucket of its first box.
 fn fill_buckets<S: CellSet>(
     alloc: Global,
     board: &Board<S>,
@@ -119,45 +156,25 @@ fn fill_buckets<S: CellSet>(
     ensures { IfOk result (AreBuckets board.now groups.now) }
 {
     let cells = 256 * (usize::from(board.shape().height()) + 1);
-    let holders = count_holders(alloc, groups, cells)?;
     let mut keys = Vec::with_capacity(alloc, groups.spans.len())?;
     for group in 0..groups.spans.len() {
-        keys.push_reserved(rarest(groups.boxes(group), &holders));
+        keys.push_reserved(first_of(groups.boxes(group)));
     }
-    drop(holders);
     let chains = chain(alloc, &keys, cells)?;
     Ok(Buckets { keys, chains })
 }
 
-// Counts by index of a cell how many groups have a box there.
-fn count_holders(alloc: Global, groups: &Groups, cells: usize) -> Result<Vec<usize>, AllocError>
-    requires groups { IsGrouped groups.now }
-    requires inside { (g : ℕ) (c : GridCell) → g < length groups.now.spans.items → Has (cells_in (boxes_of groups.now g)) c → index_of c < cells }
-    ensures { IfOk result (λ v. length v.items ≡ cells) }
-{
-    let mut holders: Vec<usize> = vec![in alloc; 0; cells]?;
-    for group in 0..groups.spans.len() {
-        for cell in groups.boxes(group) {
-            let at = index_of(*cell);
-            holders[at] = holders[at].wrapping_add(1);
-        }
-    }
-    Ok(holders)
-}
-
-// Returns the index of the box that the fewest groups have.
-fn rarest(boxes: &[Cell], holders: &[usize]) -> usize
-    requires inside { (c : GridCell) → Has (cells_in boxes.now) c → index_of c < length holders.now }
-    requires few { length holders.now ≤ 65536 }
-    requires some { 0 < length boxes.now }
+// Returns the index of the first of the boxes in reading order.
+fn first_of(boxes: &[Cell]) -> usize
+    requires { 0 < length boxes.now }
     ensures { (c : GridCell) × Has (cells_in boxes.now) c × (result ≡ index_of c) }
 {
-    let mut best = index_of(boxes[0]);
+    let mut first = index_of(boxes[0]);
     for cell in boxes {
         let at = index_of(*cell);
-        if holders[at] < holders[best] {
-            best = at;
+        if at < first {
+            first = at;
         }
     }
-    best
+    first
 }

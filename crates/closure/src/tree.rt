@@ -1,6 +1,6 @@
 //! A spanning tree of the room, built by a breadth-first search.
 //!
-//! From each cell of the room a path leads from parent to parent to the root. Lookups follow it (`lookup`).
+//! From each cell of the room a path leads from parent to parent to the root, the player's cell at the start. Lookups follow it (`lookup`).
 ghost use Rattle.std.specs.Prelude.{◌≡◌, ◌+◌, ◌<◌, ◌≤◌, ℕ, IfOk, OnOk, length, slice_index_or};
 ghost use Rattle.std.specs.FinSet as set;
 ghost use Rattle.cellset.specs.Cell.{neighbor};
@@ -25,7 +25,6 @@ pub(crate) struct Node {
 // The cells of the room in the order in which the search reached them.
 #[derive(Drop)]
 pub(crate) struct Tree {
-    pub(crate) root: Cell,
     // By index of a cell, its number.
     pub(crate) numbers: Vec<usize>,
     pub(crate) nodes: Vec<Node>,
@@ -46,17 +45,11 @@ pub(crate) fn index_of(cell: Cell) -> usize
 }
 
 // Returns the tree of all cells of the room.
-pub(crate) fn grow_tree<S: CellSet>(
-    alloc: Global,
-    board: &Board<S>,
-    root: Cell,
-) -> Result<Tree, AllocError>
-    requires root { Has board.now.room root }
-    ensures root { IfOk result (λ t. t.root ≡ root) }
-    ensures spanning { IfOk result (IsTree board.now) }
+pub(crate) fn grow_tree<S: CellSet>(alloc: Global, board: &Board<S>) -> Result<Tree, AllocError>
+    ensures { IfOk result (IsTree board.now) }
 {
     let mut left = S::new(alloc, board.shape())?;
-    let mut tree = begin(alloc, board, root, &mut left)?;
+    let mut tree = begin(alloc, board, &mut left)?;
     let mut from = 0;
     while from < tree.nodes.len() {
         tree.join_around(board, &mut left, from)?;
@@ -66,19 +59,13 @@ pub(crate) fn grow_tree<S: CellSet>(
 }
 
 // Returns the tree of the root alone. The other cells of the room are left.
-fn begin<S: CellSet>(
-    alloc: Global,
-    board: &Board<S>,
-    root: Cell,
-    left: &mut S,
-) -> Result<Tree, AllocError>
-    requires root { Has board.now.room root }
-    requires extent { S.extent left.old ≡ board.now.shape }
+fn begin<S: CellSet>(alloc: Global, board: &Board<S>, left: &mut S) -> Result<Tree, AllocError>
+    requires { S.extent left.old ≡ board.now.shape }
     ensures extent { S.extent left.new ≡ board.now.shape }
-    ensures root { IfOk result (λ t. t.root ≡ root) }
     ensures growing { IfOk result (IsGrowing board.now (S.members left.new)) }
 {
     let shape = board.shape();
+    let root = board.player();
     left.copy_from(board.room());
     left.remove(root);
     let height = usize::from(shape.height());
@@ -90,14 +77,18 @@ fn begin<S: CellSet>(
         dir: Dir::L,
         parent: 0,
     })?;
-    Ok(Tree {
-        root,
-        numbers,
-        nodes,
-    })
+    Ok(Tree { numbers, nodes })
 }
 
 impl Tree {
+    // Returns a tree without nodes.
+    pub(crate) fn new(alloc: Global) -> Tree {
+        Tree {
+            numbers: Vec::new(alloc),
+            nodes: Vec::new(alloc),
+        }
+    }
+
     // Adds the neighbours of a node that are left.
     fn join_around<S: CellSet>(
         &mut self,
@@ -109,7 +100,6 @@ impl Tree {
         requires growing { IsGrowing board.now (S.members left.old) self.old }
         requires from { from < length self.old.nodes.items }
         ensures extent { OnOk result (S.extent left.new ≡ board.now.shape) }
-        ensures root { OnOk result (self.new.root ≡ self.old.root) }
         ensures growing { OnOk result (IsGrowing board.now (S.members left.new) self.new) }
         ensures longer { OnOk result (length self.old.nodes.items ≤ length self.new.nodes.items) }
         ensures sum { OnOk result (set.len (S.members left.new) + length self.new.nodes.items ≡ set.len (S.members left.old) + length self.old.nodes.items) }
@@ -135,7 +125,6 @@ impl Tree {
         requires growing { IsGrowing board.now (S.members left.old) self.old }
         requires from { from < length self.old.nodes.items }
         ensures extent { S.extent left.new ≡ board.now.shape }
-        ensures root { self.new.root ≡ self.old.root }
         ensures growing { OnOk result (IsGrowing board.now (S.members left.new) self.new) }
         ensures longer { OnOk result (length self.old.nodes.items ≤ length self.new.nodes.items) }
         ensures sum { OnOk result (set.len (S.members left.new) + length self.new.nodes.items ≡ set.len (S.members left.old) + length self.old.nodes.items) }

@@ -1,7 +1,9 @@
--- The invariant says that the list covers the pushes out of each line so far. A line that is noted is right by the precondition. For any
+-- The invariant says that the list covers the pushes out of each line so far. The note of its group is right for a line (`pattern_of_group` in
+-- `GroupPushes.antt`). For any
 -- other line `first_push` decides. If it returns a push, that is the line's first one whose result isn't covered, and the lines before
 -- it are fine, so it is the first fault of the list (`FirstLines.antt`).
-use Rattle.std.proofs.Common.{ℕ, ◌<◌, length, refl, sym, ◌∙◌, ap, subst, arith}
+use Rattle.std.proofs.Common.{◌≡◌, false, ℕ, ◌<◌, length, get_or, refl, sym, ◌∙◌, ap, subst, arith}
+use Rattle.std.specs.Prelude.{IsTrue, slice_index}
 use Rattle.std.proofs.lemmas.List.{get_or-map, length-map}
 use Rattle.answers.specs.Body.{PatternLine}
 use Rattle.closure.specs.Arena.{line_at, line_in, lines_in, pattern_at}
@@ -11,6 +13,8 @@ use Rattle.closure.specs.Pattern.{Pattern, pattern_of}
 use Rattle.closure.specs.Tables.{list_of}
 use Rattle.closure.specs.declared.arena.StoredLine.{StoredLine}
 use Rattle.closure.proofs.Arenas.{list_long}
+use Rattle.closure.proofs.CellLists.{at_any}
+use Rattle.closure.proofs.GroupPushes.{pattern_of_group}
 use Rattle.closure.proofs.FirstLines.{each_pattern, one_more, first_line}
 use Rattle.closure.proofs.checking.check_pushes.Goals as goal
 
@@ -27,10 +31,10 @@ returns-in-Some-clause-exact g c = λ _.
     let test = c.loop-line-test.true in
     let len = c.len-line-end.ensures in
     let within : line < length arena.lines.items = omega (arith, test, len) in
-    let number = ap (λ (l : PatternLine). l.line) (get_or-map here arena.lines.items line c.index.result.now read within)
-    ∙ ap (λ (l : StoredLine). l.number) (sym c.index.ensures) in
+    let number = ap (λ (l : PatternLine). l.line) (get_or-map here arena.lines.items line c.index-in-Some.result.now read within)
+    ∙ ap (λ (l : StoredLine). l.number) (sym c.index-in-Some.ensures) in
     let low : line < length (lines_in arena) = rw (length-map arena.lines.items here) within in (
-      c.requires.tables.lawful,
+      c.requires.tables.are.lawful,
       c.requires.start,
       subst (IsFirstFaultyLine (λ l. CoversPushesOf level patterns (pattern_of l)) (λ l. Faulty (pattern_of l)) (lines_in arena)) number
           (first_line (CoversPushesOf level patterns) Faulty (lines_in arena) line _ read low c.loop-line.invariant.covered
@@ -55,3 +59,25 @@ returns-clause-ok g c =
     let end = c.loop-line-test.false in
     let len = c.len-line-end.ensures in
     each_pattern (CoversPushesOf c.args.tables.now.board.now patterns) patterns c.loop-line.line _ (omega (arith, long, end, len)) c.loop-line.invariant.covered
+
+pub loop-line-preserved-then-covered-index : goal.loop-line-preserved-then-covered-index
+loop-line-preserved-then-covered-index g c =
+    let level = c.args.tables.now.board.now in
+    let groups = c.args.tables.now.groups in
+    let grouped = c.requires.tables.are.grouped in
+    let of = groups.of.items in
+    let line = c.loop-line.line in
+    let test = c.loop-line-test.true in
+    let len = c.len-line-end.ensures in
+    let lt : line < length groups.arena.lines.items = omega (arith, test, len) in
+    let long = grouped.all.long in
+    let into = grouped.all.into line lt in
+    let notes = c.requires.covered.long in
+    let read : c.index.result.now ≡ slice_index of line = c.index.ensures ∙ at_any of line c.index.result.now 0 (omega (arith, lt, long)) in
+    record {
+      shape = c.loop-line.invariant.shape;
+      lookup = c.loop-line.invariant.lookup;
+      covered = one_more (λ (j : ℕ). CoversPushesOf level (list_of groups) (pattern_at (list_of groups) j)) line c.loop-line.invariant.covered
+          (pattern_of_group level groups grouped line lt (c.requires.covered.covers (slice_index of line) (omega (arith, into, notes))
+          (subst (λ (k : ℕ). IsTrue (get_or c.args.covered.now k false)) read c.if-covered-index.true)));
+    }

@@ -4,12 +4,13 @@
 -- group come after those of earlier groups, so their sides stay when its own are noted.
 use Rattle.std.proofs.Common.{◌≡◌, ℕ, ◌+◌, ◌-◌, ◌<◌, ◌≤◌, List, drop, length, get_or, sym, ◌∙◌, ap, subst, inl, inr, arith}
 use Rattle.std.proofs.lemmas.List.{length-drop, length-take}
-use Rattle.std.proofs.lemmas.Bool.{cases_lt}
-use Rattle.std.specs.Prelude.{◌↔◌}
+use Rattle.std.proofs.lemmas.Bool.{cases_lt, false≢true}
+use Rattle.std.specs.Prelude.{◌↔◌, IsTrue, false}
 use Rattle.cellset.specs.Shape.{Extent}
 use Rattle.cellset.specs.Cell.{IsOn, neighbor}
 use Rattle.cellset.specs.CellSet.{Cells, CellsOn, Has, Lacks}
 use Rattle.cellset.specs.declared.cell.Cell.{Cell}
+use Rattle.cellset.proofs.Members.{not_both}
 use Rattle.cellset.proofs.Truth.{either}
 use Rattle.board.specs.Game.{Level}
 use Rattle.closure.specs.Pattern.{InPatternRegion}
@@ -18,6 +19,7 @@ use Rattle.closure.specs.Spans.{AreSpans, part, span_at}
 use Rattle.closure.specs.Closed.{AreLawful}
 use Rattle.closure.specs.Around.{IsOnePiece}
 use Rattle.closure.specs.Tables.{IsGrouped, AreSidesAt, IsRegionAt, boxes_of, list_of, position_at}
+use Rattle.closure.specs.Trap.{AreOff}
 use Rattle.closure.specs.declared.groups.Groups.{Groups}
 use Rattle.closure.specs.declared.group_regions.Region.{Region}
 use Rattle.closure.specs.declared.arena.Span.{Span}
@@ -119,7 +121,7 @@ pub loop-group-preserved : goal.loop-group-preserved
 loop-group-preserved g c =
     let level = c.args.board.now in
     let groups = c.args.groups.now in
-    let root = c.args.root in
+    let trap = c.args.trap.now.members in
     let n = c.loop-group.group in
     let inv = c.loop-group.invariant in
     let lt = subst (λ (k : ℕ). n < k) (c.len-group-end.ensures ∙ groups.spans.ok.0) c.loop-group-test.true in
@@ -141,29 +143,61 @@ loop-group-preserved g c =
     let of = c.loop-group.of.items in
     let new : Region = record { has_root = c.has-has_root.result; whole = c.find_region-whole.result } in
     let count = inv.count in
-    let here : IsRegionAt level groups root n new = record {
-      root_in = through c.has-has_root.ensures (position root);
+    let here : IsRegionAt level trap groups n new = record {
+      root_in = λ _. subst (λ (q : Cell). IsTrue c.has-has_root.result ↔ InPatternRegion level (position_at level groups n) q) c.player.ensures.value
+          (through c.has-has_root.ensures (position c.player.result));
       all = λ yes q in_room lacks. (position q).0 (subst (λ (s : Cells). Has s q) (sym (found.all yes)) ((is_free q).1 (in_room, lacks)));
     } in
     record {
       free_on = ap (λ (s : CellsOn). s.extent) found.same.0 ∙ (out.0 ∙ inv.free_on);
       region_on = found.same.1 ∙ (ap (λ (s : CellsOn). s.extent) out.1 ∙ inv.region_on);
       long = c.note_sides.ensures.long ∙ inv.long;
-      count = ap (λ (l : List Region). length l) c.push_reserved.ensures.items ∙ (length_more of new ∙ ap (λ (k : ℕ). k + 1) count);
-      roomy = subst (λ (k : ℕ). length spans ≤ k) (sym c.push_reserved.ensures.capacity) inv.roomy;
+      count = ap (λ (l : List Region). length l) c.push_reserved-in-loop-group.ensures.items ∙ (length_more of new ∙ ap (λ (k : ℕ). k + 1) count);
+      roomy = subst (λ (k : ℕ). length spans ≤ k) (sym c.push_reserved-in-loop-group.ensures.capacity) inv.roomy;
       sides = λ k low. elim (cases_lt k n) [
-        | inl before ↦ λ i within.
+        | inl before ↦ λ off i within.
             let end = span_end cells spans inside k (omega (arith, before, lt)) in
             let apart = inside.apart n k lt before in
             subst (IsAround (InPatternRegion level (position_at level groups k)) (cell_no (boxes_of groups k) i))
-            (sym (c.note_sides.ensures.kept ((span_at spans k).from + i) (omega (arith, end, apart, within, from)))) (inv.sides k before i within)
+            (sym (c.note_sides.ensures.kept ((span_at spans k).from + i) (omega (arith, end, apart, within, from)))) (inv.sides k before off i within)
         | inr past ↦
             let same : n ≡ k = omega (arith, low, past) in
-            subst (λ (j : ℕ). AreSidesAt level groups j sides) same (λ i within d. through (noted i within d) (position (neighbor (cell_no (boxes_of groups n) i) d)))
+            subst (λ (j : ℕ). AreSidesAt level trap groups j sides) same (λ _ i within d. through (noted i within d) (position (neighbor (cell_no (boxes_of groups n) i) d)))
       ];
-      each = λ k r low. subst (λ (l : List Region). IsRegionAt level groups root k (get_or l k r)) (sym c.push_reserved.ensures.items)
-          (each_more (IsRegionAt level groups root) of new r (λ i before. inv.each i r (omega (arith, before, count)))
-          (subst (λ (i : ℕ). IsRegionAt level groups root i new) (sym count) here) k (omega (arith, low, count)));
+      each = λ k r low. subst (λ (l : List Region). IsRegionAt level trap groups k (get_or l k r)) (sym c.push_reserved-in-loop-group.ensures.items)
+          (each_more (IsRegionAt level trap groups) of new r (λ i before. inv.each i r (omega (arith, before, count)))
+          (subst (λ (i : ℕ). IsRegionAt level trap groups i new) (sym count) here) k (omega (arith, low, count)));
+    }
+
+pub loop-group-preserved-then-is_trapped : goal.loop-group-preserved-then-is_trapped
+loop-group-preserved-then-is_trapped g c =
+    let level = c.args.board.now in
+    let groups = c.args.groups.now in
+    let trap = c.args.trap.now.members in
+    let n = c.loop-group.group in
+    let inv = c.loop-group.invariant in
+    let met = c.if-is_trapped.ensures in
+    let on : AreOff trap (boxes_of groups n) → ⊥ = λ off. not_both trap met.0 met.2
+    (off met.0 (subst (λ (l : List Cell). Has (cells_in l) met.0) c.boxes-boxes.ensures met.1)) in
+    let of = c.loop-group.of.items in
+    let new : Region = record { has_root = false; whole = false } in
+    let count = inv.count in
+    let here : IsRegionAt level trap groups n new = record { root_in = λ off. absurd (on off); all = λ yes. absurd (false≢true yes) } in
+    record {
+      free_on = inv.free_on;
+      region_on = inv.region_on;
+      long = inv.long;
+      count = ap (λ (l : List Region). length l) c.push_reserved.ensures.items ∙ (length_more of new ∙ ap (λ (k : ℕ). k + 1) count);
+      roomy = subst (λ (k : ℕ). length groups.spans.items ≤ k) (sym c.push_reserved.ensures.capacity) inv.roomy;
+      sides = λ k low. elim (cases_lt k n) [
+        | inl before ↦ inv.sides k before
+        | inr past ↦
+            let same : n ≡ k = omega (arith, low, past) in
+            λ off. absurd (on (subst (λ (j : ℕ). AreOff trap (boxes_of groups j)) (sym same) off))
+      ];
+      each = λ k r low. subst (λ (l : List Region). IsRegionAt level trap groups k (get_or l k r)) (sym c.push_reserved.ensures.items)
+          (each_more (IsRegionAt level trap groups) of new r (λ i before. inv.each i r (omega (arith, before, count)))
+          (subst (λ (i : ℕ). IsRegionAt level trap groups i new) (sym count) here) k (omega (arith, low, count)));
     }
 
 pub boxes-boxes-requires : goal.boxes-boxes-requires

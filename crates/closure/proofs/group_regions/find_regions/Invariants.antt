@@ -10,6 +10,6 @@ invariant-loop-group g l = record {
   long : length l.sides.items ≡ length l.groups.arena.boxes.items;
   count : length l.of.items ≡ l.group;
   roomy : length l.groups.spans.items ≤ vec_capacity l.of;
-  sides : (k : ℕ) → k < l.group → AreSidesAt l.board l.groups k l.sides.items;
-  each : (k : ℕ) (r : Region) → k < l.group → IsRegionAt l.board l.groups l.root k (slice_index_or l.of.items k r);
+  sides : (k : ℕ) → k < l.group → AreSidesAt l.board l.trap.members l.groups k l.sides.items;
+  each : (k : ℕ) (r : Region) → k < l.group → IsRegionAt l.board l.trap.members l.groups k (slice_index_or l.of.items k r);
 }

@@ -16,7 +16,7 @@ returns-then-not-contains-clause-exact g c =
     let s : State = record { player = c.args.player; boxes = g.S.CellSet.members c.args.boxes.now } in (
       λ h. absurd (false≢true h),
       λ covered.
-          let inside = player_in_room c.args.tables.now c.requires.tables s c.shape-shape.ensures.formed covered in
+          let inside = player_in_room c.args.tables.now c.requires.tables.are s c.shape-shape.ensures.formed covered in
           absurd (not_both (g.S.CellSet.members c.room.result.now) c.args.player (subst (λ (t : Cells). Has t c.args.player) (sym c.room.ensures.members)
           inside) (sym c.if-not-contains.ensures)),
     )
@@ -27,7 +27,7 @@ returns-then-is_last_covering-clause-exact g c = (λ _. c.is_last_covering.ensur
 pub returns-in-Some-clause-exact : goal.returns-in-Some-clause-exact
 returns-in-Some-clause-exact g c =
     let s : State = record { player = c.args.player; boxes = g.S.CellSet.members c.args.boxes.now } in (
-      λ _. covered_of_group c.args.tables.now.board.now c.args.tables.now.groups c.requires.tables.grouped s c.in-Some.group c.in-Some.ensures.found.1,
+      λ _. covered_of_group c.args.tables.now.board.now c.args.tables.now.groups c.requires.tables.are.grouped s c.in-Some.group c.in-Some.ensures.found.1,
       λ _. refl,
     )
 
@@ -35,7 +35,7 @@ pub returns-in-None-clause-exact : goal.returns-in-None-clause-exact
 returns-in-None-clause-exact g c =
     let s : State = record { player = c.args.player; boxes = g.S.CellSet.members c.args.boxes.now } in (
       λ h. absurd (false≢true h),
-      λ covered. absurd (no_group_covers c.args.tables.now c.requires.tables s c.in-None.ensures.found covered),
+      λ covered. absurd (no_group_covers c.args.tables.now c.requires.tables.are s c.in-None.ensures.found covered),
     )
 
 pub is_last_covering-requires-clause-player : goal.is_last_covering-requires-clause-player

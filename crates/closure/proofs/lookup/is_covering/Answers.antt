@@ -18,7 +18,7 @@ use Rattle.closure.proofs.lookup.is_covering.Goals as goal
 
 pub stand_beside-requires : goal.stand_beside-requires
 stand_beside-requires g c = λ k d low.
-    rw c.requires.extent (boxes_on c.args.tables.now.board.now c.args.tables.now.groups c.requires.tables.lawful c.requires.tables.grouped c.args.group
+    rw c.requires.extent (boxes_on c.args.tables.now.board.now c.args.tables.now.groups c.requires.tables.are.lawful c.requires.tables.are.grouped c.args.group
     c.requires.group c.boxes.result.now c.boxes.ensures _ (in_list c.boxes.result.now k d low))
 
 pub is_inside-requires-clause-outside : goal.is_inside-requires-clause-outside
@@ -33,7 +33,7 @@ pub is_inside-requires-clause-hits : goal.is_inside-requires-clause-hits
 is_inside-requires-clause-hits g c = λ pattern within lacks.
     let Beside : Cell → Type 0 = λ q. Has (g.S.CellSet.members c.args.query.now.boxes.now) q × (q ≢ c.args.query.now.player) in
     let each = subst (All Beside) c.boxes.ensures (c.if-not-stand_beside.ensures.0 refl) in
-    subst (λ (l : List Hit). HitsDecide c.args.tables.now.board.now c.args.query.now.player c.args.tables.now.tree.root l pattern) (sym c.deref.ensures.value)
+    subst (λ (l : List Hit). HitsDecide c.args.tables.now.board.now c.args.query.now.player c.args.tables.now.board.now.player l pattern) (sym c.deref.ensures.value)
     (c.walk_to_root.ensures.hits pattern (λ q has. (each_in Beside (boxes_of c.args.tables.now.groups c.args.group) each q (within q has)).0) lacks)
 
 pub returns-then-is_whole-clause-exact : goal.returns-then-is_whole-clause-exact

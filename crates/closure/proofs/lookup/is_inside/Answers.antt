@@ -10,10 +10,11 @@ use Rattle.cellset.specs.declared.dir.Dir.TheVariants.{L}
 use Rattle.cellset.specs.declared.cell.Cell.{Cell}
 use Rattle.closure.specs.Pattern.{InPatternRegion}
 use Rattle.closure.specs.Sides.{cell_no, cells_in}
-use Rattle.closure.specs.Tables.{position_at}
+use Rattle.closure.specs.Tables.{boxes_of, position_at}
 use Rattle.closure.specs.declared.tree.Hit.{Hit}
 use Rattle.closure.proofs.Turns.{through}
 use Rattle.closure.proofs.CellLists.{in_list, no_cell}
+use Rattle.closure.proofs.Traps.{none_off}
 use Rattle.closure.proofs.lookup.is_inside.Goals as goal
 
 pub returns-in-Some : goal.returns-in-Some
@@ -43,3 +44,9 @@ returns g c =
     let told = (c.requires.hits (position_at c.args.tables.now.board.now c.args.tables.now.groups c.args.group) (λ _ h. h) c.requires.outside).passed
     (λ j e lt. subst (λ (l : List Cell). Lacks (cells_in l) (get_or c.args.hits.now j e).cell) is (c.loop-found.invariant j e (omega (arith, low, lt)))) in
     through c.has_root.ensures (told.1, told.0)
+
+pub sides_of-requires-clause-off : goal.sides_of-requires-clause-off
+sides_of-requires-clause-off g c = none_off _ c.requires.tables.off (boxes_of c.args.tables.now.groups c.args.group)
+
+pub has_root-requires-clause-off : goal.has_root-requires-clause-off
+has_root-requires-clause-off g c = none_off _ c.requires.tables.off (boxes_of c.args.tables.now.groups c.args.group)

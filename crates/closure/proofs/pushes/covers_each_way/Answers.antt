@@ -2,31 +2,32 @@ use Rattle.std.proofs.Common.{◌≡◌, true, sym, ◌∙◌}
 use Rattle.std.proofs.lemmas.Bool.{false≢true}
 use Rattle.cellset.specs.declared.dir.Dir.{Dir}
 use Rattle.cellset.specs.declared.dir.Dir.TheVariants.{L, U, R}
-use Rattle.closure.specs.Tables.{CoversToward, list_of, pushed_cell}
+use Rattle.closure.specs.Tables.{CoversToward, list_of, position_at, pushed_cell}
 use Rattle.closure.proofs.GroupPushes.{covered_each_way}
 use Rattle.closure.proofs.pushes.covers_each_way.Goals as goal
 use Rattle.closure.proofs.pushes.covers_each_way.Goals.{then-covers_toward, else-covers_toward, then-covers_toward-2, else-covers_toward-2}
 
 pub returns-then-covers_toward-3-clause-covered : goal.returns-then-covers_toward-3-clause-covered
-returns-then-covers_toward-3-clause-covered g c = λ down pattern is.
+returns-then-covers_toward-3-clause-covered g c = λ down.
     let level = c.args.tables.now.board.now in
     let list = list_of c.args.tables.now.groups in
+    let position = position_at level c.args.tables.now.groups c.args.pushed.now.group in
     let cell = pushed_cell c.args.pushed.now in
-    let Covers : Dir → Type 0 = λ dir. CoversToward level list pattern cell dir in
+    let Covers : Dir → Type 0 = λ dir. CoversToward level list position cell dir in
     let right : (c.if-covers_toward.value ≡ true) × Covers R = elim c.if-covers_toward-2.branch [
       | then-covers_toward-2 w ↦ (
         w.if-covers_toward-2.true,
         w.covers_toward-then-covers_toward-2.ensures.covered (sym w.value-is ∙
-            c.if-covers_toward-3.true) pattern is,
+            c.if-covers_toward-3.true),
       )
       | else-covers_toward-2 w ↦ absurd (false≢true (sym w.if-covers_toward-2.false ∙ (sym w.value-is ∙ c.if-covers_toward-3.true)))
     ] in
     let two : Covers L × Covers U = elim c.if-covers_toward.branch [
       | then-covers_toward w ↦ (
-        c.covers_toward.ensures.covered w.if-covers_toward.true pattern is,
+        c.covers_toward.ensures.covered w.if-covers_toward.true,
         w.covers_toward-then-covers_toward.ensures.covered
-            (sym w.value-is ∙ right.0) pattern is,
+            (sym w.value-is ∙ right.0),
       )
       | else-covers_toward w ↦ absurd (false≢true (sym w.if-covers_toward.false ∙ (sym w.value-is ∙ right.0)))
     ] in
-    covered_each_way level list pattern cell two.0 two.1 right.1 (c.covers_toward-then-covers_toward-3.ensures.covered down pattern is)
+    covered_each_way level list position cell two.0 two.1 right.1 (c.covers_toward-then-covers_toward-3.ensures.covered down)

@@ -1,23 +1,47 @@
--- The invariant says that the list covers the pushes of each box so far out of the group, and that the state has the boxes of the group if
--- it is `loaded`. The boxes lie on the grid, and the tables have the sides of the next box on which the region lies (`sides_of`),
--- so `covers_each_way` may be called for it. Every push out of the group moves one of its boxes, so after the loop
--- the list covers them all (`covered_each_box`). The result false claims nothing.
-use Rattle.std.proofs.Common.{◌≡◌, refl, ap, subst, inl, inr, arith}
-use Rattle.std.proofs.lemmas.Bool.{cases_lt, false≢true}
+-- A group with a box on the trap needs no look (`trapped_pushes`). The invariant says that the list covers the pushes of each box so far out
+-- of any other group, and that the set, if there is one, has its boxes. The tables have the sides of the next box on which the region lies
+-- (`sides_of`), so `covers_each_way` may be called for it. Every push out of the group moves one of its boxes, so after the loop the list
+-- covers them all (`covered_each_box`). The result false claims nothing.
+use Rattle.std.proofs.Common.{◌≡◌, List, refl, ap, subst, inl, inr, arith}
+use Rattle.std.proofs.lemmas.Bool.{cases_lt}
+use Rattle.cellset.specs.CellSet.{Has}
+use Rattle.cellset.specs.declared.cell.Cell.{Cell}
 use Rattle.closure.specs.Sides.{cell_no, cells_in}
 use Rattle.closure.specs.Tables.{CoversFrom, list_of, position_at}
 use Rattle.closure.proofs.Grouped.{boxes_on}
-use Rattle.closure.proofs.GroupPushes.{covered_each_box}
+use Rattle.closure.proofs.GroupPushes.{covered_each_box, trapped_pushes}
 use Rattle.closure.proofs.pushes.covers_pushes_of.Goals as goal
 
+pub returns-then-is_trapped-clause-covered : goal.returns-then-is_trapped-clause-covered
+returns-then-is_trapped-clause-covered g c = λ _.
+    let met = c.if-is_trapped.ensures in
+    trapped_pushes c.args.tables.now c.requires.tables c.args.group c.requires.group met.0
+    (subst (λ (l : List Cell). Has (cells_in l) met.0) c.boxes-boxes.ensures met.1) met.2
+
+pub load_boxes-requires-clause-boxes : goal.load_boxes-requires-clause-boxes
+load_boxes-requires-clause-boxes g c = boxes_on c.args.tables.now.board.now c.args.tables.now.groups c.requires.tables.lawful c.requires.tables.grouped
+    c.args.group c.requires.group c.boxes-boxes.result.now c.boxes-boxes.ensures
+
+pub sides_of-sides-requires-clause-off : goal.sides_of-sides-requires-clause-off
+sides_of-sides-requires-clause-off g c = rw c.boxes-boxes.ensures at c.if-is_trapped.ensures
+
+pub covers_each_way-requires-clause-off : goal.covers_each_way-requires-clause-off
+covers_each_way-requires-clause-off g c = c.if-is_trapped.ensures
+
 pub covers_each_way-requires-clause-pushed : goal.covers_each_way-requires-clause-pushed
-covers_each_way-requires-clause-pushed g c =
-    let tables = c.requires.tables in
-    record {
-      number = c.loop-number-test.true;
-      on = boxes_on c.args.tables.now.board.now c.args.tables.now.groups tables.lawful tables.grouped c.args.group c.requires.group c.boxes-boxes.result.now
-          c.boxes-boxes.ensures;
-    }
+covers_each_way-requires-clause-pushed g c = record {
+  group = c.requires.group;
+  boxes = c.boxes-boxes.ensures;
+  number = c.loop-number-test.true;
+  sides = rw c.boxes-boxes.ensures c.sides_of-sides.ensures;
+}
+
+pub loop-number-init : goal.loop-number-init
+loop-number-init g c = record {
+  ready = c.load_boxes.ensures.ready;
+  loaded = c.load_boxes.ensures.loaded;
+  covered = λ i lt. absurd (omega (arith, lt));
+}
 
 pub loop-number-preserved : goal.loop-number-preserved
 loop-number-preserved g c =
@@ -32,10 +56,7 @@ loop-number-preserved g c =
         | inr past ↦
             let here : n ≡ i = omega (arith, lt, past) in
             subst (λ k. CoversFrom level (list_of groups) (position_at level groups c.args.group) (cell_no c.boxes-boxes.result.now k)) here
-            (c.if-not-covers_each_way.ensures.covered refl (position_at level groups c.args.group) (record {
-              boxes = ap cells_in c.boxes-boxes.ensures;
-              sides = rw c.boxes-boxes.ensures c.sides_of-sides.ensures;
-            }))
+            (c.if-not-covers_each_way.ensures.covered refl)
       ];
     }
 
@@ -45,10 +66,3 @@ returns-clause-covered g c = λ _.
     let groups = c.args.tables.now.groups in
     covered_each_box level (list_of groups) (position_at level groups c.args.group) c.boxes-boxes.result.now c.loop-number.number c.loop-number-test.false
     (ap cells_in c.boxes-boxes.ensures) c.loop-number.invariant.covered
-
-pub loop-number-init : goal.loop-number-init
-loop-number-init g c = record {
-  ready = c.requires.ready;
-  loaded = λ h. absurd (false≢true h);
-  covered = λ i lt. absurd (omega (arith, lt));
-}

@@ -1,18 +1,31 @@
-use Rattle.std.proofs.Common.{subst}
-use Rattle.cellset.specs.CellSet.{Cells}
+-- A push to the trap is covered (`toward_trap`). Any other one leaves no box on the trap, so hints and lookups may be asked of its result
+-- (`off_after`), and if one of its pushes in the direction is covered, so are all of them (`covered_one`).
+use Rattle.std.proofs.Common.{List, refl, subst}
+use Rattle.std.proofs.lemmas.Bool.{false≢true}
+use Rattle.cellset.specs.declared.cell.Cell.{Cell}
+use Rattle.cellset.proofs.Members.{lacks_where}
 use Rattle.closure.specs.Pattern.{IsCovered}
 use Rattle.closure.specs.Sides.{cells_in}
 use Rattle.closure.specs.Run.{state_after}
-use Rattle.closure.specs.Tables.{list_of, pushed_cell}
+use Rattle.closure.specs.Tables.{list_of, position_at, pushed_cell}
 use Rattle.closure.proofs.CellLists.{in_list, no_cell}
-use Rattle.closure.proofs.GroupPushes.{covered_one, push_in_box}
+use Rattle.closure.proofs.Grouped.{boxes_on}
+use Rattle.closure.proofs.GroupPushes.{covered_one, push_in_box, toward_trap}
+use Rattle.closure.proofs.Traps.{off_after}
 use Rattle.closure.proofs.pushes.covers_toward.Goals as goal
 
 pub is_hinted-requires-clause-back : goal.is_hinted-requires-clause-back
 is_hinted-requires-clause-back g c = c.in-Some.ensures.found.back
 
+pub is_hinted-requires-clause-off : goal.is_hinted-requires-clause-off
+is_hinted-requires-clause-off g c =
+    let trap = c.args.tables.now.trap.members in
+    off_after trap c.args.pushed.now.boxes.now c.in-Some.push.from c.in-Some.push.to c.requires.off
+    (lacks_where trap c.in-Some.push.to (λ has. false≢true (c.if-has.ensures.1 has)))
+
 pub is_found-requires-clause-boxes : goal.is_found-requires-clause-boxes
-is_found-requires-clause-boxes g c = c.requires.pushed.on
+is_found-requires-clause-boxes g c = boxes_on c.args.tables.now.board.now c.args.tables.now.groups c.requires.tables.lawful c.requires.tables.grouped
+    c.args.pushed.now.group c.requires.pushed.group c.args.pushed.now.boxes.now c.requires.pushed.boxes
 
 pub is_found-requires-clause-push : goal.is_found-requires-clause-push
 is_found-requires-clause-push g c =
@@ -20,17 +33,24 @@ is_found-requires-clause-push g c =
     push_in_box c.args.tables.now.board.now.shape (cells_in pushed.boxes.now) (pushed_cell pushed) c.args.dir c.in-Some.push
     (in_list pushed.boxes.now pushed.number no_cell c.requires.pushed.number) c.in-Some.ensures.free c.in-Some.ensures.found
 
+pub returns-then-has-clause-covered : goal.returns-then-has-clause-covered
+returns-then-has-clause-covered g c = λ _.
+    toward_trap c.args.tables.now c.requires.tables c.args.pushed.now.group c.requires.pushed.group (pushed_cell c.args.pushed.now) c.args.dir c.in-Some.push
+    c.in-Some.ensures.found (c.if-has.ensures.0 refl)
+
 pub returns-then-is_hinted-clause-covered : goal.returns-then-is_hinted-clause-covered
-returns-then-is_hinted-clause-covered g c = λ found pattern pushed.
-    let list = list_of c.args.tables.now.groups in
-    covered_one c.args.tables.now.board.now pattern (pushed_cell c.args.pushed.now) c.args.dir list c.in-Some.push c.in-Some.ensures.found
-    (subst (λ (s : Cells). IsCovered c.args.tables.now.board.now list (state_after s c.in-Some.push)) pushed.boxes (c.is_hinted.ensures found))
+returns-then-is_hinted-clause-covered g c = λ found.
+    let level = c.args.tables.now.board.now in
+    let groups = c.args.tables.now.groups in
+    covered_one level (position_at level groups c.args.pushed.now.group) (pushed_cell c.args.pushed.now) c.args.dir (list_of groups) c.in-Some.push
+    c.in-Some.ensures.found
+    (subst (λ (l : List Cell). IsCovered level (list_of groups) (state_after (cells_in l) c.in-Some.push)) c.requires.pushed.boxes (c.is_hinted.ensures found))
 
 pub returns-else-is_hinted-clause-covered : goal.returns-else-is_hinted-clause-covered
-returns-else-is_hinted-clause-covered g c = λ found pattern pushed.
-    let list = list_of c.args.tables.now.groups in
-    covered_one c.args.tables.now.board.now pattern (pushed_cell c.args.pushed.now) c.args.dir list c.in-Some.push c.in-Some.ensures.found
-    (subst (λ (s : Cells). IsCovered c.args.tables.now.board.now list (state_after s c.in-Some.push)) pushed.boxes (c.is_found.ensures.covered found))
-
-pub returns-in-None-clause-covered : goal.returns-in-None-clause-covered
-returns-in-None-clause-covered g c = λ _ pattern pushed push out from dir. absurd (c.in-None.ensures.found pattern pushed push out from dir)
+returns-else-is_hinted-clause-covered g c = λ found.
+    let level = c.args.tables.now.board.now in
+    let groups = c.args.tables.now.groups in
+    covered_one level (position_at level groups c.args.pushed.now.group) (pushed_cell c.args.pushed.now) c.args.dir (list_of groups) c.in-Some.push
+    c.in-Some.ensures.found
+    (subst (λ (l : List Cell). IsCovered level (list_of groups) (state_after (cells_in l) c.in-Some.push)) c.requires.pushed.boxes
+    (c.is_found.ensures.covered found))

@@ -4,12 +4,11 @@ use Rattle.closure.proofs.pushes.is_found.Goals as goal
 
 pub returns-clause-covered : goal.returns-clause-covered
 returns-clause-covered g c =
-    rw (c.insert.ensures.members, c.remove.ensures.members, c.load_once.ensures.loaded) at c.is_any_covering-covered.ensures.exact.0
+    let loaded = rw c.in-Some.is at c.requires.loaded in
+    rw (c.insert.ensures.members, c.remove.ensures.members, loaded) at c.is_any_covering-covered.ensures.exact.0
 
 pub returns-clause-loaded : goal.returns-clause-loaded
-returns-clause-loaded g c = λ _.
-    rw (c.insert-2.ensures.members, c.remove-2.ensures.members, c.insert.ensures.members, c.remove.ensures.members, c.load_once.ensures.loaded)
+returns-clause-loaded g c =
+    let loaded = rw c.in-Some.is at c.requires.loaded in
+    rw (c.insert-2.ensures.members, c.remove-2.ensures.members, c.insert.ensures.members, c.remove.ensures.members, loaded)
     (moved_back (cells_in c.args.boxes.now) c.args.push.from c.args.push.to c.requires.push.box c.requires.push.to_free)
-
-pub load_once-requires-clause-boxes : goal.load_once-requires-clause-boxes
-load_once-requires-clause-boxes g c = rw c.requires.ready.1 c.requires.boxes

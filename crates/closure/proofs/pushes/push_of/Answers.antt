@@ -1,60 +1,82 @@
--- Each way out that returns None shows that no push out of a pattern with this box moves it in the direction (`GroupPushes.antt`). If the
--- region doesn't lie on the side from which the box is pushed, or that side is off the grid, the player can't come there (`unreached`). If
--- the cell ahead is off the grid, or has a wall or a box, the box can't go there (`barred`). Otherwise the push is the one of this box in
--- the direction, and no box is on the cell ahead (`is_box`).
-use Rattle.std.proofs.Common.{refl, sym, ◌∙◌, ap, subst}
+-- Each way out that returns None shows that no push out of the group moves the box in the direction (`GroupPushes.antt`). If the region
+-- doesn't lie on the side from which the box is pushed, or that side is off the grid, the player can't come there (`unreached`). If the cell
+-- ahead is off the grid, or has a wall or a box, the box can't go there (`barred`). Otherwise the push is the one of this box in the
+-- direction. A cell of the region has no box (`region_lacks`), and any other cell ahead is compared with the boxes.
+use Rattle.std.proofs.Common.{List, refl, sym, ◌∙◌, ap, subst}
 use Rattle.std.proofs.lemmas.Bool.{false≢true}
 use Rattle.cellset.specs.Cell.{IsOn, neighbor, opposite}
-use Rattle.cellset.specs.CellSet.{Cells, Has}
-use Rattle.cellset.proofs.Members.{not_both}
+use Rattle.cellset.specs.CellSet.{Lacks}
+use Rattle.cellset.specs.declared.cell.Cell.{Cell}
 use Rattle.cellset.proofs.Neighbors.{neighbor_back}
-use Rattle.closure.specs.Tables.{pushed_cell}
+use Rattle.reach.specs.Region.{IsFree}
+use Rattle.closure.specs.Tables.{pushed_cell, position_at}
 use Rattle.closure.specs.Sides.{cells_in}
 use Rattle.closure.proofs.CellLists.{in_list, no_cell}
-use Rattle.closure.proofs.GroupPushes.{barred, region_on, unreached}
+use Rattle.closure.proofs.Grouped.{boxes_on}
+use Rattle.closure.proofs.GroupPushes.{barred, unreached}
+use Rattle.closure.proofs.Regions.{region_lacks, region_on}
 use Rattle.closure.proofs.pushes.push_of.Goals as goal
-use Rattle.closure.proofs.pushes.push_of.Goals.{then-contains-via-then-contains, then-contains-via-else-contains+then-is_box}
+use Rattle.closure.proofs.pushes.push_of.Goals.{else-not-has-2-via-then-not-has-2+else-not-is_free, else-not-has-2-via-else-not-has-2}
 
 pub step-requires : goal.step-requires
 step-requires g c =
-    rw c.shape-shape.ensures.value (c.requires.pushed.on _ (in_list c.args.pushed.now.boxes.now c.args.pushed.now.number no_cell c.requires.pushed.number))
+    let tables = c.requires.tables in
+    let pushed = c.args.pushed.now in
+    rw c.shape-shape.ensures.value (boxes_on c.args.tables.now.board.now c.args.tables.now.groups tables.lawful tables.grouped pushed.group
+    c.requires.pushed.group pushed.boxes.now c.requires.pushed.boxes _ (in_list pushed.boxes.now pushed.number no_cell c.requires.pushed.number))
 
 pub step-requires-2 : goal.step-requires-2
 step-requires-2 g c =
-    rw c.shape-shape.ensures.value (c.requires.pushed.on _ (in_list c.args.pushed.now.boxes.now c.args.pushed.now.number no_cell c.requires.pushed.number))
+    let tables = c.requires.tables in
+    let pushed = c.args.pushed.now in
+    rw c.shape-shape.ensures.value (boxes_on c.args.tables.now.board.now c.args.tables.now.groups tables.lawful tables.grouped pushed.group
+    c.requires.pushed.group pushed.boxes.now c.requires.pushed.boxes _ (in_list pushed.boxes.now pushed.number no_cell c.requires.pushed.number))
 
 pub returns-then-not-has-clause-found : goal.returns-then-not-has-clause-found
-returns-then-not-has-clause-found g c = λ pattern pushed. unreached c.args.board.now pattern _ c.args.dir
-    (λ inside. false≢true ((rw c.opposite.ensures at c.if-not-has.ensures) ∙ (pushed.sides (opposite c.args.dir)).1 inside))
+returns-then-not-has-clause-found g c = unreached c.args.tables.now.board.now
+    (position_at c.args.tables.now.board.now c.args.tables.now.groups c.args.pushed.now.group) _ c.args.dir
+    (λ inside. false≢true ((rw c.opposite.ensures at c.if-not-has.ensures) ∙ (c.requires.pushed.sides (opposite c.args.dir)).1 inside))
 
 pub returns-in_default-clause-found : goal.returns-in_default-clause-found
-returns-in_default-clause-found g c = λ pattern pushed. barred c.args.board.now pattern _ c.args.dir
+returns-in_default-clause-found g c = barred c.args.tables.now.board.now
+    (position_at c.args.tables.now.board.now c.args.tables.now.groups c.args.pushed.now.group) _ c.args.dir
     (λ free. c.in_default.ensures (rw c.shape-shape.ensures.value free.on))
 
 pub returns-in_default-step-clause-found : goal.returns-in_default-step-clause-found
-returns-in_default-step-clause-found g c = λ pattern pushed. unreached c.args.board.now pattern _ c.args.dir
-    (λ inside. c.in_default-step.ensures (rw (c.shape-shape.ensures.value, c.opposite-2.ensures) (region_on c.args.board.now pattern _ inside)))
+returns-in_default-step-clause-found g c =
+    let position = position_at c.args.tables.now.board.now c.args.tables.now.groups c.args.pushed.now.group in
+    unreached c.args.tables.now.board.now position _ c.args.dir
+    (λ inside. c.in_default-step.ensures (rw (c.shape-shape.ensures.value, c.opposite-2.ensures) (region_on c.args.tables.now.board.now position _ inside)))
 
-pub returns-then-contains-clause-found : goal.returns-then-contains-clause-found
-returns-then-contains-clause-found g c = λ pattern pushed.
-    let level = c.args.board.now in
-    let ahead = neighbor (pushed_cell c.args.pushed.now) c.args.dir in
-    let to = c.in-Some.ensures.1 in
-    barred level pattern _ c.args.dir (λ free.
-    elim c.then-contains.branch [
-      | then-contains-via-then-contains w ↦ not_both level.walls ahead
-          (subst (Has level.walls) to (rw c.walls.ensures.members at (sym w.if-contains.ensures))) free.no_wall
-      | then-contains-via-else-contains+then-is_box w ↦ not_both pattern.boxes ahead (subst (λ (s : Cells). Has s ahead) pushed.boxes
-          (subst (Has (cells_in c.args.pushed.now.boxes.now)) to (sym w.is_box.ensures ∙ w.if-is_box.true))) free.no_bar
-    ])
+pub returns-then-not-is_free-clause-found : goal.returns-then-not-is_free-clause-found
+returns-then-not-is_free-clause-found g c =
+    let level = c.args.tables.now.board.now in
+    let position = position_at level c.args.tables.now.groups c.args.pushed.now.group in
+    barred level position _ c.args.dir (λ free. false≢true (c.if-not-is_free.ensures.1
+    (subst (λ (q : Cell). IsFree level.shape level.walls (cells_in c.args.pushed.now.boxes.now) q) (sym c.in-Some.ensures.1)
+    (subst (λ (l : List Cell). IsFree level.shape level.walls (cells_in l) (neighbor (pushed_cell c.args.pushed.now) c.args.dir)) (sym c.requires.pushed.boxes)
+    free))))
 
 pub returns-clause-free : goal.returns-clause-free
-returns-clause-free g c = sym c.is_box.ensures ∙ c.if-is_box.false
+returns-clause-free g c =
+    let level = c.args.tables.now.board.now in
+    let position = position_at level c.args.tables.now.groups c.args.pushed.now.group in
+    elim c.else-not-has-2.branch [
+      | else-not-has-2-via-then-not-has-2+else-not-is_free w ↦ (w.if-not-is_free.ensures.0 refl).no_bar
+      | else-not-has-2-via-else-not-has-2 w ↦
+          let ahead = neighbor (pushed_cell c.args.pushed.now) c.args.dir in
+          let inside = (c.requires.pushed.sides c.args.dir).0 (sym w.if-not-has-2.ensures) in
+          subst (Lacks (cells_in c.args.pushed.now.boxes.now)) (sym c.in-Some.ensures.1)
+          (subst (λ (l : List Cell). Lacks (cells_in l) ahead) (sym c.requires.pushed.boxes) (region_lacks level position ahead inside))
+    ]
 
 pub returns-clause-found : goal.returns-clause-found
 returns-clause-found g c =
     let from = pushed_cell c.args.pushed.now in
-    let on = c.requires.pushed.on _ (in_list c.args.pushed.now.boxes.now c.args.pushed.now.number no_cell c.requires.pushed.number) in
+    let tables = c.requires.tables in
+    let pushed = c.args.pushed.now in
+    let on = boxes_on c.args.tables.now.board.now c.args.tables.now.groups tables.lawful tables.grouped pushed.group
+    c.requires.pushed.group pushed.boxes.now c.requires.pushed.boxes _ (in_list pushed.boxes.now pushed.number no_cell c.requires.pushed.number) in
     record {
       from = refl;
       dir_is = refl;

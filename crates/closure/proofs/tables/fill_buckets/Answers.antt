@@ -1,42 +1,15 @@
--- The invariant says that each group so far is in the bucket of one of its boxes. `rarest` returns the index of a box, and which box that
+-- The invariant says that each group so far is in the bucket of one of its boxes. `first_of` returns the index of a box, and which box that
 -- is doesn't matter to any proof. A group has a box (`listed_some` in `Lookups.antt`), and its boxes lie on the grid, so their indexes are
 -- within the table (`index_in`). After the loop every group has a key below the length of the table, so the groups can be chained by their
 -- keys.
 use Rattle.std.proofs.Common.{◌<◌, ◌≤◌, ◌+◌, ◌∙◌, ℕ, List, length, slice_index, ap, sym, subst, arith}
 use Rattle.cellset.specs.Shape.{Extent}
-use Rattle.cellset.specs.CellSet.{Has}
-use Rattle.cellset.specs.declared.cell.Cell.{Cell}
-use Rattle.closure.specs.Sides.{cells_in}
 use Rattle.closure.proofs.Lists.{length_more}
-use Rattle.closure.proofs.Lookups.{bucket_more, key_within, listed_some, index_in}
+use Rattle.closure.proofs.Lookups.{bucket_more, key_within, listed_some}
 use Rattle.closure.proofs.tables.fill_buckets.Goals as goal
 
-pub rarest-requires-clause-inside : goal.rarest-requires-clause-inside
-rarest-requires-clause-inside g c = λ q has.
-    let test = c.loop-group-test.true in
-    let count = c.len-group-end.ensures in
-    let within = index_in c.args.board.now c.args.groups.now c.requires.lawful c.requires.groups c.loop-group.group (omega (arith, test, count))
-    c.shape.ensures.formed.sides q
-    (subst (λ (l : List Cell). Has (cells_in l) q) c.boxes.ensures has) in
-    let from = c.from.ensures in
-    let height = c.height.ensures.value in
-    let shape = ap (λ (e : Extent). e.height) c.shape.ensures.value in
-    let holders = ap (λ (l : List ℕ). length l) c.deref.ensures.value in
-    let long = c.in_ok-holders.ensures in
-    omega (arith, within, from, height, shape, holders, long)
-
-pub rarest-requires-clause-few : goal.rarest-requires-clause-few
-rarest-requires-clause-few g c =
-    let from = c.from.ensures in
-    let height = c.height.ensures.value in
-    let shape = ap (λ (e : Extent). e.height) c.shape.ensures.value in
-    let high = c.shape.ensures.formed.sides.not_too_high in
-    let holders = ap (λ (l : List ℕ). length l) c.deref.ensures.value in
-    let long = c.in_ok-holders.ensures in
-    omega (arith, from, height, shape, high, holders, long)
-
-pub rarest-requires-clause-some : goal.rarest-requires-clause-some
-rarest-requires-clause-some g c =
+pub first_of-requires : goal.first_of-requires
+first_of-requires g c =
     let test = c.loop-group-test.true in
     let count = c.len-group-end.ensures in
     rw c.boxes.ensures (listed_some c.args.board.now c.args.groups.now c.requires.lawful c.requires.groups c.loop-group.group (omega (arith, test, count)))
@@ -45,11 +18,11 @@ pub loop-group-preserved : goal.loop-group-preserved
 loop-group-preserved g c =
     let groups = c.args.groups.now in
     let inv = c.loop-group.invariant in
-    let found = c.rarest.ensures in
-    let each = bucket_more groups c.loop-group.keys.items c.push_reserved.new.self.items c.loop-group.group c.rarest.result inv.long
+    let found = c.first_of.ensures in
+    let each = bucket_more groups c.loop-group.keys.items c.push_reserved.new.self.items c.loop-group.group c.first_of.result inv.long
     c.push_reserved.ensures.items inv.each found.0
     (rw c.boxes.ensures at found.1) found.2 in
-    let pushed = ap (λ (l : List ℕ). length l) c.push_reserved.ensures.items ∙ length_more c.loop-group.keys.items c.rarest.result in
+    let pushed = ap (λ (l : List ℕ). length l) c.push_reserved.ensures.items ∙ length_more c.loop-group.keys.items c.first_of.result in
     record {
       long = pushed ∙ ap (λ (k : ℕ). k + 1) inv.long;
       roomy = subst (λ (k : ℕ). length groups.spans.items ≤ k) (sym c.push_reserved.ensures.capacity) inv.roomy;
@@ -61,7 +34,7 @@ chain-requires g c = λ j lt.
     let inv = c.loop-group.invariant in
     let test = c.loop-group-test.false in
     let count = c.len-group-end.ensures in
-    let keys = c.deref-2.ensures.value in
+    let keys = c.deref.ensures.value in
     let long = inv.long in
     let end = c.loop-group.auto.group-end in
     let keys_long = ap (λ (l : List ℕ). length l) keys in
@@ -74,14 +47,6 @@ chain-requires g c = λ j lt.
     let shape = ap (λ (e : Extent). e.height) c.shape.ensures.value in
     omega (arith, within, key, from, height, shape)
 
-pub count_holders-requires-clause-inside : goal.count_holders-requires-clause-inside
-count_holders-requires-clause-inside g c = λ k q lt has.
-    let within = index_in c.args.board.now c.args.groups.now c.requires.lawful c.requires.groups k lt c.shape.ensures.formed.sides q has in
-    let from = c.from.ensures in
-    let height = c.height.ensures.value in
-    let shape = ap (λ (e : Extent). e.height) c.shape.ensures.value in
-    omega (arith, within, from, height, shape)
-
 pub returns : goal.returns
 returns g c =
     let inv = c.loop-group.invariant in
@@ -92,7 +57,7 @@ returns g c =
     record {
       long = omega (arith, long, test, end, count);
       each = λ k lt. inv.each k (omega (arith, lt, test, count));
-      chained = rw (c.deref-2.ensures.value, c.from.ensures, c.height.ensures.value, c.shape.ensures.value) at c.in_ok-chains.ensures;
+      chained = rw (c.deref.ensures.value, c.from.ensures, c.height.ensures.value, c.shape.ensures.value) at c.in_ok-chains.ensures;
     }
 
 pub loop-group-init : goal.loop-group-init

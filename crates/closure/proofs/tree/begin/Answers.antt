@@ -6,7 +6,7 @@ use Rattle.std.proofs.lemmas.List.{get_or-set_same, length-set}
 use Rattle.std.specs.FinSet as finset
 use Rattle.std.specs.Vec.{with_item}
 use Rattle.cellset.specs.Shape.{Extent}
-use Rattle.cellset.specs.CellSet.{Cells}
+use Rattle.cellset.specs.CellSet.{Cells, Has}
 use Rattle.cellset.specs.declared.dir.Dir.TheVariants.{L}
 use Rattle.closure.specs.Tables.{index_of}
 use Rattle.closure.specs.declared.tree.Node.{Node}
@@ -14,12 +14,12 @@ use Rattle.closure.proofs.Spanning.{root_alone}
 use Rattle.closure.proofs.tree.begin.Goals as goal
 
 pub remove-requires : goal.remove-requires
-remove-requires g c = rw (c.copy_from.ensures.extent, c.requires.extent) (c.shape-shape.ensures.formed.room c.args.root c.requires.root).0
+remove-requires g c = rw (c.copy_from.ensures.extent, c.requires) c.player-root.ensures.on
 
 pub returns-clause-growing : goal.returns-clause-growing
 returns-clause-growing g c =
     let level = c.args.board.now in
-    let on = (c.shape-shape.ensures.formed.room c.args.root c.requires.root).0 in
+    let on = c.player-root.ensures.on in
     let bottom = on.bottom in
     let right = on.right in
     let wide = c.shape-shape.ensures.formed.sides.not_too_wide in
@@ -31,18 +31,19 @@ returns-clause-growing g c =
     let shape = ap (λ (e : Extent). e.height) c.shape-shape.ensures.value in
     let long : length numbers ≡ 256 * (level.shape.height + 1) = omega (arith, made, count, from, height, shape) in
     let index = c.index_of.ensures in
-    let s : Node = record { cell = c.args.root; dir = L; parent = 0 } in
-    root_alone level c.args.root c.requires.root (g.S.CellSet.members c.remove.new.self) s
-    (record { root = c.args.root; numbers = with_item c.in_ok-numbers.numbers c.index_of.result 0; nodes = c.push.new.self })
-    (c.remove.ensures.members ∙ ap (λ (s : Cells). finset.remove s c.args.root) (c.copy_from.ensures.members ∙ c.room.ensures.members)) refl refl
+    let s : Node = record { cell = c.player-root.result; dir = L; parent = 0 } in
+    root_alone level c.player-root.result (subst (Has level.room) (sym c.player-root.ensures.value) c.shape-shape.ensures.formed.here)
+    c.player-root.ensures.value (g.S.CellSet.members c.remove.new.self) s
+    (record { numbers = with_item c.in_ok-numbers.numbers c.index_of.result 0; nodes = c.push.new.self })
+    (c.remove.ensures.members ∙ ap (λ (s : Cells). finset.remove s c.player-root.result) (c.copy_from.ensures.members ∙ c.room.ensures.members)) refl
     (c.in_ok-push.ensures.items ∙ ap (λ (l : List Node). l ++ s ∷ []) c.in_ok-nodes.ensures.items)
     (length-set numbers c.index_of.result 0 ∙ long)
-    (subst (λ (p : ℕ). get_or (set numbers p 0) (index_of c.args.root) 0 ≡ 0) (sym index) (get_or-set_same numbers (index_of c.args.root) 0 0
+    (subst (λ (p : ℕ). get_or (set numbers p 0) (index_of c.player-root.result) 0 ≡ 0) (sym index) (get_or-set_same numbers (index_of c.player-root.result) 0 0
     (omega (arith, bottom, right, wide, long))))
 
 pub index_mut-requires : goal.index_mut-requires
 index_mut-requires g c =
-    let on = (c.shape-shape.ensures.formed.room c.args.root c.requires.root).0 in
+    let on = c.player-root.ensures.on in
     let bottom = on.bottom in
     let right = on.right in
     let wide = c.shape-shape.ensures.formed.sides.not_too_wide in

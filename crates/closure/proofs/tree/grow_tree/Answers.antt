@@ -16,14 +16,13 @@ loop-from-preserved g c =
     let longer = around.longer in
     record {
       extent = around.extent;
-      root = around.root ∙ inv.root;
       growing = around.growing;
       from = omega (arith, test, long, longer);
       beside = around.beside inv.beside;
     }
 
-pub returns-clause-spanning : goal.returns-clause-spanning
-returns-clause-spanning g c =
+pub returns : goal.returns
+returns g c =
     let inv = c.loop-from.invariant in
     let level = c.args.board.now in
     let test = c.loop-from-test.false in
@@ -41,7 +40,6 @@ returns-clause-spanning g c =
 pub loop-from-init : goal.loop-from-init
 loop-from-init g c = record {
   extent = c.begin.ensures.extent;
-  root = c.in_ok-tree.ensures.root;
   growing = c.in_ok-tree.ensures.growing;
   from = omega arith;
   beside = λ i s d lt. absurd (omega (arith, lt));
@@ -62,6 +60,3 @@ join_around-requires-clause-from g c =
 
 pub join_around-requires-clause-growing : goal.join_around-requires-clause-growing
 join_around-requires-clause-growing g c = c.loop-from.invariant.growing
-
-pub returns-clause-root : goal.returns-clause-root
-returns-clause-root g c = c.loop-from.invariant.root

@@ -6,7 +6,6 @@ use Rattle.closure.proofs.tree.grow_tree.Given as goal
 abbrev pub invariant-loop-from : goal.invariant-loop-from
 invariant-loop-from g l = record {
   extent : g.S.CellSet.extent l.left ≡ l.board.shape;
-  root : l.tree.root ≡ l.fn.root;
   growing : IsGrowing l.board (g.S.CellSet.members l.left) l.tree;
   from : l.from ≤ length l.tree.nodes.items;
   beside : AreJoinedBeside l.board (g.S.CellSet.members l.left) l.tree.nodes.items l.from;

@@ -16,7 +16,7 @@ use Rattle.closure.specs.FirstFault.{IsFirstUncovered}
 use Rattle.closure.specs.Run.{AllLead, IsFirstAstray}
 use Rattle.closure.specs.Tables.{list_of}
 use Rattle.closure.proofs.Arenas.{listed_at}
-use Rattle.closure.proofs.GroupPushes.{region_on}
+use Rattle.closure.proofs.Regions.{region_on}
 use Rattle.closure.proofs.checking.Trial.first_push.Goals as goal
 
 module _ (level : Level) (patterns : List Pattern) (pattern : Pattern) (players : Cells)
@@ -51,7 +51,7 @@ pub find-requires-clause-lawful : goal.find-requires-clause-lawful
 find-requires-clause-lawful g c =
     let tables = c.args.tables.now in
     subst (IsLawful tables.board.now) (sym c.pattern-pattern.ensures.pattern)
-    (c.requires.tables.lawful _ (listed_at tables.groups.arena c.args.line c.requires.line))
+    (c.requires.tables.are.lawful _ (listed_at tables.groups.arena c.args.line c.requires.line))
 
 pub returns-clause-exact : goal.returns-clause-exact
 returns-clause-exact g c =

@@ -1,14 +1,12 @@
 -- If an earlier line isn't lawful, it stays the first fault. If all are lawful, so is a lawful one more, and a line that isn't lawful is the
 -- first fault (`PatternLists.antt`).
-use Rattle.std.proofs.Common.{◌≡◌, ℕ, List, ◌∷◌, [], ◌++◌, ◌∙◌, ap}
-use Rattle.std.specs.Prelude.{MatchOption}
+use Rattle.std.proofs.Common.{◌≡◌, List, ◌∷◌, [], ◌++◌, ◌∙◌, ap}
 use Rattle.answers.specs.Grammar.{said_pattern}
 use Rattle.answers.specs.Body.{PatternLine}
 use Rattle.closure.specs.Pattern.{patterns_of}
 use Rattle.closure.specs.Closed.{AreLawful}
 use Rattle.closure.specs.FirstFault.{IsFirstPatternFault}
 use Rattle.closure.specs.Arena.{lines_in}
-use Rattle.closure.specs.declared.fault.LineWhy.{LineWhy}
 use Rattle.closure.specs.declared.fault.CheckFault.TheVariants.{Line}
 use Rattle.closure.proofs.PatternLists.{as_none, lawful_more, of_none, of_some, unlawful_last, unlawful_still}
 use Rattle.closure.proofs.pattern_list.PatternList.add.Goals as goal

@@ -1,15 +1,9 @@
 -- If a line isn't lawful, the list has the first one as its fault, and the check returns it. Otherwise the lines of the arena are the lines
 -- that were added, so what the check of the arena returns is right for them.
-use Rattle.std.proofs.Common.{◌≡◌, List, length, ap, inl, refl, subst}
-use Rattle.std.specs.Prelude.{IfOk, IfErr, IsOkUnless, OnOk, ◌≢◌, ◌⊎◌, None, Err}
-use Rattle.board.specs.Game.{Solvable}
-use Rattle.answers.specs.Body.{PatternLine}
+use Rattle.std.proofs.Common.{◌≡◌, length, ap, inl}
+use Rattle.std.specs.Prelude.{Err}
 use Rattle.closure.specs.Pattern.{patterns_of}
-use Rattle.closure.specs.Closed.{AreLawful, Closed}
-use Rattle.closure.specs.FirstFault.{IsFirstPatternFault}
-use Rattle.closure.specs.Arena.{lines_in}
-use Rattle.closure.specs.declared.fault.CheckFault.{CheckFault}
-use Rattle.closure.specs.declared.fault.CheckFault.TheVariants.{Line, Memory}
+use Rattle.closure.specs.declared.fault.CheckFault.TheVariants.{Line}
 use Rattle.closure.proofs.FirstLines.{fault_not_closed, ok_unless_memory, unsolvable_where_ok}
 use Rattle.closure.proofs.OneFault.{first_unless_memory, one_pattern_fault}
 use Rattle.closure.proofs.pattern_list.PatternList.check.Goals as goal

@@ -9,10 +9,6 @@ use Rattle.closure.proofs.tree.Tree.join_around.Goals as goal
 pub returns-clause-extent : goal.returns-clause-extent
 returns-clause-extent g c = c.in_ok-join_beside-4.ensures.extent
 
-pub returns-clause-root : goal.returns-clause-root
-returns-clause-root g c = c.in_ok-join_beside-4.ensures.root ∙ (c.in_ok-join_beside-3.ensures.root ∙ (c.in_ok-join_beside-2.ensures.root ∙
-    c.in_ok-join_beside.ensures.root))
-
 pub returns-clause-growing : goal.returns-clause-growing
 returns-clause-growing g c = c.in_ok-join_beside-4.ensures.growing
 

@@ -62,11 +62,11 @@ returns-clause-growing g c =
     let to_cell = λ (s : Node). ap (λ (x : Node). neighbor x.cell c.args.dir)
     (sym (get_or_read old.nodes.items c.args.from c.index.result.now c.requires.from c.index.ensures s)) ∙ sym c.in-Some.ensures.1 in
     let s : Node = record { cell = c.in-Some.cell; dir = c.opposite.result; parent = c.args.from } in
-    let new : Tree = record { root = old.root; numbers = with_item old.numbers c.index_of.result c.len.result; nodes = c.push.new.self } in
+    let new : Tree = record { numbers = with_item old.numbers c.index_of.result c.len.result; nodes = c.push.new.self } in
     subst (λ (t : Cells). IsGrowing c.args.board.now t new) (sym c.remove.ensures.members)
     (laid_more c.args.board.now c.shape.ensures.formed left old c.requires.growing c.args.from c.in-Some.cell c.args.dir s c.requires.from
     (sym c.if-not-remove.ensures.was_there) to_cell refl c.opposite.ensures refl
-    new refl
+    new
     (ap (λ (p : ℕ). set old.numbers.items p c.len.result) c.index_of.ensures ∙ ap (set old.numbers.items (index_of c.in-Some.cell)) (c.len.ensures ∙
     old.nodes.ok.0))
     c.in_ok-push.ensures.items)

@@ -1,0 +1,6 @@
+use Rattle.std.proofs.Common.{ℕ, ◌<◌}
+use Rattle.std.specs.Prelude.{IsTrue, false, slice_index_or}
+use Rattle.closure.proofs.checking.are_all.Given as goal
+
+abbrev pub invariant-loop-note : goal.invariant-loop-note
+invariant-loop-note l = (g : ℕ) → g < l.note-index → IsTrue (slice_index_or l.covered g false)

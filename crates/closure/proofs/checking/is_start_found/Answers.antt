@@ -1,0 +1,39 @@
+use Rattle.std.proofs.Common.{◌≢◌, refl, arith}
+use Rattle.std.specs.List.{All}
+use Rattle.cellset.specs.CellSet.{Has}
+use Rattle.cellset.specs.declared.cell.Cell.{Cell}
+use Rattle.cellset.proofs.Members.{lacks_where}
+use Rattle.board.specs.Game.{start}
+use Rattle.closure.specs.Sides.{cells_in}
+use Rattle.closure.specs.Tables.{boxes_of, list_of}
+use Rattle.closure.proofs.CellLists.{each_in, in_list}
+use Rattle.closure.proofs.Grouped.{boxes_on, covered_of_group}
+use Rattle.closure.proofs.Traps.{start_trapped}
+use Rattle.closure.proofs.checking.is_start_found.Goals as goal
+
+pub returns-then-meets : goal.returns-then-meets
+returns-then-meets g c = λ _.
+    let met = c.if-meets.ensures in
+    start_trapped c.args.tables.now.board.now c.requires.formed (list_of c.args.tables.now.groups) c.args.tables.now.trap c.requires.trap met.0 met.2
+    (rw c.boxes.ensures.members at met.1)
+
+pub stand_beside-requires : goal.stand_beside-requires
+stand_beside-requires g c = λ k d low.
+    let test = c.loop-group-test.true in
+    let count = c.len-group-end.ensures in
+    rw c.boxes-then-is_whole.ensures.extent (boxes_on c.args.tables.now.board.now c.args.tables.now.groups c.requires.lawful c.requires.grouped
+    c.loop-group.group (omega (arith, test, count)) c.boxes-boxes.result.now c.boxes-boxes.ensures _ (in_list c.boxes-boxes.result.now k d low))
+
+pub returns-then-stand_beside : goal.returns-then-stand_beside
+returns-then-stand_beside g c = λ _.
+    let level = c.args.tables.now.board.now in
+    let groups = c.args.tables.now.groups in
+    let boxes = boxes_of groups c.loop-group.group in
+    let Beside : Cell → Type 0 = λ q. Has level.boxes q × (q ≢ level.player) in
+    let each : All Beside boxes = rw (c.boxes-then-is_whole.ensures.members, c.player.ensures.value, c.boxes-boxes.ensures) at
+    (c.if-stand_beside.ensures.0 refl) in
+    let outside = lacks_where (cells_in boxes) level.player (λ has. (each_in Beside boxes each level.player has).1 refl) in
+    covered_of_group level groups c.requires.grouped (start level) c.loop-group.group (record {
+      boxes = λ q has. (each_in Beside boxes each q has).0;
+      player = c.if-is_whole.ensures refl level.player c.requires.formed.here outside;
+    })
