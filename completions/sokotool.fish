@@ -23,6 +23,7 @@ complete -c sokotool -n "__fish_seen_subcommand_from check" -l solver -x -d 'A c
 complete -c sokotool -n "__fish_seen_subcommand_from check" -l verbose -d 'Print what the solver prints'
 complete -c sokotool -n "__fish_seen_subcommand_from check" -l answers -r -F -d 'More answers'
 complete -c sokotool -n "__fish_seen_subcommand_from check find table" -l seconds -x -d 'Limit of time'
+complete -c sokotool -n "__fish_seen_subcommand_from check" -l search -x -d 'Limit of time for all levels'
 complete -c sokotool -n "__fish_seen_subcommand_from check find" -l jobs -x -d 'How many at once'
 complete -c sokotool -n "__fish_seen_subcommand_from table" -l memory -x -d 'Limit of memory'
 complete -c sokotool -n "__fish_seen_subcommand_from table" -l page -r -F -d 'Write a page'

@@ -8,8 +8,9 @@ import time
 import unittest
 import unittest.mock
 
-from sokotool import auditor
+from sokotool import auditor, boards, levels, outcomes, searches
 from tests.tools import helping
+from tests.tools.ending import EndsEarly, Killed
 from tests.tools.helping import ONE, SAMPLES, TOP, Case
 
 MAPS = "/usr/share/games/cavepacker/maps"
@@ -101,14 +102,12 @@ class Whole(Check):
 
         self.change_exports()
         result = self.check("mine", *self.exports())
-        number = self.read("mine.answers~").split(b"\n").index(b"level 11") + 1
         self.assertEqual(self.lines(result), [
             "mine: 11 levels, 10 solved, 1 unsolvable, 0 refused, 0 missing",
-            f"problem: mine.answers line {number}: no level has the board of this record",
             "inserted: level 1", "removed: level 11 (solved moves 5 pushes 3 changes 2)",
             "renumbered: levels 2-11 (formerly 1-10)", "turned: level 2 (turned by half)",
-            "newly solved: level 11"])
-        self.assertEqual(result.status, 1)
+            "newly solved: level 11", "kept in mine.kept.xsb: 1 answer of levels that are away"])
+        self.assertEqual(result.status, 0)
         self.assertEqual(files, {end: self.read(f"mine{end}~") for end in files})
         self.write("checked", self.audit("mine.xsb", "mine.answers"))
         self.assertEqual(self.read("checked").decode().splitlines(), self.report())
@@ -145,9 +144,9 @@ class Whole(Check):
         self.write("a.txt", CORNER.replace("# . ", "#.  ").replace("#  . #", "# .  #") + "\n" +
                    LOST)
         result = self.check("mine", "a.txt")
-        self.assertEqual(self.lines(result)[1],
-                         "problem: mine.answers line 2: refused for level 1: unsolved 1")
         self.assertIn("lost: level 1 (missing, formerly solved moves 4 pushes 2 changes 1)",
+                      self.lines(result))
+        self.assertIn("kept in mine.kept.xsb: 1 answer of levels that are away",
                       self.lines(result))
 
     def test_best_of_several(self):
@@ -186,9 +185,10 @@ class Whole(Check):
         with open(os.path.join(SAMPLES, "deadlocks.xsb"), "rb") as file:
             self.write("a.txt", file.read())
         result = self.tool("check", "mine", "a.txt", "--jobs", "2")
-        self.assertEqual((result.status, result.err.splitlines()), (0, [
-            f"check: level {level}: found ({done} of 3 done, {done} found)" for done,
-            level in enumerate((4, 5, 6), 1)]))
+        said = ["check: 3 levels to search, at most 10 s each, 60 s in all"]
+        said += [f"check: level {level}: found ({done} of 3 done, {done} found)"
+                 for done, level in enumerate((4, 5, 6), 1)]
+        self.assertEqual((result.status, result.err.splitlines()), (0, said))
         again = self.tool("check", "mine", "a.txt")
         self.assertEqual((again.status, again.err), (0, ""))
 
@@ -218,6 +218,237 @@ class Whole(Check):
             self.assertLessEqual(len(self.check("mine", "a.txt").out.splitlines()), 24)
 
 
+class Time(Check):
+    """The search: what is said at its start, what it is given, and what is remembered of it."""
+
+    def setUp(self):
+        super().setUp()
+        with open(os.path.join(SAMPLES, "deadlocks.xsb"), "rb") as file:
+            self.write("a.txt", file.read())
+
+    def test_files_are_written_before_the_search_and_after_it(self):
+        seen = []
+
+        def results(_self, _watch):
+            seen.extend(self.report())
+            yield from ()
+        with unittest.mock.patch.object(searches.Searches, "results", results):
+            result = self.tool("check", "mine", "a.txt")
+        self.assertEqual(seen[-1], "total 6 solved 0 unsolvable 3 refused 0 missing 3")
+        self.assertIn("check: 3 levels left: the next run goes on with them", result.err)
+        result = self.tool("check", "mine", "a.txt")
+        self.assertEqual((result.status, self.report()[-1]),
+                         (0, "total 6 solved 0 unsolvable 6 refused 0 missing 0"))
+
+    def test_interrupt_ends_the_search_and_the_files_are_written(self):
+        real = searches.Searches.results
+
+        def results(of, watch):
+            for number, result in enumerate(real(of, watch)):
+                if number:
+                    raise KeyboardInterrupt
+                yield result
+        with unittest.mock.patch.object(searches.Searches, "results", results):
+            result = self.tool("check", "mine", "a.txt", "--jobs", "1")
+        self.assertEqual((result.status, self.report()[-1]),
+                         (1, "total 6 solved 0 unsolvable 4 refused 0 missing 2"))
+        self.assertEqual(self.lines(result)[0],
+                         "mine: 6 levels, 0 solved, 4 unsolvable, 0 refused, 2 missing")
+
+    def test_second_interrupt_ends_the_run(self):
+        patches = [unittest.mock.patch.object(searches.Searches, "results",
+                                              side_effect=KeyboardInterrupt),
+                   unittest.mock.patch.object(searches.Searches, "rest",
+                                              side_effect=KeyboardInterrupt)]
+        with patches[0], patches[1]:
+            self.assertEqual(self.tool("check", "mine", "a.txt").status, 130)
+        self.assertEqual(self.report()[-1], "total 6 solved 0 unsolvable 3 refused 0 missing 3")
+
+    def test_budget_of_the_whole_run(self):
+        """The budget ends the search, and the next run goes on."""
+        self.write("a.txt", CORNER + "\n" + CORNER.replace("#    #", "##   #", 1))
+        result = self.tool("check", "mine", "a.txt", "--search", "0.000001")
+        self.assertEqual(result.err, "check: 2 levels to search, at most 10 s each, 1e-06 s in "
+                                     "all\ncheck: 2 levels left: the next run goes on with them\n")
+        self.assertEqual(self.tool("check", "mine", "a.txt", "--search", "0").err, "")
+        result = self.tool("check", "mine", "a.txt")
+        self.assertIn("level 2: solved (2 of 2 done, 2 found)", result.err)
+        again = self.tool("check", "mine", "a.txt", "--seconds", "20")
+        self.assertEqual((again.err, self.lines(again)[-1]),
+                         ("", "nothing changed since the last time"))
+
+    def test_levels_are_searched_again_only_with_more_time(self):
+        forms = boards.forms_of(levels.read(self.read("a.txt")))
+        kept = outcomes.Outcomes({})
+        self.assertEqual(kept.due(forms, "find", 10), forms)
+        for form, what, seconds in zip(forms, ("late", "solvable", "full", "late"), (9, 1, 1, 10)):
+            kept.keep(form, "find", what, seconds)
+        self.assertEqual(kept.due(forms, "find", 10), [*forms[4:], forms[0]])
+        self.assertEqual(kept.due(forms, "find", 11), [*forms[4:], forms[0], forms[3]])
+        self.assertEqual(kept.due(forms, "other", 1), forms)
+        self.assertEqual(outcomes.Outcomes(kept.kept).of(forms[0], "find"), ("late", 9))
+
+    def test_name_that_cannot_be_written_is_noticed_first(self):
+        os.mkdir("folder.report")
+        with unittest.mock.patch.object(auditor.Auditor, "run", side_effect=AssertionError):
+            for name, why in (("nodir/x", "nodir/x.xsb: No such file or directory"),
+                              ("folder", "folder.report: it is a folder")):
+                result = self.check(name, "a.txt")
+                self.assertEqual((result.status, result.err), (2, f"check: cannot write {why}\n"))
+
+
+class Typed(Check):
+    """What a keeper typed stays."""
+
+    def test_answer_of_a_level_that_is_away_for_one_run(self):
+        self.write("a.txt", LOST)
+        self.write("b.txt", CORNER)
+        self.write("own", "sokoban-answers 1\n; by hand\nlevel 2\nsolution\nRurD\nend\n")
+        self.check("mine", "a.txt", "b.txt", "--answers", "own")
+        result = self.check("mine", "a.txt")
+        self.assertEqual((result.status, self.lines(result)[1:]), (0, [
+            "removed: level 2 (solved moves 4 pushes 2 changes 1)",
+            "kept in mine.kept.xsb: 1 answer of levels that are away"]))
+        self.assertEqual(self.audit("mine.kept.xsb", "mine.kept.answers").splitlines()[0],
+                         b"level 1 solved moves 4 pushes 2 changes 1")
+        self.assertEqual(self.check("mine", "a.txt").status, 0)
+        result = self.check("mine", "a.txt", "b.txt")
+        self.assertEqual((result.status, self.lines(result)[1:]), (0, ["inserted: level 2"]))
+        self.assertIn(b"; by hand\nlevel 2\nsolution\nRurD\nend\n", self.read("mine.answers"))
+        self.assertFalse(os.path.exists("mine.kept.xsb"))
+
+    def test_refused_record_stays_until_another_is_accepted(self):
+        self.write("a.txt", CORNER)
+        self.check("mine", "a.txt")
+        record = b"; a draft\nlevel 1\nsolution\nRur\nend\n"
+        self.write("mine.answers", b"sokoban-answers 1\n" + record)
+        for _ in range(2):
+            result = self.check("mine", "a.txt")
+            self.assertEqual(result.status, 1)
+            self.assertIn("no answer: level 1 refused unsolved 1\tline", result.out.decode())
+            self.assertIn(record, self.read("mine.answers"))
+        self.write("a.txt", CORNER + "Solution: RurD\n")
+        result = self.check("mine", "a.txt")
+        self.assertEqual(result.status, 0)
+        self.assertIn("kept in mine.kept.xsb: 1 answer for which there are better ones",
+                      self.lines(result))
+        self.assertIn(record, self.read("mine.kept.answers"))
+
+    def test_answer_that_was_computed_goes_for_a_better_one(self):
+        self.write("a.txt", CORNER)
+        self.tool("check", "mine", "a.txt")
+        self.assertEqual(self.report()[0][:14], "level 1 solved")
+        self.write("own", "sokoban-answers 1\nlevel 1\nsolution\nRurD\nend\n")
+        self.write("a.txt", LONG + "\n" + CORNER)
+        self.check("mine", "a.txt")
+        self.write("own", "sokoban-answers 1\nlevel 2\nsolution\nRurD\nend\n")
+        result = self.check("mine", "a.txt", "--answers", "own")
+        self.assertEqual((result.status, self.report()[1]),
+                         (0, "level 2 solved moves 4 pushes 2 changes 1"))
+        self.assertFalse(os.path.exists("mine.kept.xsb"))
+
+    def test_report_names_the_line_of_a_refused_certificate(self):
+        """The line is the one in NAME.answers as it is after the check, with its comments."""
+        self.write("a.txt", LOST)
+        self.check("mine", "a.txt")
+        self.write("a.txt", CORNER)
+        self.check("mine", "a.txt")
+        self.write("mine.answers", "sokoban-answers 1\n; a heading\n\n; a draft\nlevel 1\n"
+                   "unsolvable\n; one line\npattern 3,3 @ 2,3\nend\n")
+        result = self.check("mine", "a.txt")
+        lines = self.read("mine.answers").splitlines()
+        number = lines.index(b"pattern 3,3 @ 2,3") + 1
+        self.assertRegex(self.report()[0], f"level 1 refused line {number} ")
+        self.assertIn(f"no answer: level 1 refused line {number} ", result.out.decode())
+        self.assertLess(lines.index(b"; a heading"), lines.index(b"; a draft"))
+
+    def test_titles_and_texts(self):
+        """They win over the exports, are reported once, and go with their level."""
+        self.write("a.txt", "A\n" + LOST + "\nB\n" + CORNER)
+        self.check("mine", "a.txt")
+        self.write("mine.xsb", self.read("mine.xsb").replace(b"\nB\n", b"\nBetter B\n"))
+        result = self.check("mine", "a.txt")
+        self.assertIn("edited by hand: level 2", self.lines(result))
+        self.assertIn(b"\nBetter B\n", self.read("mine.xsb"))
+        self.assertIn("nothing changed since the last time",
+                      self.lines(self.check("mine", "a.txt")))
+        self.write("a.txt", "First\n" + LONG + "\nB\n" + CORNER + "\nA\n" + LOST)
+        self.check("mine", "a.txt")
+        self.assertLess(self.read("mine.xsb").index(b"Better B\nCorner\n######\n"),
+                        self.read("mine.xsb").index(b"\nA\n"))
+        self.write("a.txt", "A\n" + LOST)
+        result = self.check("mine", "a.txt")
+        self.assertIn(", 1 text of levels that are away", result.out.decode())
+        self.write("a.txt", "B\n" + CORNER)
+        self.check("mine", "a.txt")
+        self.assertIn(b"Better B\nCorner\n######\n", self.read("mine.xsb"))
+        self.assertNotIn(b"Better B", self.read("mine.kept.xsb"))
+
+    def test_order_of_the_levels(self):
+        """An order that the keeper chose stays, and a new level comes after the one that it follows
+        in the exports."""
+        boards_in_order = [LOST, CORNER, ONE]
+        self.write("a.txt", "\n".join(boards_in_order))
+        self.check("mine", "a.txt")
+        self.write("own", "sokoban-answers 1\nlevel 2\nsolution\nRurD\nend\n")
+        self.check("mine", "a.txt", "--answers", "own")
+        self.write("mine.xsb", "\n".join(boards_in_order[::-1]))
+        self.check("mine", "a.txt")
+        self.write("a.txt", "\n".join([LOST, LONG, CORNER, ONE]))
+        result = self.check("mine", "a.txt")
+        rows = [b"".join(row + b"\n" for row in level.rows)
+                for level in levels.read(self.read("mine.xsb"))]
+        self.assertEqual(rows, [drawn[drawn.index("#"):].replace("Solution: rRRR\n", "").encode()
+                                for drawn in (ONE, CORNER, LOST, LONG)])
+        self.assertEqual(self.report()[1], "level 2 solved moves 4 pushes 2 changes 1")
+        self.assertIn("inserted: level 4", self.lines(result))
+
+    def test_level_that_is_typed_into_the_file(self):
+        self.write("a.txt", CORNER)
+        self.check("mine", "a.txt")
+        self.write("mine.xsb", self.read("mine.xsb") + b"\n" + LOST.encode())
+        for _ in range(2):
+            result = self.check("mine", "a.txt")
+            self.assertEqual(self.report()[1], "level 2 unsolvable patterns 4")
+        self.assertIn("nothing changed since the last time", self.lines(result))
+
+    def test_comments_between_and_in_records(self):
+        self.write("a.txt", CORNER + "\n" + LONG)
+        self.check("mine", "a.txt")
+        text = ("sokoban-answers 1\n; a heading\n\n; of one\nlevel 1\n; in it\nsolution\nRurD\n\n"
+                "end\n\n; the second part\n\nlevel 2\nsolution\nrRRR\nend\n; the end\n")
+        self.write("mine.answers", text)
+        self.check("mine", "a.txt")
+        self.assertEqual(self.read("mine.answers").decode().replace(
+            f"; {auditor.REFERENCE_NOTE}\n", ""), text)
+        self.write("a.txt", LONG)
+        self.check("mine", "a.txt")
+        self.assertIn(b"; a heading\n\n\n; the second part\n\nlevel 1\n",
+                      self.read("mine.answers"))
+
+    def test_write_that_is_cut_off_is_ended_by_the_next_run(self):
+        self.write("a.txt", CORNER)
+        self.check("mine", "a.txt")
+        files = {name: self.read(name) for name in os.listdir() if name.startswith("mine")}
+        for moment in range(1, 11):
+            for name, data in files.items():
+                self.write(name, data)
+            self.write("a.txt", "Another\n" + LONG)
+            with EndsEarly(Killed(), "os.replace", moment):
+                self.assertRaises(Killed, self.check, "mine", "a.txt")
+            for typed in (False, True):
+                if typed:
+                    self.write("mine.xsb", self.read("mine.xsb") + b"typed\n")
+                self.assertIn(self.check("mine", "a.txt").status, (0, 1))
+                self.assertEqual(self.report()[0], "level 1 solved moves 4 pushes 3 changes 1")
+                self.assertEqual(typed, b"typed" in self.read("mine.xsb"))
+            self.assertFalse([name for name in os.listdir() if name.startswith(".sokotool")
+                              and moment > 1 or "unfinished" in name])
+            for name in os.listdir():
+                if name.startswith(("mine", ".sokotool")):
+                    os.remove(name)
+
+
 class Files(Check):
     def test_inputs_are_not_written_over(self):
         self.write("mine.xsb", CORNER)
@@ -242,7 +473,8 @@ class Files(Check):
             self.assertTrue(result.err.startswith(f"check: {why}"), result.err)
         self.assertEqual(files, {name: self.read(name) for name in os.listdir()})
         self.write("mine.answers", "by hand\n")
-        self.assertEqual(self.check("mine", "a.txt").err, "check: mine.answers line 1: header\n")
+        self.assertEqual(self.check("mine", "a.txt").err, "check: mine.answers is no answers file: "
+                         "line 1 isn't 'sokoban-answers 1'\n")
         os.remove("mine.xsb")
         self.assertIn("mine.answers is there, but not its levels", self.check("mine", "a.txt").err)
         self.assertEqual(self.read("mine.answers"), b"by hand\n")

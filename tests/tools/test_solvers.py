@@ -193,7 +193,7 @@ class Checks(Check):
             "level 4 unsolvable patterns 4"])
         self.assertEqual(result.status, 1)
         said = result.err.splitlines()
-        self.assertEqual({line.partition(" (")[0] for line in said[2:]},
+        self.assertEqual({line.partition(" (")[0] for line in said[4:]},
                          {"check: level 2: solved by the solver",
                           "check: level 3: the solver found nothing"})
         self.assertTrue(said[-1].endswith("(2 of 2 done, 1 solved)"))

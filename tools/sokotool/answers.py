@@ -22,14 +22,14 @@ class Record:
     """A record: its level's number, its kind, and its body, a list of pairs of a line's number and
     the line.
 
-    `line` is the number of its level line. `raw` has all its lines, skipped ones and `end` too, and
-    `above` the comments over it.
+    `line` is the number of its level line. `raw` has all its lines, skipped ones and `end` too,
+    `above` the comments over it, and `loose` the lines before them, which end with an empty one.
     """
 
-    __slots__ = ("level", "kind", "line", "body", "raw", "above")
+    __slots__ = ("level", "kind", "line", "body", "raw", "above", "loose")
 
-    def __init__(self, level, line, first, above):
-        self.level, self.line, self.above = level, line, above
+    def __init__(self, level, line, first, above, loose):
+        self.level, self.line, self.above, self.loose = level, line, above, loose
         self.kind, self.body, self.raw = None, [], [first]
 
     def add(self, number, line):
@@ -54,12 +54,12 @@ class Record:
 
 
 class Answers:
-    """The version of an answers file and its records in order."""
+    """The version of an answers file, its records in order, and the lines after the last one."""
 
-    __slots__ = ("version", "records")
+    __slots__ = ("version", "records", "rest")
 
-    def __init__(self, version, records):
-        self.version, self.records = version, records
+    def __init__(self, version, records, rest):
+        self.version, self.records, self.rest = version, records, rest
 
 
 def read(data, levels=None, rising=True):
@@ -74,23 +74,27 @@ def read(data, levels=None, rising=True):
         raise Fault(1, "header")
     records: List[Record] = []
     above: List[bytes] = []
+    loose: List[bytes] = []
     record, last = None, 0
     for number, line in enumerate(lines[1:], 2):
         if record is None and (not line or line.startswith(b";")):
-            above = above + [line] if line else []
+            above.append(line)
+            if not line:
+                loose, above = loose + above, []
         elif record is None:
             level = _level_of(line, number)
             if rising and level <= last:
                 raise Fault(number, "order")
             if levels is not None and level > levels:
                 raise Fault(number, "unknown")
-            record, above, last = Record(level, number, line, above), [], level
+            record, last = Record(level, number, line, above, loose), level
+            above, loose = [], []
         elif record.add(number, line):
             records.append(record)
             record = None
     if record:
         raise Fault(len(lines) + 1, "unclosed")
-    return Answers(int(header.group(1)), records)
+    return Answers(int(header.group(1)), records, loose + above)
 
 
 def read_text(name, data, levels=None, rising=True):

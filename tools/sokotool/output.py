@@ -1,14 +1,26 @@
 """Writes results to standard output or to files: all of a result, or an error."""
 import contextlib
 import errno
+import hashlib
 import io
+import json
 import os
 import stat
 import sys
 import tempfile
-from typing import Iterator, Optional, Sequence, Tuple
+from typing import Iterator, List, NamedTuple, Optional, Sequence, Tuple
 
 from . import texts
+
+
+class _Entry(NamedTuple):
+    """An entry of a journal: a file that is written, or "" to remove, the path that it replaces,
+    and names for the contents there before and after."""
+
+    made: str
+    path: str
+    before: str
+    after: str
 
 
 def put(data: bytes) -> None:
@@ -46,25 +58,32 @@ def into(name: Optional[str]) -> Iterator[None]:
     write_files([(name, kept.buffer.getvalue())])  # type: ignore[attr-defined]
 
 
-def write_files(files: Sequence[Tuple[str, bytes]]) -> None:
-    """Writes files, given by name and bytes. None is replaced before all are written in full."""
-    ready = []
+def write_files(files: Sequence[Tuple[str, Optional[bytes]]], journal: str = "") -> None:
+    """Writes files, given by name and bytes, or removes them if the bytes are None. None is
+    replaced before all are written in full.
+
+    A journal is a file that is there while files are replaced, so that `finish` can go on.
+    """
+    ready: List[Tuple[str, str]] = []
     name = ""
     try:
         for name, data in files:
             path = os.path.realpath(name)
             check_writable(name)
-            if os.path.exists(path) and not os.path.isfile(path):
+            if data is None:
+                ready.append(("", path))
+            elif os.path.exists(path) and not os.path.isfile(path):
                 with open(path, "wb") as device:
                     device.write(data)
-                continue
-            handle, made = tempfile.mkstemp(prefix=".sokotool-", dir=os.path.dirname(path))
-            ready.append((made, path))
-            with os.fdopen(handle, "wb") as file:
-                file.write(data)
-            os.chmod(made, _mode(path))
+            else:
+                ready.append((_put(data, path), path))
+        if journal:
+            listed = [_Entry(made, path, _digest(path), _digest(made)) for made, path in ready]
+            os.replace(_put(json.dumps(listed).encode(), os.path.realpath(journal)), journal)
+            ready = []
+            finish(journal)
         while ready:
-            os.replace(*ready[0])
+            _replace(*ready[0])
             ready.pop(0)
     except OSError as error:
         raise texts.Stop(f"cannot write {texts.shown(name)}: {error.strerror}") from None
@@ -72,6 +91,82 @@ def write_files(files: Sequence[Tuple[str, bytes]]) -> None:
         for made, _ in ready:
             with contextlib.suppress(OSError):
                 os.unlink(made)
+
+
+def finish(journal: str) -> None:
+    """Ends a write that was cut off: goes on with it, or takes it back if a file that it left as it
+    was has been changed since."""
+    name = journal
+    try:
+        listed = _listed(journal)
+        left = [entry for entry in listed if not _is_done(entry)]
+        if any(_digest(entry.path) != entry.before for entry in left):
+            _take_back(journal, [entry for entry in listed if _is_done(entry)])
+            for entry in left:
+                _replace("", entry.made)
+        else:
+            for entry in left:
+                name = entry.path
+                _replace(entry.made, name)
+        _replace("", journal)
+    except OSError as error:
+        raise texts.Stop(f"cannot write {texts.shown(name)}: {error.strerror}") from None
+
+
+def _is_done(entry: _Entry) -> bool:
+    return not os.path.exists(entry.made or entry.path)
+
+
+def _take_back(journal: str, done: Sequence[_Entry]) -> None:
+    """Replaces files by their former contents if they still have the new ones."""
+    for entry in done:
+        former = entry.path + "~"
+        if not os.path.exists(former) or _digest(former) != entry.before:
+            continue
+        if _digest(entry.path) != entry.after:
+            raise texts.Stop(
+                f"{texts.shown(entry.path)} was changed after a write was cut off, and so was "
+                f"another file: the former files end in ~; take from them what is missing, and "
+                f"remove {texts.shown(journal)}")
+        with open(former, "rb") as file:
+            _replace(_put(file.read(), entry.path), entry.path)
+
+
+def _listed(journal: str) -> List[_Entry]:
+    """Returns the entries of a journal: none if there is no such file."""
+    if not os.path.exists(journal):
+        return []
+    with open(journal, "rb") as file:
+        return [_Entry(*words) for words in json.load(file)]
+
+
+def _put(data: bytes, path: str) -> str:
+    """Writes a file that may replace another one, and returns its name."""
+    handle, made = tempfile.mkstemp(prefix=".sokotool-", dir=os.path.dirname(path))
+    try:
+        with os.fdopen(handle, "wb") as file:
+            file.write(data)
+        os.chmod(made, _mode(path))
+    except BaseException:
+        os.unlink(made)
+        raise
+    return made
+
+
+def _replace(made: str, path: str) -> None:
+    """Replaces a file by another one, or removes it if there is no other one."""
+    if made:
+        os.replace(made, path)
+    elif path and os.path.exists(path):
+        os.unlink(path)
+
+
+def _digest(path: str) -> str:
+    """Returns a name for the contents of a file: "" if there is none."""
+    if not os.path.isfile(path):
+        return ""
+    with open(path, "rb") as file:
+        return hashlib.sha256(file.read()).hexdigest()
 
 
 def check_writable(name: str) -> None:
@@ -83,6 +178,9 @@ def check_writable(name: str) -> None:
         has_no_bit = not os.stat(path).st_mode & (stat.S_IWUSR | stat.S_IWGRP | stat.S_IWOTH)
         if has_no_bit or not os.access(path, os.W_OK):
             raise texts.Stop(f"cannot write {texts.shown(name)}: it is write-protected")
+    elif not os.access(os.path.dirname(path), os.W_OK):
+        why = errno.EACCES if os.path.isdir(os.path.dirname(path)) else errno.ENOENT
+        raise texts.Stop(f"cannot write {texts.shown(name)}: {os.strerror(why)}")
 
 
 def _mode(path: str) -> int:

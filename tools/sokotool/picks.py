@@ -34,6 +34,7 @@ class Picks:
         self._boards: Dict[int, Board] = {}
         self._of: Dict[int, List[Pick]] = {}
         self._sources: Dict[Source, List[Tuple[int, Pick]]] = {}
+        self.chosen: Dict[int, Pick] = {}
 
     def add(self, number: int, text: bytes, source: Optional[Source] = None, stays: bool = False
             ) -> None:
@@ -44,7 +45,7 @@ class Picks:
         if pick is None:
             pick = Pick(text, *self._rank(number, text, len(several)), stays)
             several.append(pick)
-        if source and not pick.stays:
+        if source:
             self._sources.setdefault(source, []).append((number, pick))
 
     def add_source(self, source: Source) -> None:
@@ -54,7 +55,7 @@ class Picks:
     def _rank(self, number: int, text: bytes, order: int) -> Tuple[Tuple[int, ...], Optional[str]]:
         """Returns the rank of a record, and why a replay refuses it. Certificates aren't checked
         here."""
-        record = answers.read(b"sokoban-answers 2\n" + text).records[0]
+        record = _record_of(text)
         if record.kind != "solution":
             return (_CERTIFICATE, order), None
         board = self._boards.setdefault(number, Board(self.levels[number - 1]))
@@ -66,25 +67,32 @@ class Picks:
         counts = replay.moves, replay.pushes
         return (_SOLVES, *(counts if self.best == MOVES else counts[::-1]), order), None
 
-    def audited(self, audit: Callable[[bytes], report.Report]) -> Tuple[bytes, report.Report]:
+    def audited(self, audit: Callable[[bytes], report.Report],
+                written: Callable[[Dict[int, bytes]], bytes]) -> Tuple[bytes, report.Report]:
         """Returns the answers file with the best answers that an audit accepts, and the report.
+        `written` makes the file of records by their levels.
 
         If the audit refuses an answer, the next one is tried. If it refuses all answers to a level,
         the first one that stays is kept.
         """
         while True:
-            chosen = {number: pick for number in sorted(self._of)
-                      for pick in [self._choice(number)] if pick}
-            text = answers.text([pick.text for pick in chosen.values()])
+            self.chosen = {number: pick for number in sorted(self._of)
+                           for pick in [self._choice(number)] if pick}
+            text = written({number: pick.text for number, pick in self.chosen.items()})
             read = audit(text)
             refused = [line for line in read.lines
                        if line.status == "refused" and line.words[0] != "board"]
             for line in refused:
-                pick = chosen[line.level]
+                pick = self.chosen[line.level]
                 # The line number of a certificate is one in this text, which nobody sees.
                 pick.fault = pick.fault or " ".join(line.words[2 * (line.words[0] == "line"):])
-            if all(self._choice(line.level) is chosen[line.level] for line in refused):
+            if all(self._choice(line.level) is self.chosen[line.level] for line in refused):
                 return text, read
+
+    def has(self, number: int, text: bytes) -> bool:
+        """Returns whether the answer to a level was chosen that a record has, with its comments."""
+        pick = self.chosen.get(number)
+        return bool(pick and (pick.text == text or covers(pick.text, text)))
 
     def _choice(self, number: int) -> Optional[Pick]:
         """Returns the best answer to a level that isn't known to be refused, or one that stays."""
@@ -102,3 +110,18 @@ class Picks:
                 number, pick = several[0]
                 found.append((source, f"refused for level {number}: {pick.fault}"))
         return found
+
+
+def _record_of(text: bytes) -> answers.Record:
+    record: answers.Record = answers.read(b"sokoban-answers 2\n" + text).records[0]
+    return record
+
+
+def covers(chosen: bytes, other: bytes) -> bool:
+    """Returns whether a record has the answer and the comments of another one."""
+    one, two = map(_record_of, (chosen, other))
+    comments, wanted = ({line for line in record.above + record.raw if line.startswith(b";")}
+                        for record in (one, two))
+    bodies = [record.letters if record.kind == "solution" else [line for _, line in record.body]
+              for record in (one, two)]
+    return one.kind == two.kind and bodies[0] == bodies[1] and wanted <= comments

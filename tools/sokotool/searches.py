@@ -5,10 +5,11 @@ import multiprocessing.connection
 import os
 import signal
 import time
-from typing import Any, Callable, Dict, Iterator, List, NamedTuple, Sequence
+from typing import Any, Callable, Dict, Iterator, List, NamedTuple, Optional, Sequence
 
 from . import answers
 from .levels import Level
+from .search.budget import Budget
 from .search.refute import LATE, SOLVABLE, Outcome, outcome
 
 MEMORY = "memory"
@@ -20,29 +21,32 @@ _FORK = multiprocessing.get_context("fork")
 
 
 class Result(NamedTuple):
-    """The outcome of a level's search, and the record of the certificate or solution if one was
-    found."""
+    """The outcome of a level's search, the record of the certificate or solution if one was found,
+    and the seconds that the search could have."""
 
     level: Level
     what: str
     record: bytes
+    seconds: float
 
 
 class _Running(NamedTuple):
-    """A search that runs: the index of its level, its process, and when it began."""
+    """A search that runs: the index of its level, its process, when it began, and its seconds."""
 
     at: int
     process: Any
     pipe: Any
     began: float
+    seconds: float
 
 
 class Searches:
     """The searches of some levels, up to `jobs` at once, each within some seconds. Results come in
-    the order of the levels."""
+    the order of the levels. Once the time of a budget is over, no search begins."""
 
-    def __init__(self, levels: Sequence[Level], seconds: float, jobs: int) -> None:
-        self.levels, self.seconds, self.jobs = levels, seconds, jobs
+    def __init__(self, levels: Sequence[Level], seconds: float, jobs: int,
+                 budget: Optional[Budget] = None) -> None:
+        self.levels, self.seconds, self.jobs, self.budget = levels, seconds, jobs, budget
         self.running: Dict[int, _Running] = {}
         self._done: Dict[int, Result] = {}
         self._started = 0
@@ -54,6 +58,8 @@ class Searches:
             for index in range(len(self.levels)):
                 while index not in self._done:
                     self._start()
+                    if not self.running:
+                        return
                     watch()
                     self._wait()
                 yield self._done.pop(index)
@@ -72,12 +78,17 @@ class Searches:
 
     def _start(self) -> None:
         while len(self.running) < self.jobs and self._started < len(self.levels):
+            left = self.budget.seconds_left() if self.budget else self.seconds
+            if left <= 0:
+                break
+            seconds = min(self.seconds, left)
             ours, theirs = _FORK.Pipe(duplex=False)
-            words = (self.levels[self._started], self.seconds, theirs, os.getpid())
+            words = (self.levels[self._started], seconds, theirs, os.getpid())
             process = _FORK.Process(target=_search, args=words, daemon=True)
             process.start()
             theirs.close()
-            self.running[self._started] = _Running(self._started, process, ours, time.monotonic())
+            self.running[self._started] = _Running(self._started, process, ours, time.monotonic(),
+                                                   seconds)
             self._started += 1
 
     def _wait(self) -> None:
@@ -87,11 +98,11 @@ class Searches:
         for pipe, one in running.items():
             if pipe in ready:
                 self._end(one, *_received(pipe))
-            elif time.monotonic() - one.began > self.seconds + GRACE:
+            elif time.monotonic() - one.began > one.seconds + GRACE:
                 self._end(one, LATE, b"")
 
     def _end(self, one: _Running, what: str, record: bytes) -> None:
-        self._done[one.at] = Result(self.levels[one.at], what, record)
+        self._done[one.at] = Result(self.levels[one.at], what, record, one.seconds)
         _stop(one)
         del self.running[one.at]
 

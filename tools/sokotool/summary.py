@@ -13,13 +13,16 @@ _NAMES = {"solved": "newly solved", "unsolvable": "newly unsolvable", "changed":
 
 class Done(NamedTuple):
     """The result of a check: the name of the collection, its state now and before, what was left
-    out or is wrong, and whether the reference checked it."""
+    out or is wrong, whether the reference checked it, the numbers of the levels that the keeper
+    edited, and what is kept elsewhere."""
 
     name: str
     now: changes.State
     before: Optional[changes.State]
     problems: List[str]
     is_reference: bool
+    edited: List[int]
+    kept: List[str]
 
 
 def lines(done: Done) -> Iterator[str]:
@@ -37,8 +40,12 @@ def lines(done: Done) -> Iterator[str]:
     if done.before:
         found = changes.changes(done.before, done.now)
         yield from changed(found)
-        if not found:
+        if done.edited:
+            yield f"edited by hand: {_levels(done.edited)} {changes.ranges(done.edited)}"
+        elif not found:
             yield "nothing changed since the last time"
+    if done.kept:
+        yield f"kept in {done.name}.kept.xsb: " + ", ".join(done.kept)
     yield from _some("twins: ", [
         f"level {later + 1} is level {first + 1}, {turn.words}"
         for later, first, turn in twins.twins_of(done.now.forms)])

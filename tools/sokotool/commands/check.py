@@ -1,32 +1,37 @@
 """Does the whole job: reads exports, takes over the former answers, makes certificates and searches
 for more, audits, and writes NAME.xsb, NAME.answers, NAME.report and NAME.html.
 
-The files are written at the end, whole or not at all, and the former ones are kept as NAME.xsb~ and
-so on. A level is known by its board, so an answer follows its level if levels are inserted, removed
-or turned. Of several accepted answers to a level the best is kept. The summary says what was left
-out, what changed since the last time, and which levels are twins. If it doesn't fit a screen,
-standard error gets everything that was left out.
+The files are written before the search and again after it, each time whole or not at all, and the
+former ones are kept as NAME.xsb~ and so on. A level is known by its board, so an answer follows its
+level if levels are inserted, removed or turned. Of several accepted answers to a level the best is
+kept. What you type into NAME.xsb and NAME.answers stays; what has no place there any more is in
+NAME.kept.xsb and NAME.kept.answers. The summary says what was left out, what changed since the last
+time, and which levels are twins. If it doesn't fit a screen, standard error gets everything that
+was left out.
 
 sokoaudit checks every answer. The variable SOKOAUDIT names it, or it is found in the checkout or
 the installation. The status is 1 if a level has no accepted answer, or something was left out or is
 wrong."""
 import argparse
 import os
-import tempfile
-from typing import Any, Dict, Iterator, List, NamedTuple, Optional, Sequence, Tuple
+import re
+from typing import Any, Callable, List, NamedTuple, Optional, Tuple
 
-from .. import (answers, auditor, boards, changes, levels, output, report, solvers, summary, texts)
+from .. import (answers, auditor, blocks, boards, by_hand, changes, kept, levels, memory, own_files,
+                report, solvers, summary, taking, texts)
+from ..audits import Audits
 from ..collection import MOVES, PUSHES, Collection
-from ..picks import Picks, Source
+from ..own_files import ANSWERS, KEPT_ANSWERS, KEPT_XSB, MEMORY, PAGE, REPORT, XSB, noted
+from ..picks import Picks
 from ..progress import Progress
 from ..search.budget import Budget
 from ..solving import Solving
 from . import carry, convert, page
-from .find import SECONDS, Search, above_zero
+from .find import SECONDS, Search, Unbroken, above_zero
 
-# The page of a collection within the limits is shorter.
-MOST_BYTES = 1_000_000_000
-ENDS = (".xsb", ".answers", ".report", ".html")
+BUDGET = 60
+WAY = "find"
+_LEVEL = re.compile(r"\blevel (\d+)")
 
 
 def arguments(parser: argparse.ArgumentParser) -> None:
@@ -42,6 +47,8 @@ def arguments(parser: argparse.ArgumentParser) -> None:
     parser.add_argument("--seconds", metavar="S", type=float, default=SECONDS,
                         help="search each level that is left for S seconds "
                         f"(default {SECONDS}, 0 for no search)")
+    parser.add_argument("--search", metavar="S", type=float, default=BUDGET,
+                        help=f"search for S seconds in all (default {BUDGET})")
     parser.add_argument("--jobs", metavar="N", type=above_zero(int),
                         default=len(os.sched_getaffinity(0)),
                         help="search N levels at once (default one for each processor)")
@@ -51,258 +58,249 @@ def arguments(parser: argparse.ArgumentParser) -> None:
     parser.add_argument("--verbose", action="store_true", help="print what the solver prints")
 
 
-class Former(NamedTuple):
-    """The former files, by the ends of their names, and the levels and answers in them."""
-
-    files: Dict[str, bytes]
-    levels: List[levels.Level]
-    forms: List[boards.Form]
-    answers: answers.Answers
-
-
 class QuietCollection(Collection):
     """A collection that keeps what is left out or wrong for the summary."""
 
     def __init__(self, shown: Progress, best: str) -> None:
         super().__init__(best)
         self.shown = shown
-        self.problems: List[str] = []
+        self.problems: List[Tuple[str, str]] = []
 
     def fault(self, line, why, file=None):
-        self.problems.append(self._at(line, why, file))
+        self.problems.append((self._place(line, file), why))
 
     def note(self, line, why, file=None):
-        self.shown.keep(self._at(line, why, file))
+        self.shown.keep(self._place(line, file) + why)
 
-    def _at(self, line, why, file) -> str:
-        return f"{texts.shown(file or self.file)} line {line}: {why}"
+    def _place(self, line, file) -> str:
+        return f"{texts.shown(file or self.file)} line {line}: "
 
 
-class Audits:
-    """Runs sokoaudit on a collection. `text` is the last report."""
+class Exports(NamedTuple):
+    """The levels and solutions of the exports, and what was left out: places and reasons."""
 
-    def __init__(self, program: auditor.Auditor, levels_text: bytes, count: int) -> None:
-        self.program, self.count = program, count
-        self._folder = tempfile.TemporaryDirectory()
-        self._levels = self._put("levels", levels_text)
-        self.text = b""
-
-    def __enter__(self):
-        return self
-
-    def __exit__(self, *_):
-        self._folder.cleanup()
-
-    def _put(self, name: str, data: bytes) -> str:
-        path = os.path.join(self._folder.name, name)
-        with open(path, "wb") as file:
-            file.write(data)
-        return path
-
-    def audit(self, written: bytes) -> report.Report:
-        """Returns the report on an answers text."""
-        self.text = self.program.audit(self._levels, self._put("answers", written))
-        read = report.read(self.text)
-        fault = read.fault(self.count)
-        if fault:
-            raise texts.Stop(f"{texts.shown(self.program.path)} printed no report: {fault}")
-        return read
-
-    def made(self, some: Sequence[levels.Level]) -> Iterator[Tuple[int, answers.Record]]:
-        """Yields the certificates that sokoaudit makes for some levels, with their numbers."""
-        text = b"\n".join(b"".join(row + b"\n" for row in level.rows) for level in some)
-        for record in answers.read(self.program.make(self._put("some", text))).records:
-            yield some[record.level - 1].number, record
+    text: bytes
+    answers: bytes
+    problems: List[Tuple[str, str]]
 
 
 def run(options: argparse.Namespace) -> int:
-    refuse_inputs(options)
-    if options.solver:
-        solvers.words_of(options.solver)
-    program, shown = auditor.find(), Progress("check")
-    former = former_of(options.name)
-    text, exported, problems = converted(options, shown)
-    files = [noted(program, text)]
-    found = levels.read(files[0])
-    now = changes.State(found, boards.forms_of(found), [])
-    kept = Picks(found, options.best)
-    for record in answers.read(exported).records:
-        kept.add(record.level, carry.renumbered(record, record.level), stays=True)
-    take_over(kept, options, former, now)
-    with Audits(program, files[0], len(found)) as audits:
-        written, read = answered(kept, audits, options, shown)
-        files += [noted(program, written), noted(program, audits.text)]
-    files.append(page_of(options.name, files, program))
-    problems += [f"{texts.shown(source.file)} line {source.line}: {why}"
-                 for source, why in kept.left_out()]
-    before = former and state_of(former, program)
-    shown.clear()
-    for line in problems if len(problems) > summary.MOST_PROBLEMS else ():
-        shown.keep(line)
-    write(options.name, files, former)
-    now = now._replace(lines=read.lines)
-    done = summary.Done(options.name, now, before, problems, program.is_reference)
-    for line in summary.lines(done):
-        print(line)
-    return int(bool(problems) or not all(line.is_answered for line in read.lines))
+    job = Job(options)
+    with Audits(job.program, job.text, len(job.now.levels)) as audits:
+        job.audit(audits)
+        job.write()
+        job.search(audits)
+    return job.report()
 
 
-def converted(options: argparse.Namespace, shown: Progress) -> Tuple[bytes, bytes, List[str]]:
-    """Returns the levels and the solutions of the exports, and what was left out."""
+def converted(options: argparse.Namespace, shown: Progress) -> Exports:
+    """Reads the exports."""
     shown.show("reading")
     collection = QuietCollection(shown, options.best)
     convert.read_files(collection, convert.listed(options.exports))
     if not collection.count:
-        raise texts.Stop("\n  ".join(["these files have no level", *collection.problems]))
+        raise texts.Stop("\n  ".join(["these files have no level",
+                                      *map("".join, collection.problems)]))
     (_, text), (_, exported) = collection.files(options.name)
-    return text, exported, collection.problems
+    return Exports(text, exported, collection.problems)
 
 
-# ---- the former files
+class Job:
+    """A check: its files, the collection as it becomes, and the candidates for its answers."""
 
-def refuse_inputs(options: argparse.Namespace) -> None:
-    """Refuses inputs that would be written over."""
-    written = [options.name + end + more for end in ENDS for more in ("", "~")]
-    for file in convert.listed(options.exports):
-        if any(texts.same_file(file, name) for name in written):
-            raise texts.Stop(f"would write over {texts.shown(file)}")
+    def __init__(self, options: argparse.Namespace) -> None:
+        if options.solver:
+            solvers.words_of(options.solver)
+        self.options, self.shown = options, Progress("check")
+        self.program = auditor.find()
+        self.files = own_files.Files(options.name)
+        self.files.refuse(convert.listed(options.exports))
+        self.memory = self.files.memory()
+        exports = converted(options, self.shown)
+        self.stored = self._stored()
+        self.before = by_hand.collection(self.memory.blocks)
+        self.mine = by_hand.collection(self._own_blocks())
+        self.merged = by_hand.merged(self.before, self.mine,
+                                     by_hand.collection(blocks.read(exports.text)),
+                                     [entry.block for entry in self.stored.entries],
+                                     self.memory.is_ordered)
+        self.text = noted(self.program, blocks.text(self.merged.blocks))
+        found = levels.read(self.text)
+        self.now = changes.State(found, boards.forms_of(found), [])
+        self.picks = Picks(self.now.levels, options.best)
+        self.taken = taking.Taken(self.picks, self.now)
+        self._take_over(exports)
+        self.written = b""
+        self.read = report.Report()
 
+    def _own_blocks(self) -> List[blocks.Block]:
+        """Returns the levels of NAME.xsb as they are now."""
+        text = self.files.levels()
+        if text is None and ANSWERS in self.files.before:
+            name = texts.shown(self.files.name)
+            raise texts.Stop(f"{name}.answers is there, but not its levels in {name}.xsb: name it "
+                             "by --answers, under another name")
+        found = blocks.read(text or b"")
+        if text and text.strip() and not found:
+            raise texts.Stop(f"{texts.shown(self.files.name)}.xsb has no level: move it away")
+        return found
 
-def former_of(name: str) -> Optional[Former]:
-    """Returns the former files and what is in them, or None if there are no former levels."""
-    files = {end: texts.read(name + end, MOST_BYTES) for end in ENDS if os.path.exists(name + end)}
-    if ".xsb" not in files:
-        if ".answers" in files:
-            raise texts.Stop(f"{texts.shown(name)}.answers is there, but not its levels in "
-                             f"{texts.shown(name)}.xsb: name it by --answers, under another name")
-        return None
-    found = levels.read(files[".xsb"])
-    read = read_answers(name + ".answers", files.get(".answers", answers.text([])))
-    return Former(files, found, boards.forms_of(found), read)
+    def _stored(self) -> kept.Kept:
+        """Returns what former checks kept."""
+        text = self.files.before.get(KEPT_XSB, b"")
+        return kept.read(text, self.files.answers(KEPT_ANSWERS, len(levels.read(text))))
 
+    def _take_over(self, exports: Exports) -> None:
+        """Adds the former answers, those of the exports, and those of other files: by the board of
+        the level that each names."""
+        places = {at: number for number, at in enumerate(self.merged.exports, 1)}
+        self.problems = [place + _LEVEL.sub(lambda it: f"level {places[int(it[1]) - 1]}", why)
+                         for place, why in exports.problems]
+        self.former = (self.before if self.before.blocks else self.mine).state
+        most = max(len(self.former.levels), len(self.mine.blocks))
+        self.taken.add_own(self.files.answers(ANSWERS, most), self.former, self.mine.state,
+                           set(self.memory.computed))
+        self.taken.add_stored(self.stored)
+        self.taken.add_exported([kept.renumbered(record, places[record.level - 1])
+                                 for record in answers.read(exports.answers).records])
+        for name in self.options.answers:
+            self.taken.add_file(name, self.former)
 
-def read_answers(name: str, data: bytes) -> answers.Answers:
-    """Returns the records of an answers file, which may come in any order."""
-    try:
-        return answers.read(data, rising=False)
-    except answers.Fault as fault:
-        raise texts.Stop(f"{texts.shown(name)} line {fault.line}: {fault.why}") from None
+    def audit(self, audits: Audits) -> None:
+        """Audits the best answers, after certificates were made for levels without one."""
+        self.shown.show("auditing")
+        self._audit(audits)
+        left = self._unanswered()
+        if left:
+            self.shown.show("making certificates")
+            for number, record in audits.made(left):
+                self.taken.add_computed(number, carry.renumbered(record, number))
+            self._audit(audits)
 
+    def _audit(self, audits: Audits) -> None:
+        self.written, self.read = self.picks.audited(
+            audits.audit, lambda records: noted(self.program, self.taken.written(records)))
+        self.printed = noted(self.program, audits.text)
 
-def state_of(former: Former, program: auditor.Auditor) -> changes.State:
-    """Returns the former levels with the report on them, of a new audit if that isn't whole."""
-    read = report.read(former.files.get(".report", b""))
-    if read.fault(len(former.levels)):
-        with Audits(program, former.files[".xsb"], len(former.levels)) as audits:
-            read = audits.audit(former.files.get(".answers", answers.text([])))
-    return changes.State(former.levels, former.forms, read.lines)
+    def _unanswered(self) -> List[levels.Level]:
+        """Returns the legal levels that have no accepted answer."""
+        return [self.now.levels[line.level - 1] for line in self.read.lines
+                if not line.is_answered and line.words[:1] != ["board"]]
 
+    def search(self, audits: Audits) -> None:
+        """Searches the levels that are left, and then runs the solver, within the time of the run.
+        An interrupt ends both."""
+        seconds, jobs, solver = self.options.seconds, self.options.jobs, self.options.solver
+        end = Budget(self.options.search)
+        goes_on = self._search(
+            audits, WAY, self.options.search / (2 if solver else 1),
+            lambda found, budget: Search(self.shown, found, seconds, jobs, budget))
+        if solver and goes_on:
+            self._search(audits, f"solver {solver}", end.seconds_left(), lambda found, budget:
+                         Solving(self.shown, found, solvers.Limits(solver, seconds, jobs, budget),
+                                 self.options.verbose))
 
-# ---- answers
+    def _search(self, audits: Audits, way: str, seconds: float,
+                begin: Callable[[List[levels.Level], Budget], Any]) -> bool:
+        """Searches the levels that weren't searched in this way, and writes the files again.
+        Returns false after an interrupt."""
+        forms = [self.now.forms[level.number - 1] for level in self._unanswered()]
+        due = self.memory.outcomes.due(forms, way, self.options.seconds)
+        if not due or not seconds > 0:
+            return True
+        self.shown.keep(f"{texts.count(len(due), 'level')} "
+                        f"{'to search' if way == WAY else 'for the solver'}, at most "
+                        f"{self.options.seconds:g} s each, {seconds:.3g} s in all")
+        search = begin([form.level for form in due], Budget(seconds))
+        is_interrupted = False
+        try:
+            for result in search.results():
+                self._take(search, way, result)
+        except KeyboardInterrupt:
+            is_interrupted = True
+            for result in search.rest():
+                self._take(search, way, result)
+        left = len(due) - sum(search.counts.values())
+        if left:
+            self.shown.keep(f"{texts.count(left, 'level')} left: the next run goes on with them")
+        if search.answered():
+            self._audit(audits)
+        self.write()
+        return not is_interrupted
 
-def take_over(kept: Picks, options: argparse.Namespace, former: Optional[Former],
-              now: changes.State) -> None:
-    """Adds the former answers, and the answers of other files, by the board that their level had.
-
-    The records of other files are added by the new numbers too.
-    """
-    if former:
-        take_former(kept, options.name + ".answers", former, now)
-    for name in options.answers:
-        read = read_answers(name, texts.read(name))
-        for record in read.records:
-            if record.level <= len(now.levels):
-                text = carry.renumbered(record, record.level)
-                kept.add(record.level, text, Source(name, record.line))
-        take_former(kept, name, former and former._replace(answers=read), now)
-
-
-def take_former(kept: Picks, name: str, former: Optional[Former], now: changes.State) -> None:
-    """Adds records by the board that their level had, or by its title or position if the board
-    changed."""
-    if not former:
-        return
-    before = changes.State(former.levels, former.forms, [])
-    changed = {match.old + 1: match.new + 1 for match in changes.matches(before, now)
-               if match.turn is None}
-    records = [record for record in former.answers.records if record.level <= len(former.levels)]
-    found = carry.carried(records, former.forms, now.forms)
-    placed = set()
-    for several in found.values():
-        for one in several:
-            kept.add(one.level, one.text, Source(name, one.record.line))
-            placed.add(one.record.level)
-    for record in former.answers.records:
-        source = Source(name, record.line)
-        if record.level in changed:
-            kept.add(changed[record.level], carry.renumbered(record, changed[record.level]), source)
-        elif record.level not in placed:
-            kept.add_source(source)
-
-
-def answered(kept: Picks, audits: Audits, options: argparse.Namespace, shown: Progress
-             ) -> Tuple[bytes, report.Report]:
-    """Returns the accepted answers and the report, after certificates were made and searched for
-    the levels without an answer."""
-    shown.show("auditing")
-    written, read = kept.audited(audits.audit)
-    left = unanswered(kept, read)
-    if left:
-        shown.show("making certificates")
-        for number, record in audits.made(left):
-            kept.add(number, carry.renumbered(record, number))
-        written, read = kept.audited(audits.audit)
-        left = unanswered(kept, read)
-    if not left or not options.seconds > 0:
-        return written, read
-    if searched(kept, Search(shown, left, options.seconds, options.jobs)):
-        written, read = kept.audited(audits.audit)
-        left = unanswered(kept, read)
-    if not left or not options.solver:
-        return written, read
-    limits = solvers.Limits(options.solver, options.seconds, options.jobs,
-                            Budget(len(left) * options.seconds))
-    is_solved = searched(kept, Solving(shown, left, limits, options.verbose))
-    return kept.audited(audits.audit) if is_solved else (written, read)
-
-
-def searched(kept: Picks, search: Any) -> int:
-    """Adds the answers of a search or a solver, and returns how many levels got one."""
-    for result in search.results():
+    def _take(self, search: Any, way: str, result: Any) -> None:
+        """Takes the result of a search or of a solver's run."""
         search.report(result)
+        if result.what != solvers.FAILED:
+            form = self.now.forms[result.level.number - 1]
+            self.memory.outcomes.keep(form, way, result.what, result.seconds)
         if result.record:
-            kept.add(result.level.number, result.record)
-    answered: int = search.answered()
-    return answered
+            self.taken.add_computed(result.level.number, result.record)
 
+    def write(self) -> None:
+        """Writes the files."""
+        self.shown.show("writing")
+        listed = [self.text, self.written, self.printed]
+        remembered = self.memory._replace(
+            blocks=self.merged.blocks, is_ordered=self.merged.is_ordered,
+            computed=self.taken.computed())
+        self.left = self._left()
+        kept_text, kept_answers = self.left.files()
+        with Unbroken():
+            self.files.write({KEPT_XSB: kept_text, KEPT_ANSWERS: kept_answers, XSB: listed[0],
+                              ANSWERS: listed[1], REPORT: listed[2],
+                              PAGE: page_of(self.options.name, listed, self.program),
+                              MEMORY: memory.text(remembered)})
 
-def unanswered(kept: Picks, read: report.Report) -> List[levels.Level]:
-    """Returns the legal levels that have no accepted answer."""
-    return [kept.levels[line.level - 1] for line in read.lines
-            if not line.is_answered and line.words[:1] != ["board"]]
+    def _left(self) -> kept.Kept:
+        """Returns what has no place in the collection."""
+        stored = [entry._replace(block=entry.block._replace(above=(), below=()))
+                  if at in self.merged.back else entry
+                  for at, entry in enumerate(self.stored.entries)
+                  if entry.record or at not in self.merged.back]
+        entries = self.taken.left(self.stored._replace(entries=stored))
+        for index, block in self.merged.away:
+            level = self.mine.state.levels[index]
+            entries.append(kept.Entry(kept.head_of(level.number, level.title), block))
+        return kept.Kept(entries, self.stored.rest)
 
+    def report(self) -> int:
+        """Prints the summary, and returns the status."""
+        problems = self.problems + [f"{texts.shown(source.file)} line {source.line}: {why}"
+                                    for source, why in self.picks.left_out()]
+        self.shown.clear()
+        for line in problems if len(problems) > summary.MOST_PROBLEMS else ():
+            self.shown.keep(line)
+        now = self.now._replace(lines=self.read.lines)
+        done = summary.Done(self.options.name, now, self._before(), problems,
+                            self.program.is_reference, self.merged.edited,
+                            self.left.reasons(now.forms))
+        for said in summary.lines(done):
+            print(said)
+        return int(bool(problems) or not all(line.is_answered for line in self.read.lines))
 
-# ---- the files
-
-def noted(program: auditor.Auditor, text: bytes) -> bytes:
-    """Returns a text with a note at its end if the reference has checked it."""
-    return text + f"; {auditor.REFERENCE_NOTE}\n".encode() if program.is_reference else text
+    def _before(self) -> Optional[changes.State]:
+        """Returns the former levels with the report on them, of a new audit if that isn't whole.
+        """
+        if XSB not in self.files.before:
+            return None
+        count = len(self.former.levels)
+        read = report.read(self.files.before.get(REPORT, b""))
+        if read.fault(count):
+            first = {record.level: carry.renumbered(record, record.level)
+                     for record in reversed(self.files.answers(ANSWERS, count).records)}
+            rows = b"\n".join(kept.spelled(level.rows) for level in self.former.levels)
+            with Audits(self.program, rows, count) as audits:
+                read = audits.audit(answers.text([first[level] for level in sorted(first)]))
+        return self.former._replace(lines=read.lines)
 
 
 def page_of(name: str, files: List[bytes], program: auditor.Auditor) -> bytes:
     """Returns the page of the three files."""
-    names = [texts.shown(os.path.basename(name) + end) for end in ENDS[:3]]
+    names = [texts.shown(os.path.basename(name) + end) for end in (XSB, ANSWERS, REPORT)]
     if program.is_reference:
         names[1] += ", " + auditor.REFERENCE_NOTE
     made, fault = page.written(files, names)
     if fault:
         raise texts.Stop(f"the report isn't of these levels and answers: {fault}")
     return made
-
-
-def write(name: str, files: List[bytes], former: Optional[Former]) -> None:
-    """Writes the files, and the former ones as backups, unless nothing changed."""
-    before = former.files if former else {}
-    if [before.get(end) for end in ENDS] != files:
-        output.write_files([(name + end + "~", data) for end, data in before.items()]
-                           + [(name + end, data) for end, data in zip(ENDS, files)])

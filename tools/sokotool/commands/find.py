@@ -10,10 +10,11 @@ has no answer."""
 import argparse
 import signal
 from collections import Counter
-from typing import Any, Callable, Dict, Iterator, List, Sequence
+from typing import Any, Callable, Dict, Iterator, List, Optional, Sequence
 
 from .. import answers, levels, output, report, searches, texts
 from ..progress import Progress
+from ..search.budget import Budget
 from ..search.refute import FOUND, FULL, ILLEGAL, LATE, LONG, SOLVABLE
 from ..searches import MEMORY
 
@@ -73,10 +74,10 @@ class Search:
     on a terminal a line that names the levels at work."""
 
     def __init__(self, shown: Progress, found: Sequence[levels.Level], seconds: float,
-                 jobs: int) -> None:
-        self.shown, self.levels, self.seconds = shown, found, seconds
+                 jobs: int, budget: Optional[Budget] = None) -> None:
+        self.shown, self.levels = shown, found
         self.counts: Dict[str, int] = Counter()
-        self._searches = searches.Searches(found, seconds, jobs)
+        self._searches = searches.Searches(found, seconds, jobs, budget)
 
     def results(self) -> Iterator[searches.Result]:
         """Yields the results in order of the levels."""
@@ -89,19 +90,19 @@ class Search:
     def report(self, result: searches.Result) -> None:
         """Counts a result, and prints its line."""
         self.counts[result.what] += 1
-        self.shown.keep(f"level {result.level.number}: {self.words(result.what)} ({self._done()}, "
+        self.shown.keep(f"level {result.level.number}: {self.words(result)} ({self._done()}, "
                         f"{self.answered()} found)")
 
     def answered(self) -> int:
         """Returns how many levels got an answer."""
         return self.counts[FOUND] + self.counts[SOLVABLE]
 
-    def words(self, what: str) -> str:
+    def words(self, result: searches.Result) -> str:
         """Returns an outcome in words."""
         return {FOUND: "found", SOLVABLE: "solved", LONG: "list too long",
                 ILLEGAL: "not legal", FULL: "gave up: its tables are full",
                 MEMORY: "gave up: out of memory",
-                LATE: f"stopped after {self.seconds:g} s"}[what]
+                LATE: f"stopped after {result.seconds:.3g} s"}[result.what]
 
     def summary(self) -> str:
         """Returns the number of levels with each outcome, in a fixed form."""

@@ -1,0 +1,295 @@
+"""The command check: whatever a keeper types into the files of NAME is in one of them after any
+run, until he removes it himself.
+
+Random histories: exports go, come back, are edited, turned and put in another order; records,
+comments, titles, texts and levels are typed, each with a word of its own; a run is interrupted,
+killed, or meets a full disk."""
+import errno
+import glob
+import importlib.util
+import os
+import random
+import re
+import sys
+import unittest.mock
+from importlib.machinery import SourceFileLoader
+from typing import Any, Callable, Dict, List, NamedTuple, Set
+
+from sokotool import auditor, levels
+from tests.tools.ending import EndsEarly, Killed
+from tests.tools.helping import TOP, Case
+
+HISTORIES = 200
+RUNS = 6
+
+
+class Drawn(NamedTuple):
+    """A level of an export: a corridor of its own length, perhaps mirrored."""
+
+    length: int
+    is_mirrored: bool
+    title: str
+    is_solved: bool
+
+    def rows(self) -> List[str]:
+        row = "#@" + " " * self.length + "$ .#"
+        wall = "#" * len(row)
+        return [wall, row[::-1] if self.is_mirrored else row, wall]
+
+    def letters(self) -> str:
+        letters = "r" * self.length + "RR"
+        return letters.translate(str.maketrans("rR", "lL")) if self.is_mirrored else letters
+
+    def text(self) -> str:
+        solution = ["Solution: " + self.letters()] if self.is_solved else []
+        if self.title.startswith("Title:"):
+            lines = [*self.rows(), self.title, *solution]
+        else:
+            lines = [self.title, *self.rows(), *solution]
+        return "\n".join(lines) + "\n\n"
+
+
+def reference() -> Callable[..., auditor.Ran]:
+    """Returns the reference as a function in this process, in place of `Auditor.run`."""
+    folder = os.path.join(TOP, "reference")
+    sys.path.insert(0, folder)
+    loader = SourceFileLoader("reference_program", os.path.join(folder, "sokoaudit"))
+    spec = importlib.util.spec_from_loader("reference_program", loader)
+    assert spec
+    module: Any = importlib.util.module_from_spec(spec)
+    loader.exec_module(module)
+    sys.path.remove(folder)
+
+    def run(_self: auditor.Auditor, *words: str, **_: object) -> auditor.Ran:
+        out, error, status = module.answer_to(lambda: module.run(words))
+        return auditor.Ran(status, out, error.decode().strip())
+    return run
+
+
+class History:
+    """The exports and the files of a keeper, and the words that he typed."""
+
+    def __init__(self, chance: random.Random) -> None:
+        self.chance = chance
+        self.exports: Dict[str, List[Drawn]] = {}
+        self.away: Dict[str, List[Drawn]] = {}
+        self.words: Set[str] = set()
+        self.count = 0
+        for name in "abc":
+            self.exports[name] = [self.drawn() for _ in range(chance.randint(1, 3))]
+
+    def word(self, is_typed: bool = True) -> str:
+        """Returns a new word."""
+        self.count += 1
+        word = f"word{self.count}x"
+        if is_typed:
+            self.words.add(word)
+        return word
+
+    def drawn(self) -> Drawn:
+        head = self.chance.choice(("Title: ", "; ", ""))
+        return Drawn(self.chance.randint(0, 9), self.chance.random() < .3,
+                     head + self.word(is_typed=False), self.chance.random() < .5)
+
+    # ---- the exports
+
+    def change_exports(self) -> None:
+        kind = self.chance.randint(0, 6)
+        name = self.chance.choice(sorted(self.exports)) if self.exports else ""
+        if kind == 0 and self.away:
+            back = self.chance.choice(sorted(self.away))
+            self.exports[back] = self.away.pop(back)
+        elif not name:
+            return
+        elif kind <= 1 and len(self.exports) > 1:
+            self.away[name] = self.exports.pop(name)
+        elif kind == 2:
+            self.exports[self.chance.choice("xyz")] = self.exports.pop(name)
+        else:
+            self.change_levels(self.exports[name], kind)
+
+    def change_levels(self, several: List[Drawn], kind: int) -> None:
+        at = self.chance.randrange(len(several))
+        one = several[at]
+        if kind == 3:
+            several.insert(at, self.drawn())
+        elif kind == 4 and len(several) > 1:
+            del several[at]
+        elif kind == 5:
+            self.chance.shuffle(several)
+        else:
+            several[at] = self.chance.choice((
+                one._replace(is_mirrored=not one.is_mirrored),
+                one._replace(length=one.length + 1),
+                one._replace(title="Title: " + self.word(is_typed=False)),
+                one._replace(is_solved=not one.is_solved)))
+
+    def put_exports(self) -> None:
+        for name in glob.glob("inbox/*"):
+            os.remove(name)
+        for name, several in self.exports.items():
+            with open(f"inbox/{name}.txt", "w", encoding="utf-8") as file:
+                file.write("".join(one.text() for one in several))
+
+    # ---- what the keeper types
+
+    def type(self) -> None:
+        """Types something, or removes something that was typed."""
+        if not os.path.exists("mine.xsb") or not os.path.exists("mine.answers"):
+            return
+        self.chance.choice((self.type_record, self.type_comment, self.type_text, self.type_title,
+                            self.type_level, self.change_order, self.remove))()
+
+    def lines(self, name: str) -> List[str]:
+        with open(name, encoding="utf-8") as file:
+            return file.read().split("\n")[:-1]
+
+    def put(self, name: str, lines: List[str]) -> None:
+        with open(name, "w", encoding="utf-8") as file:
+            file.write("".join(line + "\n" for line in lines))
+
+    def type_record(self) -> None:
+        """A record of a level: solved, in a way of its own or not, or refused."""
+        found = levels.read("\n".join(self.lines("mine.xsb")).encode())
+        level = self.chance.choice(found)
+        row = level.rows[1].decode()
+        step, back = ("l", "r") if row.startswith("#.") else ("r", "l")
+        letters = step * row.count(" ") + step.upper() * 2
+        solved = step * (len(row) - 6) + step.upper() * 2
+        body = self.chance.choice((
+            ["solution", solved], ["solution", letters],
+            ["solution", (step + back) * self.count + solved],
+            ["solution", solved + back], ["unsolvable"], ["unsolvable", "pattern 9,2 @ *"]))
+        body.insert(self.chance.randint(0, len(body)), "; " + self.word())
+        lines = self.lines("mine.answers")
+        record = ["; " + self.word(), f"level {level.number}", *body, "end"]
+        at = self.chance.choice([1, *(at for at, it in enumerate(lines, 1) if it == "end")])
+        self.put("mine.answers", lines[:at] + record + lines[at:])
+
+    def type_comment(self) -> None:
+        lines = self.lines("mine.answers")
+        several = ["; " + self.word()]
+        if self.chance.random() < .5:
+            several = ["", *several, ""]
+        at = self.chance.randint(1, len(lines))
+        self.put("mine.answers", lines[:at] + several + lines[at:])
+
+    def type_text(self) -> None:
+        lines = self.lines("mine.xsb")
+        at = self.chance.choice([at for at in range(len(lines) + 1) if not (
+            "".join(lines[at - 1:at]).startswith("#") and "".join(lines[at:at + 1]).startswith("#")
+        )])
+        head = self.chance.choice(("Title: ", "Author: ", "; ", "", ""))
+        several = [head + self.word(), *[""] * self.chance.randint(0, 1)]
+        self.put("mine.xsb", lines[:at] + several + lines[at:])
+
+    def type_title(self) -> None:
+        lines = self.lines("mine.xsb")
+        found = [at for at, line in enumerate(lines)
+                 if "word" in line and not self.words.intersection(re.findall("word\\d+x", line))]
+        if found:
+            lines[self.chance.choice(found)] = self.chance.choice(("Title: ", "")) + self.word()
+            self.put("mine.xsb", lines)
+
+    def type_level(self) -> None:
+        lines = self.lines("mine.xsb")
+        typed = Drawn(self.chance.randint(20, 99), False, "Title: " + self.word(), False)
+        at = self.chance.choice([0, len(lines)])
+        several = ["", *typed.text().split("\n")]
+        self.put("mine.xsb", lines[:at] + several + lines[at:])
+
+    def change_order(self) -> None:
+        lines = self.lines("mine.xsb")
+        found = levels.read("\n".join(lines).encode())
+        if len(found) > 1:
+            first, later = sorted(self.chance.sample(found, 2))
+            top, bottom = first.line - 1, later.line - 1
+            between = lines[top + len(first.rows):bottom]
+            rest = lines[bottom + len(later.rows):]
+            self.put("mine.xsb", lines[:top] + lines[bottom:bottom + len(later.rows)] + between
+                     + lines[top:top + len(first.rows)] + rest)
+
+    def remove(self) -> None:
+        """Removes each line with one of the words, in all files but the former ones."""
+        if not self.words:
+            return
+        word = self.chance.choice(sorted(self.words))
+        self.words.remove(word)
+        for name in ("mine.xsb", "mine.answers", "mine.kept.xsb", "mine.kept.answers"):
+            if os.path.exists(name):
+                self.put(name, [line for line in self.lines(name) if word not in line])
+
+
+class Histories(Case):
+    def setUp(self) -> None:
+        super().setUp()
+        self.enter(unittest.mock.patch.object(auditor.Auditor, "run", reference()))
+        path = os.path.join(TOP, "reference", "sokoaudit")
+        self.enter(unittest.mock.patch.dict(os.environ, SOKOAUDIT=path))
+
+    def enter(self, patch: Any) -> None:
+        patch.start()
+        self.addCleanup(patch.stop)
+
+    def check(self) -> Any:
+        return self.tool("check", "mine", "inbox", "--seconds", "0")
+
+    def test_every_typed_word_stays(self) -> None:
+        """After each run each word is in some file of NAME, and after one that was not ended early
+        it is in one that isn't a former file."""
+        os.mkdir("inbox")
+        failed = []
+        for seed in range(HISTORIES):
+            for name in glob.glob("mine.*") + glob.glob(".sokotool*"):
+                os.remove(name)
+            try:
+                self.live(History(random.Random(seed)))
+            except AssertionError as error:
+                failed.append(f"history {seed}: {error}")
+        self.assertFalse(failed, f"{len(failed)} of {HISTORIES} histories")
+
+    def live(self, history: History) -> None:
+        """Runs check some times, and changes the exports and types between two runs."""
+        for number in range(RUNS):
+            history.put_exports()
+            said = self.run_somehow(history.chance)
+            if said == "refused":
+                return
+            self.assert_has_words(history.words, said, f"run {number} was {said}")
+            for _ in range(history.chance.randint(0, 2)):
+                history.change_exports()
+            for _ in range(history.chance.randint(1, 3)):
+                history.type()
+        self.assertIn(self.check().status, (0, 1))
+        files = {name: self.read(name) for name in glob.glob("mine.*")}
+        self.check()
+        self.assertEqual(sorted(files), sorted(glob.glob("mine.*")))
+        self.assertFalse([name for name, data in files.items() if self.read(name) != data])
+
+    def assert_has_words(self, words: Set[str], said: str, where: str) -> None:
+        names = [name for name in glob.glob("mine.*")
+                 if said == "killed" or not name.endswith(("~", ".memory", ".html"))]
+        found = set(re.findall("word\\d+x", "".join(self.read(name).decode() for name in names)))
+        self.assertFalse(sorted(words - found), where)
+
+    def run_somehow(self, chance: random.Random) -> str:
+        """Runs check, and perhaps ends it at a random moment. Returns how it ended."""
+        ways = [("whole", None)] * 6 + [("killed", Killed()), ("interrupted", KeyboardInterrupt()),
+                                        ("full", OSError(errno.ENOSPC, "No space left on device"))]
+        way, error = chance.choice(ways)
+        moment = chance.choice((
+            ("os.replace", chance.randint(1, 12)), ("tempfile.mkstemp", chance.randint(1, 12)),
+            ("progress", chance.randint(1, 4))))
+        if error is None:
+            result = self.check()
+            if "was changed after a write was cut off, and so was another" in result.err:
+                return "refused"
+            self.assertIn(result.status, (0, 1), result.err)
+            return way
+        with EndsEarly(error, *moment):
+            try:
+                result = self.check()
+            except (Killed, OSError):
+                return way
+        self.assertNotIn("Traceback", result.err)
+        return way

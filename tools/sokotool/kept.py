@@ -1,0 +1,108 @@
+"""What a check keeps although the collection has no place for it: NAME.kept.xsb and
+NAME.kept.answers.
+
+That is an answer whose board is away or for which there is a better one, and text that was typed
+for a level that is away. Each has its level in NAME.kept.xsb, after a comment that says whence it
+came.
+"""
+from typing import Dict, List, NamedTuple, Optional, Sequence, Tuple
+
+from . import answers, blocks, boards, by_hand, texts
+from .blocks import Block
+
+_HEAD = b"; kept"
+
+
+class Entry(NamedTuple):
+    """The comment of a kept thing, its level with typed text, and its answer."""
+
+    head: bytes
+    block: Block
+    record: Optional[answers.Record] = None
+
+
+class Kept(NamedTuple):
+    """Kept things, and the lines after the last answer."""
+
+    entries: List[Entry]
+    rest: List[bytes]
+
+    def forms(self) -> Sequence[boards.Form]:
+        """Returns the forms of the levels."""
+        return by_hand.collection([entry.block for entry in self.entries]).forms
+
+    def records(self) -> List[answers.Record]:
+        """Returns the answers, numbered by the places of the levels from 1."""
+        return [renumbered(entry.record, number) for number, entry in enumerate(self.entries, 1)
+                if entry.record]
+
+    def reasons(self, forms: Sequence[boards.Form]) -> List[str]:
+        """Returns how many things are kept, and why. The forms are those of the collection."""
+        keys = {form.key for form in forms}
+        are_there = [form.key in keys for form in self.forms()]
+        count = {is_there: sum(bool(entry.record) for entry, it in zip(self.entries, are_there)
+                               if it == is_there) for is_there in (False, True)}
+        typed = sum(bool(entry.block.above or entry.block.below) for entry in self.entries)
+        found = [(count[False], "answer", "of levels that are away"),
+                 (count[True], "answer", "for which there are better ones"),
+                 (typed, "text", "of levels that are away")]
+        return [f"{texts.count(number, noun)} {why}" for number, noun, why in found if number]
+
+    def files(self) -> Tuple[Optional[bytes], Optional[bytes]]:
+        """Returns the contents of both files: None if there is nothing to keep."""
+        if not self.entries and not any(self.rest):
+            return None, None
+        listed = [entry.block._replace(above=(entry.head or _HEAD, *entry.block.above),
+                                       below=(*_trimmed(entry.block.below), b""))
+                  for entry in self.entries]
+        records = [spelled(record.loose + record.above + record.raw) for record in self.records()]
+        return blocks.text(listed), answers.text(records) + spelled(self.rest)
+
+
+def read(levels_text: bytes, found: answers.Answers) -> Kept:
+    """Returns what two files have. A level with several answers is there several times."""
+    records: Dict[int, List[answers.Record]] = {}
+    for record in found.records:
+        records.setdefault(record.level, []).append(record)
+    entries = []
+    for number, block in enumerate(blocks.read(levels_text, _cut), 1):
+        heads = [at for at, line in enumerate(block.above) if line.startswith(_HEAD)]
+        at = heads[0] if heads else len(block.above)
+        head = b"".join(block.above[at:at + 1])
+        block = block._replace(above=block.above[:at] + block.above[at + 1:],
+                               below=_trimmed(block.below))
+        several = records.get(number, [])
+        entries.append(Entry(head, block, several[0] if several else None))
+        entries += [Entry(head, Block((), block.rows, ()), other) for other in several[1:]]
+    return Kept(entries, found.rest)
+
+
+def head_of(number: int, title: str) -> bytes:
+    """Returns the comment of a thing that came from a level."""
+    return _HEAD + f" from level {number}".encode() + (f", {title}".encode() if title else b"")
+
+
+def renumbered(record: answers.Record, number: int) -> answers.Record:
+    """Returns a record with another number."""
+    found = answers.Record(number, record.line, b"level %d" % number, record.above, record.loose)
+    found.kind, found.body, found.raw = record.kind, record.body, found.raw + record.raw[1:]
+    return found
+
+
+def spelled(lines: Sequence[bytes]) -> bytes:
+    """Returns lines as a text."""
+    return b"".join(line + b"\n" for line in lines)
+
+
+def _trimmed(lines: blocks.Lines) -> blocks.Lines:
+    """Returns lines without the empty ones at the end."""
+    while lines and not lines[-1]:
+        lines = lines[:-1]
+    return lines
+
+
+def _cut(gap: Sequence[bytes]) -> int:
+    """Returns how many lines between two levels belong to the upper one: those before the comment
+    of the lower one."""
+    heads = [at for at, line in enumerate(gap) if line.startswith(_HEAD)]
+    return heads[-1] if heads else blocks.cut(gap)

@@ -1,0 +1,162 @@
+"""Takes over the answers of the last check: gives each to the levels that have its board, and
+finds out afterwards which of them have no place any more."""
+from typing import Dict, List, NamedTuple, Sequence, Set, Tuple
+
+from . import answers, changes, kept, memory, picks
+from .blocks import Block
+from .commands import carry
+from .levels import Level
+from .picks import Source
+
+Target = Tuple[int, bytes]  # the number of a level, and a record for it
+
+
+class Own(NamedTuple):
+    """A record, its level, and the levels that may get it."""
+
+    record: answers.Record
+    level: Level
+    targets: List[Target]
+
+
+class Taken:
+    """The candidates for the levels of a state, and where the comments between records go."""
+
+    def __init__(self, candidates: picks.Picks, now: changes.State) -> None:
+        self.picks, self.now = candidates, now
+        self._own: List[Own] = []
+        self._stored: List[Own] = []
+        self._loose: Dict[int, List[bytes]] = {}
+        self._rest: List[bytes] = []
+        self._exported: Dict[int, bytes] = {}
+        self._computed: Set[bytes] = set()
+
+    # ---- candidates
+
+    def add_own(self, found: answers.Answers, before: changes.State, mine: changes.State,
+                computed: Set[str]) -> None:
+        """Adds the records of NAME.answers, by the board of the level `before` that each names, and
+        by that of the level that has its number now. Some were computed, by their digests."""
+        count = len(before.levels)
+        self._own = self._by_board([it for it in found.records if it.level <= count], before, True)
+        self._own += self._by_board([it for it in found.records if it.level > count], mine, True)
+        if [form.key for form in before.forms] != [form.key for form in mine.forms]:
+            again = [it for it in found.records if it.level <= min(count, len(mine.levels))]
+            others = {id(own.record): own for own in self._by_board(again, mine, False)}
+            for own in self._own:
+                if id(own.record) in others:
+                    own.targets.extend(others[id(own.record)].targets)
+        for own in self._own:
+            if memory.digest(carry.renumbered(own.record, own.record.level)) in computed:
+                self._computed.update(text for _, text in own.targets)
+        places = {match.old + 1: match.new + 1 for match in changes.matches(before, self.now)}
+        self._place_comments(found, places)
+
+    def _place_comments(self, found: answers.Answers, places: Dict[int, int]) -> None:
+        """Notes the comments between records, each for the next level that is still there. `places`
+        has the numbers of levels now by those before."""
+        self._rest, nearest = found.rest, 0
+        for record in reversed(found.records):
+            nearest = places.get(record.level, nearest)
+            if nearest:
+                self._loose[nearest] = record.loose + self._loose.get(nearest, [])
+            else:
+                self._rest = record.loose + self._rest
+
+    def add_stored(self, stored: kept.Kept) -> None:
+        """Adds the records that were kept without a place."""
+        forms = stored.forms()
+        before = changes.State([form.level for form in forms], forms, [])
+        self._stored = self._by_board(stored.records(), before, False)
+
+    def add_exported(self, records: Sequence[answers.Record]) -> None:
+        """Adds the records of the exports, by the numbers of the levels."""
+        self._exported = {record.level: carry.renumbered(record, record.level)
+                          for record in records}
+        self._by_board(records, self.now, True)
+
+    def add_computed(self, number: int, record: bytes) -> None:
+        """Adds a record that was computed, which can be dropped for a better one."""
+        self._computed.add(record)
+        self.picks.add(number, record)
+
+    def add_file(self, name: str, before: changes.State) -> None:
+        """Adds the records of another file, by the numbers of levels before and now. Those that no
+        level accepts are reported."""
+        found = answers.read_file(name, rising=False)
+        for record in found.records:
+            self.picks.add_source(Source(name, record.line))
+            if record.level <= len(self.now.levels):
+                self.picks.add(record.level, carry.renumbered(record, record.level),
+                               Source(name, record.line))
+        known = [it for it in found.records if it.level <= len(before.levels)]
+        self._by_board(known, before, False, name)
+
+    def _by_board(self, records: Sequence[answers.Record], before: changes.State, stays: bool,
+                  name: str = "") -> List[Own]:
+        """Adds records to the levels that have the boards of theirs, or that took the place of
+        theirs. One that stays is kept for its own level if no other is accepted."""
+        found = {id(record): Own(record, before.levels[record.level - 1], [])
+                 for record in records}
+        places = {match.new + 1: match for match in changes.matches(before, self.now)}
+        carried = carry.carried(records, before.forms, self.now.forms)
+        changed = {match.old + 1: match.new + 1 for match in places.values() if match.turn is None}
+        for record in records:
+            if record.level in changed:
+                number = changed[record.level]
+                carried.setdefault(number, []).append(
+                    carry.Carried(number, carry.renumbered(record, number), record))
+        for number, several in carried.items():
+            for one in several:
+                is_own = number in places and places[number].turn is not None and (
+                    places[number].old == one.record.level - 1)
+                self.picks.add(number, one.text, name and Source(name, one.record.line) or None,
+                               stays=stays and is_own)
+                found[id(one.record)].targets.append((number, one.text))
+        return list(found.values())
+
+    # ---- once the answers were chosen
+
+    def written(self, records: Dict[int, bytes]) -> bytes:
+        """Returns the answers file with these records, and the comments between them."""
+        parts = [kept.spelled(self._loose.get(number, [])) + records.get(number, b"")
+                 for number in sorted({*records, *self._loose})]
+        return answers.text(parts) + kept.spelled(self._rest)
+
+    def computed(self) -> List[str]:
+        """Returns the digests of the chosen records that were computed."""
+        return [memory.digest(pick.text) for pick in self.picks.chosen.values()
+                if pick.text in self._computed]
+
+    def left(self, stored: kept.Kept) -> List[kept.Entry]:
+        """Returns what was stored before and has no place yet, and the own records that have none
+        any more."""
+        homeless = iter(self._stored)
+        entries = []
+        for entry in stored.entries:
+            own = next(homeless) if entry.record else None
+            if not own or not self._has_place(own):
+                entries.append(entry)
+            elif entry.block.above or entry.block.below:
+                entries.append(entry._replace(record=None))
+        for own in self._own:
+            if not self._has_place(own) and not self._is_spare(own):
+                head = kept.head_of(own.level.number, own.level.title)
+                entry = kept.Entry(head, Block((), tuple(own.level.rows), ()), own.record)
+                if not any(_is_same(entry, other) for other in entries):
+                    entries.append(entry)
+        return entries
+
+    def _has_place(self, own: Own) -> bool:
+        return any(self.picks.has(*target) for target in own.targets)
+
+    def _is_spare(self, own: Own) -> bool:
+        """Returns whether a record was computed, or is in the exports."""
+        return any(text in self._computed or number in self._exported
+                   and picks.covers(self._exported[number], text) for number, text in own.targets)
+
+
+def _is_same(entry: kept.Entry, other: kept.Entry) -> bool:
+    if other.record is None or entry.record is None or entry.block.rows != other.block.rows:
+        return False
+    return (entry.record.above + entry.record.raw[1:] == other.record.above + other.record.raw[1:])
