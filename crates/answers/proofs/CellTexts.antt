@@ -14,15 +14,15 @@ use Rattle.std.proofs.lemmas.List.Sums.{prefix_len-le-length, prefix_len_stops}
 use Rattle.std.proofs.lemmas.Slice.Eq.{bytes_eq-Decides}
 use Rattle.answers.specs.declared.pattern.Coord.{Coord}
 use Rattle.answers.specs.Grammar.{IsBefore, IsCellList, cell_text, cells_text, numeral}
-use Rattle.answers.specs.Reading.{◌>>=◌, AreCellsBefore, TakesCell, TakesCells, TakesCoordinate, after_blank, after_prefix, all_cells_in, cell_in, cells_from, cells_in, coordinate_in, is_before, is_number, number_in, origin, some_or}
+use Rattle.answers.specs.Reading.{◌>>=◌, AreCellsBefore, TakesCell, TakesCells, TakesCoordinate, after_blank, after_prefix, all_cells_in, cell_in, cells_from, cells_in, coordinate_in, is_before, is_number, number_in, some_or}
 use Rattle.answers.proofs.Coordinates.{BeginsWithDigits, NoneGoesOn, begins, takes_no_number, takes_number}
 use Rattle.answers.proofs.Numerals.{and_true}
 use Rattle.answers.proofs.TakenCells.{Continues, at_start, before_from_test, column_there, last_cell, no_cell, not_after, one_more, test_from_before}
 
 -- a chain of two steps that gave a value took both steps
-pub chained : {A B : Type 0} (o : Option A) (f : A → Option B) (y : B) → (o >>= f) ≡ Some y → (x : A) × (o ≡ Some x) × (f x ≡ Some y)
-chained None f y e = absurd cc
-chained (Some x) f y e = (x, refl, e)
+pub chained : {A B : Type 0} (o : Option A) {f : A → Option B} {y : B} → (o >>= f) ≡ Some y → (x : A) × (o ≡ Some x) × (f x ≡ Some y)
+chained None e = absurd cc
+chained (Some x) e = (x, refl, e)
 
 -- ---- prefixes
 
@@ -40,14 +40,14 @@ prefix_again prefix rest = grind (arith, take_at, drop_at, bytes_eq-Decides)
 -- ---- coordinates and cells
 
 -- the front elements that pass, all pass
-passes_by : (p : ℕ → Bool) (x : ℕ) (xs : List ℕ) (n : ℕ) (b : Bool) → p x ≡ b → list_all p (take n xs) ≡ true
+passes_by : (p : ℕ → Bool) {x : ℕ} (xs : List ℕ) (n : ℕ) (b : Bool) → p x ≡ b → list_all p (take n xs) ≡ true
     → list_all p (take (cond b (1 + n) 0) (x ∷ xs)) ≡ true
-passes_by p x xs n false fails rest = refl
-passes_by p x xs n true passes rest = grind arith
+passes_by p xs n false fails rest = refl
+passes_by p xs n true passes rest = grind arith
 
 front_passes : (p : ℕ → Bool) (xs : List ℕ) → list_all p (take (prefix_len p xs) xs) ≡ true
 front_passes p [] = refl
-front_passes p (x ∷ xs) = passes_by p x xs (prefix_len p xs) (p x) refl (front_passes p xs)
+front_passes p (x ∷ xs) = passes_by p xs (prefix_len p xs) (p x) refl (front_passes p xs)
 
 takes_coordinate : (text : List ℕ) → TakesCoordinate text (coordinate_in text)
 unfolding coordinate_in
@@ -59,8 +59,8 @@ takes_coordinate text =
     let none : NoneGoesOn text at number = λ within digit. absurd (false≢true (sym (prefix_len_stops is_ascii_digit text 0 within) ∙ digit)) in
     ⊎_elim
     (λ yes.
-    let both = and_true (is_number digits) (leb number 65535) yes in
-    let front = and_true (begins digits) (list_all is_ascii_digit digits) both.0 in
+    let both = and_true (is_number digits) yes in
+    let front = and_true (begins digits) both.0 in
     rw yes (takes_number text at number h none front.0 (leb-true number 65535 both.1)))
     (λ no.
     let other : number ≤ 65535 → begins digits ≡ false = λ small. ⊎_elim
@@ -73,9 +73,9 @@ abbrev with_row : ℕ → List ℕ → Option (Coord × List ℕ)
 with_row column more = coordinate_in more >>= λ row. Some (record { row = row.0; column = column }, row.1)
 
 module _ (text : List ℕ) where
-  row_by : (n m : ℕ) (more rest : List ℕ) → TakesCoordinate text (Some (n, 44 ∷ more)) → TakesCoordinate more (Some (m, rest))
+  row_by : {n m : ℕ} {more rest : List ℕ} → TakesCoordinate text (Some (n, 44 ∷ more)) → TakesCoordinate more (Some (m, rest))
       → TakesCell text (Some (record { row = m; column = n }, rest))
-  row_by n m more rest column row = record {
+  row_by {n} {m} {more} {rest} column row = record {
     found = record {
       spelled = column.found.spelled ∙ ap (λ l. numeral n ++ 44 ∷ l) row.found.spelled ∙ sym (append_assoc (numeral n) (codes ",") (numeral m ++ rest))
           ∙ sym (append_assoc (numeral n ++ codes ",") (numeral m) rest);
@@ -89,8 +89,8 @@ module _ (text : List ℕ) where
         rw (first.0, second.0, second.1) refl;
   }
 
-  no_row : (n : ℕ) (more : List ℕ) → TakesCoordinate text (Some (n, 44 ∷ more)) → TakesCoordinate more None → TakesCell text None
-  no_row n more column row = record {
+  no_row : {n : ℕ} {more : List ℕ} → TakesCoordinate text (Some (n, 44 ∷ more)) → TakesCoordinate more None → TakesCell text None
+  no_row {n} {more} column row = record {
     found = tt;
     only = λ cell after there ends.
         let first = some_pair_parts n cell.column (44 ∷ more) (44 ∷ (numeral cell.row ++ after))
@@ -99,10 +99,10 @@ module _ (text : List ℕ) where
         absurd cc;
   }
 
-  with_row_by : (n : ℕ) (more : List ℕ) (o : Option (ℕ × List ℕ)) → TakesCoordinate text (Some (n, 44 ∷ more)) → TakesCoordinate more o
+  with_row_by : {n : ℕ} {more : List ℕ} (o : Option (ℕ × List ℕ)) → TakesCoordinate text (Some (n, 44 ∷ more)) → TakesCoordinate more o
       → TakesCell text (o >>= λ row. Some (record { row = row.0; column = n }, row.1))
-  with_row_by n more None column row = no_row n more column row
-  with_row_by n more (Some r) column row = row_by n r.0 more r.1 column row
+  with_row_by None column row = no_row column row
+  with_row_by (Some r) column row = row_by column row
 
   cell_by : (o : Option (ℕ × List ℕ)) → TakesCoordinate text o
       → TakesCell text (o >>= λ column. after_prefix (codes ",") column.1 >>= λ more. with_row column.0 more)
@@ -124,7 +124,7 @@ module _ (text : List ℕ) where
       }
       by_comma (Some more) e =
           let is : left ≡ 44 ∷ more = prefix_found (codes ",") left more e in
-          with_row_by n more (coordinate_in more) (rw is at t) (takes_coordinate more)
+          with_row_by (coordinate_in more) (rw is at t) (takes_coordinate more)
 
 takes_cell : (text : List ℕ) → TakesCell text (cell_in text)
 unfolding cell_in
@@ -140,9 +140,9 @@ none_then : {A : Type 0} (b : Bool) (x : A) → cond b None (Some x) ≡ None �
 none_then true x e = refl
 none_then false x e = absurd cc
 
-blank_found : (text next : List ℕ) → after_blank text ≡ Some next → (text ≡ 32 ∷ next) × (slice_index next 0 ≢ 64)
+blank_found : {text next : List ℕ} → after_blank text ≡ Some next → (text ≡ 32 ∷ next) × (slice_index next 0 ≢ 64)
 unfolding after_blank
-blank_found text next e = grind (arith, chained, some_else, prefix_found, eqb-false)
+blank_found e = grind (arith, chained, some_else, prefix_found, eqb-false)
 
 no_blank : (text next : List ℕ) → after_blank text ≡ None → text ≡ 32 ∷ next → slice_index next 0 ≡ 64
 unfolding after_blank
@@ -156,30 +156,29 @@ nothing (b ∷ left) few = absurd (omega arith)
 module _ (n : ℕ) (text : List ℕ) (front : List Coord) (last : Coord) (left : List ℕ) (few : length left ≤ suc n) (k : Continues text front last left)
     (more : (cell : Coord) (next : List ℕ) → length next ≤ n → Continues text (front ++ cell ∷ []) cell next
     → TakesCells text (cells_from n (front ++ cell ∷ []) cell next)) where
-  by_next : (cell : Coord) (after : List ℕ) → TakesCell left (Some (cell, after)) → IsBefore last cell → (o : Option (List ℕ)) → after_blank after ≡ o
+  by_next : {cell : Coord} {after : List ℕ} → TakesCell left (Some (cell, after)) → IsBefore last cell → (o : Option (List ℕ)) → after_blank after ≡ o
       → TakesCells text (some_or (front ++ cell ∷ [], after) (λ next. cells_from n (front ++ cell ∷ []) cell next) o)
-  by_next cell after t before None e = search (last_cell, no_blank)
-  by_next cell after t before (Some next) e =
-      let blank = blank_found after next e in
+  by_next t before None e = search (last_cell, no_blank)
+  by_next {cell} {after} t before (Some next) e =
+      let blank = blank_found e in
       let size = ap length (t.found.spelled ∙ ap (λ l. cell_text cell ++ l) blank.0) ∙ length-append (cell_text cell) (32 ∷ next) in
-      more cell next (omega (arith, few, size)) (one_more text front last left k cell after t before next blank.0 blank.1)
+      more cell next (omega arith) (one_more text front last left k cell after t before next blank.0 blank.1)
 
   by_cell : (o : Option (Coord × List ℕ)) → TakesCell left o → TakesCells text (o >>= λ t. cond (is_before last t.0)
       (some_or (front ++ t.0 ∷ [], t.1) (λ next. cells_from n (front ++ t.0 ∷ []) t.0 next) (after_blank t.1)) None)
   by_cell None t = no_cell text front last left k t
   by_cell (Some (cell, after)) t = ⊎_elim
-      (λ yes. rw yes (by_next cell after t (before_from_test last cell yes) (after_blank after) refl))
-      (λ no. rw no (not_after text front last left k cell after t (λ before. false≢true (sym no ∙ test_from_before last cell before))))
-      (cases_Bool (is_before last cell))
+      (λ yes. rw yes (by_next t (before_from_test yes) (after_blank after) refl))
+      (λ no. rw no (not_after text front last left k t (λ before. false≢true (sym no ∙ test_from_before before)))) (cases_Bool (is_before last cell))
 
-continued : (n : ℕ) (text : List ℕ) (front : List Coord) (last : Coord) (left : List ℕ) → length left ≤ n → Continues text front last left
+continued : (n : ℕ) {text : List ℕ} {front : List Coord} {last : Coord} {left : List ℕ} → length left ≤ n → Continues text front last left
     → TakesCells text (cells_from n front last left)
-continued zero text front last left few k = search (no_cell, nothing)
-continued (suc n) text front last left few k = by_cell n text front last left few k
-    (λ cell next small goes. continued n text (front ++ cell ∷ []) cell next small goes) (cell_in left) (takes_cell left)
+continued zero few k = search (no_cell, nothing)
+continued (suc n) {text} {front} {last} {left} few k = by_cell n text front last left few k
+    (λ cell next small goes. continued n small goes) (cell_in left) (takes_cell left)
 
 pub takes_cells : (text : List ℕ) → TakesCells text (cells_in text)
-takes_cells text = continued (length text) text [] origin text (omega arith) (at_start text)
+takes_cells text = continued (length text) (omega arith) (at_start text)
 
 -- ---- texts that are cells
 
@@ -187,29 +186,29 @@ pub record AreCellsText (text : List ℕ) (cells : List Coord) : Type 0 where
   pub spelled : text ≡ cells_text cells
   pub lawful : IsCellList cells
 
-pub cells_found : (text : List ℕ) (cells : List Coord) → all_cells_in text ≡ Some cells → AreCellsText text cells
+pub cells_found : {text : List ℕ} {cells : List Coord} → all_cells_in text ≡ Some cells → AreCellsText text cells
 unfolding all_cells_in
-cells_found text cells e =
-    let a = chained (cells_in text) (λ cells. cond (eqb (length cells.1) 0) (Some cells.0) None) cells e in
+cells_found {text} {cells} e =
+    let a = chained (cells_in text) e in
     let b = cond_some (eqb (length a.0.1) 0) a.0.0 cells a.2 in
     let there : AreCellsBefore text a.0.0 a.0.1 = (rw a.1 at (takes_cells text)).found in
     let none : a.0.1 ≡ [] = nil_from_length a.0.1 (eqb-true (length a.0.1) 0 b.0) in
     subst (AreCellsText text) b.1
     (record { spelled = there.spelled ∙ ap (λ l. cells_text a.0.0 ++ l) none ∙ append-nil (cells_text a.0.0); lawful = there.lawful })
 
-pub cells_again : (cells : List Coord) → IsCellList cells → all_cells_in (cells_text cells) ≡ Some cells
+pub cells_again : {cells : List Coord} → IsCellList cells → all_cells_in (cells_text cells) ≡ Some cells
 unfolding all_cells_in
-cells_again cells h = rw ((takes_cells (cells_text cells)).only cells [] (record { spelled = sym (append-nil (cells_text cells)); lawful = h }) tt) refl
+cells_again {cells} h = rw ((takes_cells (cells_text cells)).only cells [] (record { spelled = sym (append-nil (cells_text cells)); lawful = h }) tt) refl
 
-pub all_cells : (text : List ℕ) (cells : List Coord) → TakesCells text (Some (cells, [])) → Some cells ≡ all_cells_in text
-all_cells text cells t = grind (arith, append-nil, cells_again)
+pub all_cells : {text : List ℕ} {cells : List Coord} → TakesCells text (Some (cells, [])) → Some cells ≡ all_cells_in text
+all_cells t = grind (arith, append-nil, cells_again)
 
-pub not_all_cells : (text : List ℕ) (taken : Option (List Coord × List ℕ)) → TakesCells text taken → ((cells : List Coord) → taken ≡ Some (cells, []) → ⊥)
+pub not_all_cells : {text : List ℕ} {taken : Option (List Coord × List ℕ)} → TakesCells text taken → ((cells : List Coord) → taken ≡ Some (cells, []) → ⊥)
     → None ≡ all_cells_in text
-not_all_cells text taken t other = by_case (all_cells_in text) refl
+not_all_cells {text} t other = by_case (all_cells_in text) refl
   where
     by_case : (o : Option (List Coord)) → all_cells_in text ≡ o → None ≡ o
     by_case None e = refl
     by_case (Some cells) e =
-        let is = cells_found text cells e in
+        let is = cells_found e in
         absurd (other cells (t.only cells [] (record { spelled = is.spelled ∙ sym (append-nil (cells_text cells)); lawful = is.lawful }) tt))

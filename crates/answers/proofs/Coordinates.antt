@@ -30,7 +30,7 @@ pub one_digit_more : (text : List ℕ) (at number : ℕ) → BeginsWithDigits te
 one_digit_more text at number h within here =
     let before = h.digits in
     record {
-      within = omega (arith, within);
+      within = omega arith;
       digits = list_all_more is_ascii_digit text at 0 within ∙ (λ j. before j && here j);
       value = ap (λ n. n * 10 + (get_or text at 0 - 48)) h.value ∙ sym (number_in-more text at within);
     }
@@ -47,16 +47,16 @@ module _ (text : List ℕ) (at number n : ℕ) (rest : List ℕ) (h : BeginsWith
   no_sooner : length (numeral n) ≤ at
   no_sooner = ⊎_elim
       (λ low.
-      let within : at < length text = omega (arith, low, size) in
+      let within : at < length text = omega (arith, size) in
       let digit : is_ascii_digit (get_or text at 0) ≡ true =
       ap (λ l. is_ascii_digit (get_or l at 0)) there.spelled ∙ ap is_ascii_digit (get_or_append_left (numeral n) rest 0 at low)
       ∙ digit_at (numeral n) at (digits-numeral n) low in
       let same : take (at + 1) text ≡ take (at + 1) (numeral n) =
-      ap (take (at + 1)) there.spelled ∙ take-append-le (at + 1) (numeral n) rest (omega (arith, low)) in
+      ap (take (at + 1)) there.spelled ∙ take-append-le (at + 1) (numeral n) rest (omega arith) in
       let large = none within digit in
       let high = there.high in
       let value = h.value in
-      absurd (omega (arith, large, high, value, number_in-more text at within, ap number_in same, number_in-take-le (numeral n) (at + 1), number_in-numeral n)))
+      absurd (omega (arith, number_in-more text at within, ap number_in same, number_in-take-le (numeral n) (at + 1), number_in-numeral n)))
       (λ h. h) (cases_lt at (length (numeral n)))
 
   no_later : at ≤ length (numeral n)
@@ -65,7 +65,7 @@ module _ (text : List ℕ) (at number n : ℕ) (rest : List ℕ) (h : BeginsWith
       let m = length (numeral n) in
       let within = h.within in
       let zero : m - m ≡ 0 = omega arith in
-      let long : m < length (take at text) = omega (arith, low, within, length-take at text) in
+      let long : m < length (take at text) = omega (arith, length-take at text) in
       let next : get_or (take at text) m 0 ≡ get_or rest 0 0 =
       get_or-take at text m 0 low ∙ ap (λ l. get_or l m 0) there.spelled ∙ get_or-append_right (numeral n) rest m m 0 refl (omega arith)
       ∙ ap (λ k. get_or rest k 0) zero in
@@ -93,7 +93,7 @@ takes_number text at number h none front small =
     record {
       found = record {
         spelled = sym (take-append-drop at text) ∙ ap (λ l. l ++ drop at text) (sym is.0 ∙ ap numeral (sym value));
-        low = omega (arith, is.1, value);
+        low = omega arith;
         high = small;
       };
       only = λ n rest there ends. ap (λ k. Some (k, drop at text)) (number_is text at number n rest h none there ends)
@@ -107,7 +107,7 @@ takes_no_number text at number h none bad = record {
   only = λ n rest there ends.
       let high = there.high in
       let low = there.low in
-      let small : number ≤ 65535 = omega (arith, number_is text at number n rest h none there ends, high) in
-      let front = and_true (begins (numeral n)) (list_all is_ascii_digit (numeral n)) (is_number-numeral n (omega (arith, low))) in
+      let small : number ≤ 65535 = omega (arith, number_is text at number n rest h none there ends) in
+      let front = and_true (begins (numeral n)) (is_number-numeral n (omega arith)) in
       absurd (false≢true (sym (bad small) ∙ ap begins (digits_are text at number n rest h none there ends) ∙ front.0));
 }

@@ -16,24 +16,24 @@ use Rattle.answers.proofs.Numerals.{number_in-numeral}
 use Rattle.answers.proofs.LineTexts.{level_found, level_again}
 
 -- a chain of two steps that ended well took both steps
-pub went_on : {A B : Type 0} (r : Result A AnswersFault) (f : A → Result B AnswersFault) (y : B) → on_ok r f ≡ Ok y → (x : A) × (r ≡ Ok x) × (f x ≡ Ok y)
-went_on (Ok x) f y e = (x, refl, e)
-went_on (Err d) f y e = absurd cc
+pub went_on : {A B : Type 0} (r : Result A AnswersFault) {f : A → Result B AnswersFault} {y : B} → on_ok r f ≡ Ok y → (x : A) × (r ≡ Ok x) × (f x ≡ Ok y)
+went_on (Ok x) e = (x, refl, e)
+went_on (Err d) e = absurd cc
 
 -- a chain of two steps that ended in a fault has the fault of one of them
-pub went_wrong : {A B : Type 0} (r : Result A AnswersFault) (f : A → Result B AnswersFault) (d : AnswersFault) → on_ok r f ≡ Err d
+pub went_wrong : {A B : Type 0} (r : Result A AnswersFault) {f : A → Result B AnswersFault} {d : AnswersFault} → on_ok r f ≡ Err d
     → (r ≡ Err d) ⊎ ((x : A) × (r ≡ Ok x) × (f x ≡ Err d))
-went_wrong (Ok x) f d e = inr (x, refl, e)
-went_wrong (Err c) f d e = inl cc
+went_wrong (Ok x) e = inr (x, refl, e)
+went_wrong (Err c) e = inl cc
 
 -- ---- level lines and kind lines
 
 -- the digits of a level line are those of the level's number
-level_is : (text : List ℕ) (n : ℕ) → IsLevelLine text n → (digits : List ℕ) × (level_digits text ≡ Some digits) × (number_in digits ≡ n)
-level_is text n h = (_, ap level_digits h.spelled ∙ level_again n h.low, number_in-numeral n)
+level_is : {text : List ℕ} {n : ℕ} → IsLevelLine text n → (digits : List ℕ) × (level_digits text ≡ Some digits) × (number_in digits ≡ n)
+level_is {n} h = (_, ap level_digits h.spelled ∙ level_again h.low, number_in-numeral n)
 
-no_level : (text : List ℕ) → level_digits text ≡ None → (n : ℕ) → ¬ IsLevelLine text n
-no_level text e n h = let read = (level_is text n h).1 in absurd cc
+no_level : {text : List ℕ} → level_digits text ≡ None → (n : ℕ) → ¬ IsLevelLine text n
+no_level e n h = let read = (level_is h).1 in absurd cc
 
 choice_ok : (low high : Bool) (line k n : ℕ) → ◌≡◌ {A = Result ℕ AnswersFault} (cond low (Err (Order line)) (cond high (Err (Unknown line)) (Ok k))) (Ok n)
     → (low ≡ false) × (high ≡ false) × (k ≡ n)
@@ -41,12 +41,12 @@ choice_ok true high line k n e = absurd cc
 choice_ok false true line k n e = absurd cc
 choice_ok false false line k n e = (refl, refl, cc)
 
-choice_err : (low high : Bool) (line k : ℕ) (f : AnswersFault)
+choice_err : (low high : Bool) {line : ℕ} (k : ℕ) {f : AnswersFault}
     → ◌≡◌ {A = Result ℕ AnswersFault} (cond low (Err (Order line)) (cond high (Err (Unknown line)) (Ok k))) (Err f)
     → ((low ≡ true) × (f ≡ Order line)) ⊎ ((low ≡ false) × (high ≡ true) × (f ≡ Unknown line))
-choice_err true high line k f e = inl (refl, cc)
-choice_err false true line k f e = inr (refl, refl, cc)
-choice_err false false line k f e = absurd cc
+choice_err true high k e = inl (refl, cc)
+choice_err false true k e = inr (refl, refl, cc)
+choice_err false false k e = absurd cc
 
 -- the text is the level line of a level that may follow the last one
 pub record IsLevelTaken (last levels : ℕ) (text : List ℕ) (n : ℕ) : Type 0 where
@@ -71,14 +71,14 @@ pub data IsLevelRefused (last levels : ℕ) (l : Line) (f : AnswersFault) : Type
 
 refused_by : (last levels : ℕ) (l : Line) (f : AnswersFault) (o : Option (List ℕ)) → level_digits l.text ≡ o → level_in last levels l.number o ≡ Err f
     → IsLevelRefused last levels l f
-refused_by last levels l f None read e = no_line (no_level l.text read) cc
+refused_by last levels l f None read e = no_line (no_level read) cc
 refused_by last levels l f (Some digits) read e =
-    let h = level_found l.text digits read in
+    let h = level_found read in
     let m = number_in digits in
     let line : IsLevelLine l.text m = record { low = h.low; spelled = h.text_is } in
     ⊎_elim
     (λ c. not_above m line (leb-true m last c.0) c.1)
-    (λ c. not_known m line (leb-false m last c.0) (ltb-true levels m c.1) c.2) (choice_err (leb m last) (ltb levels m) l.number m f e)
+    (λ c. not_known m line (leb-false m last c.0) (ltb-true levels m c.1) c.2) (choice_err (leb m last) (ltb levels m) m e)
 
 pub level_refused : (last levels : ℕ) (l : Line) (f : AnswersFault) → level_after last levels l ≡ Err f → IsLevelRefused last levels l f
 unfolding level_after
@@ -88,27 +88,27 @@ level_refused last levels l f e = search (refused_by)
 pub take_level : (last levels : ℕ) (l : Line) (n : ℕ) → IsLevelTaken last levels l.text n → level_after last levels l ≡ Ok n
 unfolding level_after
 take_level last levels l n h =
-    let d = level_is l.text n h.line in
+    let d = level_is h.line in
     let m = number_in d.0 in
-    let above : leb m last ≡ false = lt-leb m last (omega (arith, d.2, h.above)) in
-    let known : ltb levels m ≡ false = le-ltb levels m (omega (arith, d.2, h.known)) in
+    let above : leb m last ≡ false = lt-leb m last (omega arith) in
+    let known : ltb levels m ≡ false = le-ltb levels m (omega arith) in
     ap (level_in last levels l.number) d.1 ∙ rw (above, known) (ap Ok d.2)
 
-pub refuse_level : (last levels : ℕ) (l : Line) (f : AnswersFault) → IsLevelRefused last levels l f → level_after last levels l ≡ Err f
+pub refuse_level : {last levels : ℕ} {l : Line} {f : AnswersFault} → IsLevelRefused last levels l f → level_after last levels l ≡ Err f
 unfolding level_after
-refuse_level last levels l f (no_line none e) = by_digits (level_digits l.text) refl
+refuse_level {last} {levels} {l} {f} (no_line none e) = by_digits (level_digits l.text) refl
   where
     by_digits : (o : Option (List ℕ)) → level_digits l.text ≡ o → level_in last levels l.number (level_digits l.text) ≡ Err f
     by_digits None read = ap (level_in last levels l.number) read ∙ ap Err (sym e)
-    by_digits (Some digits) read = let h = level_found l.text digits read in absurd (none (number_in digits) (record { low = h.low; spelled = h.text_is }))
-refuse_level last levels l f (not_above n line under e) =
-    let d = level_is l.text n line in
-    let below : leb (number_in d.0) last ≡ true = le-leb (number_in d.0) last (omega (arith, d.2)) in
+    by_digits (Some digits) read = let h = level_found read in absurd (none (number_in digits) (record { low = h.low; spelled = h.text_is }))
+refuse_level {last} {levels} {l} (not_above n line under e) =
+    let d = level_is line in
+    let below : leb (number_in d.0) last ≡ true = le-leb (number_in d.0) last (omega arith) in
     ap (level_in last levels l.number) d.1 ∙ rw below (ap Err (sym e))
-refuse_level last levels l f (not_known n line over past e) =
-    let d = level_is l.text n line in
-    let above : leb (number_in d.0) last ≡ false = lt-leb (number_in d.0) last (omega (arith, d.2)) in
-    let beyond : ltb levels (number_in d.0) ≡ true = lt-ltb levels (number_in d.0) (omega (arith, d.2)) in
+refuse_level {last} {levels} {l} (not_known n line over past e) =
+    let d = level_is line in
+    let above : leb (number_in d.0) last ≡ false = lt-leb (number_in d.0) last (omega arith) in
+    let beyond : ltb levels (number_in d.0) ≡ true = lt-ltb levels (number_in d.0) (omega arith) in
     ap (level_in last levels l.number) d.1 ∙ rw (above, beyond) (ap Err (sym e))
 
 -- what a kind line opens
@@ -134,8 +134,8 @@ pub kind_taken : (l : Line) (b : Body) → body_after l ≡ Ok b → Opens l.tex
 unfolding body_after
 kind_taken l b e = grind (arith, bytes_eq-Decides, kind_choice_ok)
 
-pub differs : (a b : List ℕ) → bytes_eq a b ≡ false → a ≢ b
-differs a b unlike e = grind (arith, bytes_eq-Decides)
+pub differs : {a b : List ℕ} → bytes_eq a b ≡ false → a ≢ b
+differs unlike e = grind (arith, bytes_eq-Decides)
 
 pub kind_refused : (l : Line) (f : AnswersFault) → body_after l ≡ Err f → ¬ IsKind l.text × (f ≡ Kind l.number)
 unfolding body_after
@@ -144,14 +144,14 @@ kind_refused l f e = grind (arith, kind_choice_err, differs)
 pub same_text : (a b : List ℕ) → a ≡ b → bytes_eq a b ≡ true
 same_text a b e = (bytes_eq-Decides a b).1 e
 
-pub other_text : (a b : List ℕ) → a ≢ b → bytes_eq a b ≡ false
-other_text a b ne = grind (arith, bytes_eq-Decides, cases_Bool)
+pub other_text : {a b : List ℕ} → a ≢ b → bytes_eq a b ≡ false
+other_text ne = grind (arith, bytes_eq-Decides, cases_Bool)
 
-pub take_kind : (l : Line) (b : Body) → Opens l.text b → body_after l ≡ Ok b
+pub take_kind : (l : Line) {b : Body} → Opens l.text b → body_after l ≡ Ok b
 unfolding body_after
-take_kind l b (solution text said) = search (same_text)
-take_kind l b (certificate text said) = search (same_text)
+take_kind l (solution text said) = search (same_text)
+take_kind l (certificate text said) = search (same_text)
 
-pub refuse_kind : (l : Line) → ¬ IsKind l.text → body_after l ≡ Err (Kind l.number)
+pub refuse_kind : {l : Line} → ¬ IsKind l.text → body_after l ≡ Err (Kind l.number)
 unfolding body_after
-refuse_kind l none = grind (arith, other_text)
+refuse_kind none = grind (arith, other_text)

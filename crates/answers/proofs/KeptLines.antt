@@ -2,7 +2,7 @@
 -- Each line has its number, so the kept lines of a text are the kept lines of the front and then the kept lines of the rest. If all lines but
 -- comments are looked for, a line that is skipped is a comment, and isn't kept. If only lines are looked for that begin as `end` does, a line
 -- that is skipped isn't `end`. So a text is cut at its first `end`: every line before it was skipped, or was looked at and is another line.
-use Rattle.std.proofs.Common.{◌≡◌, ◌≢◌, ℕ, ◌+◌, ◌-◌, ◌<◌, ◌≤◌, ◌==◌, Bool, true, false, not, cond, List, [], ◌∷◌, ◌++◌, length, take, drop, refl, sym, ap, subst, ◌∙◌, arith, length-append, length-drop}
+use Rattle.std.proofs.Common.{◌≡◌, ◌≢◌, ℕ, ◌+◌, ◌-◌, ◌<◌, ◌≤◌, ◌==◌, Bool, true, false, not, cond, List, [], ◌∷◌, ◌++◌, length, take, refl, sym, ap, ◌∙◌, arith, length-append}
 use Rattle.std.specs.Prelude.{codes, filter}
 use Rattle.std.proofs.Math.Seq.{take-append_seam}
 use Rattle.std.proofs.lemmas.Bool.{eq-eqb, false≢true, lt-ltb}
@@ -31,19 +31,13 @@ numbered-append n (x ∷ xs) ys =
     let e : n + 1 + length xs ≡ n + length (x ∷ xs) = omega arith in
     ap (λ l. record { number = n; text = x } ∷ l) (numbered-append (n + 1) xs ys ∙ ap (λ k. numbered (n + 1) xs ++ numbered k ys) e)
 
-kept_both : (n m : ℕ) (all front rest : List ℕ) → lines_of all ≡ lines_of front ++ lines_of rest → m ≡ n + length (lines_of front)
+kept_both : (n : ℕ) {m : ℕ} (all front rest : List ℕ) → lines_of all ≡ lines_of front ++ lines_of rest → m ≡ n + length (lines_of front)
     → kept_after n all ≡ kept_after n front ++ kept_after m rest
-kept_both n m all front rest both is = grind (arith, length-map, map-append, numbered-append, filter-append)
+kept_both n all front rest both is = grind (arith, length-map, map-append, numbered-append, filter-append)
 
-count_both : (text front rest : List ℕ) → IsLineCut text front rest → length (lines_in text) ≡ length (lines_of front) + length (lines_in rest)
-count_both text front rest cut =
-    omega (
-      arith,
-      length-map (lines_of text) without_terminator,
-      length-map (lines_of rest) without_terminator,
-      ap length (cut_lines text front rest cut),
-      length-append (lines_of front) (lines_of rest),
-    )
+count_both : {text front rest : List ℕ} → IsLineCut text front rest → length (lines_in text) ≡ length (lines_of front) + length (lines_in rest)
+count_both {text} {front} {rest} cut =
+    omega (arith, length-map (lines_of text) without_terminator, length-map (lines_of rest) without_terminator, ap length (cut_lines text front rest cut), length-append (lines_of front) (lines_of rest))
 
 -- ---- lines that are skipped
 
@@ -81,16 +75,7 @@ module _ (class : ℕ → Bool) (lines left : Left) (start : Start) (first : IsF
   pub start_within : lines.before + start.before ≤ line_count lines
   start_within =
       let count = first.count in
-      omega (arith, count, count_both lines.text.now (take start.at lines.text.now) (drop start.at lines.text.now) first.cut)
-
-  pub start_skipped : left.text.now ≡ drop start.at lines.text.now → left.before ≡ lines.before + start.before → IsSkipped class lines left
-  start_skipped text before = record {
-    front = take start.at lines.text.now;
-    cut = subst (IsLineCut lines.text.now (take start.at lines.text.now)) (sym text) first.cut;
-    some = let within = first.within in omega (arith, within, ap length text, length-drop start.at lines.text.now);
-    others = first.others;
-    number = before ∙ ap (λ n. lines.before + n) first.count;
-  }
+      omega (arith, count_both first.cut)
 
 module _ (class : ℕ → Bool) (lines left : Left) (s : IsSkipped class lines left) where
   pub skipped_count : line_count left ≡ line_count lines
@@ -100,12 +85,12 @@ module _ (class : ℕ → Bool) (lines left : Left) (s : IsSkipped class lines l
   skipped_no_longer = omega (arith, ap length s.cut.parts, length-append s.front left.text.now)
 
   -- The line that was found has a number.
-  pub skipped_room : (limit : ℕ) → line_count lines < limit → left.before + 1 < limit
-  skipped_room limit under = grind (arith, skipped_count, some_lines)
+  pub skipped_room : {limit : ℕ} → line_count lines < limit → left.before + 1 < limit
+  skipped_room under = grind (arith, skipped_count, some_lines)
 
-pub comments_skipped : (lines left : Left) → IsSkipped (λ b. not (b == 59)) lines left → kept_in lines ≡ kept_in left
-comments_skipped lines left s =
-    kept_both lines.before left.before lines.text.now s.front left.text.now (cut_lines lines.text.now s.front left.text.now s.cut) s.number
+pub comments_skipped : {lines left : Left} → IsSkipped (λ b. not (b == 59)) lines left → kept_in lines ≡ kept_in left
+comments_skipped {lines} {left} s =
+    kept_both lines.before lines.text.now s.front left.text.now (cut_lines lines.text.now s.front left.text.now s.cut) s.number
     ∙ ap (λ ls. ls ++ kept_in left) (comments_left (lines.before + 1) (lines_in s.front) s.others)
 
 pub all_comments : (lines : Left) → AllBeginOutside (λ b. not (b == 59)) (lines_in lines.text.now) → kept_in lines ≡ []
@@ -115,7 +100,7 @@ module _ (class : ℕ → Bool) (lines found : Left) (line : NumberedLine) (rest
   pub found_count : line_count rest ≡ line_count lines
   found_count =
       let before = f.before in
-      omega (arith, before, ap length (first_lines found.text.now line.text.now rest.text.now f.first), skipped_count class lines found f.skipped)
+      omega (arith, ap length (first_lines found.text.now line.text.now rest.text.now f.first), skipped_count class lines found f.skipped)
 
   pub found_shorter : length rest.text.now < length lines.text.now
   found_shorter = omega (arith, first_shorter found.text.now line.text.now rest.text.now f.first, skipped_no_longer class lines found f.skipped)
@@ -154,39 +139,37 @@ module _ (lines left : Left) (h : HasPassed lines left) where
   passed_kept : kept_in lines ≡ kept_after lines.before h.passed ++ kept_in left
   passed_kept = search (kept_both, cut_lines)
 
-  passed_more : (rest : Left) (piece : List ℕ) → IsLineCut left.text.now piece rest.text.now → rest.before ≡ left.before + length (lines_of piece)
+  passed_more : {rest : Left} {piece : List ℕ} → IsLineCut left.text.now piece rest.text.now → rest.before ≡ left.before + length (lines_of piece)
       → NoneEnds (kept_after left.before piece) → HasPassed lines rest
-  passed_more rest piece cut number none =
+  passed_more {rest} {piece} cut number none =
       let more = more_lines lines.text.now h.passed left.text.now piece rest.text.now h.cut cut in
       let before = h.number in
       record {
         passed = h.passed ++ piece;
         cut = cut_more lines.text.now h.passed left.text.now piece rest.text.now h.cut cut;
-        number = omega (arith, before, number, ap length more, length-append (lines_of h.passed) (lines_of piece));
-        goes_on = subst NoneEnds (sym (kept_both lines.before left.before (h.passed ++ piece) h.passed piece more before))
-            (NoneEnds-append (kept_after lines.before h.passed) (kept_after left.before piece) h.goes_on none);
+        number = omega (arith, ap length more, length-append (lines_of h.passed) (lines_of piece));
+        goes_on = rw (kept_both lines.before (h.passed ++ piece) h.passed piece more before) (NoneEnds-append (kept_after lines.before h.passed) (kept_after left.before piece) h.goes_on none);
       }
 
-  pub skipped_passed : (found : Left) → IsSkipped (λ b. b == 101) left found → HasPassed lines found
-  skipped_passed found s = search (passed_more, none_ends)
+  pub skipped_passed : {found : Left} → IsSkipped (λ b. b == 101) left found → HasPassed lines found
+  skipped_passed s = search (passed_more, none_ends)
 
-  pub line_passed : (line : List ℕ) (rest : Left) → IsFirstLine left.text.now line rest.text.now → rest.before ≡ left.before + 1 → line ≢ codes "end"
+  pub line_passed : {line : List ℕ} {rest : Left} → IsFirstLine left.text.now line rest.text.now → rest.before ≡ left.before + 1 → line ≢ codes "end"
       → HasPassed lines rest
-  line_passed line rest first before other =
+  line_passed {line} {rest} first before other =
       let l : Line = record { number = left.before + 1; text = line } in
       let kept : kept_after left.before first.ended ≡ kept_or_not l [] =
       ap (λ ls. filter is_kept (numbered (left.before + 1) ls)) (first_alone left.text.now line rest.text.now first) in
-      passed_more rest first.ended first.cut (before ∙ ap (λ ls. left.before + length ls) (sym first.alone))
-      (subst NoneEnds (sym kept) (end_or_not (is_kept l) l [] other tt))
+      passed_more first.cut (before ∙ ap (λ ls. left.before + length ls) (sym first.alone)) (rw kept (end_or_not (is_kept l) l [] other tt))
 
   -- No line begins as `end` does.
   pub passed_out : AllBeginOutside (λ b. b == 101) (lines_in left.text.now) → NoneEnds (kept_in lines)
   passed_out others = search (passed_kept, NoneEnds-append, none_ends)
 
   -- The line that was found is `end`.
-  pub cut_here : (class : ℕ → Bool) (from : Left) (line : NumberedLine) (rest : Left) → IsFound class from left line rest → line.text.now ≡ codes "end"
+  pub cut_here : {class : ℕ → Bool} {from : Left} {line : NumberedLine} {rest : Left} → IsFound class from left line rest → line.text.now ≡ codes "end"
       → IsCutAtEnd lines (take (length lines.text.now - length left.text.now) lines.text.now) rest
-  cut_here class from line rest f is =
+  cut_here {class} {from} {line} {rest} f is =
       let size : length lines.text.now - length left.text.now ≡ length h.passed = omega (arith, ap length h.cut.parts, length-append h.passed left.text.now) in
       let front : take (length lines.text.now - length left.text.now) lines.text.now ≡ h.passed =
       ap (λ k. take k lines.text.now) size ∙ ap (take (length h.passed)) h.cut.parts ∙ take-append_seam h.passed left.text.now in
@@ -194,12 +177,12 @@ module _ (lines left : Left) (h : HasPassed lines left) where
       let number = h.number in
       let before = f.before in
       let more = ap length (first_lines left.text.now line.text.now rest.text.now f.first) in
-      subst (λ body. IsCutAtEnd lines body rest) (sym front) (record {
+      rw front (record {
         last = said_line line;
         kept = passed_kept ∙ ap (λ ls. kept_after lines.before h.passed ++ ls) (line_kept class from left line rest f kept_end);
         goes_on = h.goes_on;
         ends = is;
-        count = omega (arith, before, more, passed_count);
-        within = omega (arith, number, more, passed_count);
+        count = omega (arith, more, passed_count);
+        within = omega (arith, more, passed_count);
         shorter = omega (arith, first_shorter left.text.now line.text.now rest.text.now f.first, passed_no_longer);
       })

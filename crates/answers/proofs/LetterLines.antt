@@ -17,6 +17,6 @@ drop_min : (n : ℕ) (xs : List ℕ) → drop (min n (length xs)) xs ≡ drop n 
 drop_min n xs = grind (arith, cases_lt, drop_all)
 
 -- the text of lines of letters is the next line and the text of the lines after it
-pub next_line : (rest line after : List ℕ) (n : ℕ) → 0 < length rest → n ≡ min 70 (length rest) → line ≡ take n rest → after ≡ drop n rest →
+pub next_line : (rest : List ℕ) {line after : List ℕ} {n : ℕ} → 0 < length rest → n ≡ min 70 (length rest) → line ≡ take n rest → after ≡ drop n rest →
     ended line ++ flat_map ended (letter_lines after) ≡ flat_map ended (letter_lines rest)
-next_line rest line after n some e p q = grind (arith, take_min, drop_min, letter_lines-some)
+next_line rest some e p q = grind (arith, take_min, drop_min, letter_lines-some)

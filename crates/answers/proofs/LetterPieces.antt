@@ -6,7 +6,7 @@ use Rattle.std.proofs.Common.{◌≡◌, ◌≢◌, ◌⊎◌, ℕ, zero, suc, �
 use Rattle.std.specs.Prelude.{filter}
 use Rattle.std.specs.Borrow.{Bor}
 use Rattle.std.specs.List.{concat}
-use Rattle.std.proofs.lemmas.Bool.{and_parts, cases_Bool, cases_lt, cond-true, cond-false, eq-eqb, eqb-true, false≢true, lt-ltb, ltb-true, ne_eqb}
+use Rattle.std.proofs.lemmas.Bool.{and_parts, cases_Bool, cases_lt, cond-true, cond-false, eq-eqb, eqb-true, lt-ltb, ltb-true, ne_eqb}
 use Rattle.std.proofs.lemmas.List.{append-nil, take_more}
 use Rattle.std.proofs.lemmas.Grind.{flat_map-append}
 use Rattle.std.proofs.lemmas.List.Elements.{filter-append}
@@ -40,7 +40,7 @@ less_last : (c : ℕ) (bs : List ℕ) → (c == 10 || c == 13) ≡ true → ends
 less_last c bs e is =
     let last = ended_by c bs is in
     let n = length bs - 1 in
-    let size : n + 1 ≡ length bs = omega (arith, last.0) in
+    let size : n + 1 ≡ length bs = omega arith in
     let parts : bs ≡ take n bs ++ slice_index bs n ∷ [] = sym (take_all (length bs) bs (omega arith)) ∙ ap (λ k. take k bs) (sym size)
     ∙ take_more bs n 0 (omega arith) in
     let gone : unbroken (slice_index bs n ∷ []) ≡ [] = ap (λ b. unbroken (b ∷ [])) last.1 ∙ ap (λ t. cond (not t) (c ∷ []) []) e in
@@ -137,17 +137,17 @@ line_adds_all line bs same other = search (kept_adds, begins_other, begins_throu
 -- ---- lines without a comment
 
 -- if no comment begins in a text, none begins in what follows a line feed of it
-none_later : (k : ℕ) (bs : List ℕ) → 0 < k → (k < length bs → slice_index bs (k - 1) ≡ 10) → NoCommentBelow (length bs) bs
+none_later : {k : ℕ} {bs : List ℕ} → 0 < k → (k < length bs → slice_index bs (k - 1) ≡ 10) → NoCommentBelow (length bs) bs
     → NoCommentBelow (length (drop k bs)) (drop k bs)
-none_later k bs some feed none zero below comment =
-    let within : k + 0 < length bs = omega (arith, length-drop k bs, below) in
+none_later {k} {bs} some feed none zero below comment =
+    let within : k + 0 < length bs = omega (arith, length-drop k bs) in
     let place : k - 1 ≡ k + 0 - 1 = omega arith in
     none (k + 0) within (record {
       mark = sym (get_or-drop k bs 0 0) ∙ comment.mark;
       first = inr (ap (slice_index bs) (sym place) ∙ feed (omega arith));
     })
-none_later k bs some feed none (suc j) below comment =
-    let within : k + suc j < length bs = omega (arith, length-drop k bs, below) in
+none_later {k} {bs} some feed none (suc j) below comment =
+    let within : k + suc j < length bs = omega (arith, length-drop k bs) in
     let place : k + suc j - 1 ≡ k + j = omega arith in
     let last : suc j - 1 ≡ j = omega arith in
     none (k + suc j) within (record {
@@ -165,7 +165,7 @@ no_comment (suc fuel) (b ∷ rest) fits none =
     let bounds = line_len-bounds bs (omega arith) in
     let left = length-drop k bs in
     let other : slice_index bs 0 ≢ 59 = λ e. none 0 (omega arith) (record { mark = e; first = inl refl }) in
-    let later = no_comment fuel (drop k bs) (omega arith) (none_later k bs bounds.0 (line_ends bs) none) in
+    let later = no_comment fuel (drop k bs) (omega arith) (none_later bounds.0 (line_ends bs) none) in
     ap lines_add (lines-step bs (omega arith)) ∙ adds_first (take k bs) (lines_of (drop k bs))
     ∙ ap (λ a. a ++ lines_add (lines_of (drop k bs))) (line_adds_all (take k bs) bs (begins_front k bs) other)
     ∙ ap (λ r. unbroken (take k bs) ++ r) later ∙ sym (unbroken-append (take k bs) (drop k bs)) ∙ ap unbroken (take-append-drop k bs)
@@ -193,7 +193,7 @@ module _ (bs : List ℕ) (at : ℕ) (within : at < length bs) (comment : BeginsC
   early k below c =
       before k (omega (arith, size)) (record {
         mark = sym (get_or-take at bs k 0 (omega (arith, size))) ∙ c.mark;
-        first = ⊎_elim (λ e. inl e) (λ e. inr (sym (get_or-take at bs (k - 1) 0 (omega (arith, size, below))) ∙ e)) c.first;
+        first = ⊎_elim (λ e. inl e) (λ e. inr (sym (get_or-take at bs (k - 1) 0 (omega (arith, size))) ∙ e)) c.first;
       })
 
   pub letters_before : letters_in bs ≡ unbroken (take at bs) ++ letters_in (drop at bs)
@@ -220,16 +220,12 @@ pub comments_alone : (bs : List ℕ) → AllBeginOutside (λ b. not (b == 59)) (
 unfolding letters_of
 comments_alone bs others = search (letters_of, comments_left)
 
--- if a text begins with a comment, its first other line begins further on
-pub past_some : (bs : List ℕ) (start : Start) → slice_index bs 0 ≡ 59 → IsFirstStart (λ b. not (b == 59)) bs start → 0 < start.at
-past_some bs start mark h = grind (arith, false≢true, eq-eqb)
-
 -- ---- looking for a comment
 
 -- if no `;` is among the next bytes, no comment begins there
-pub looked : (bs : List ℕ) (from next : ℕ) → from ≤ length bs → NoCommentBelow from bs
+pub looked : {bs : List ℕ} {from next : ℕ} → from ≤ length bs → NoCommentBelow from bs
     → Nowhere (Passes (is_byte 59) (take (length bs - from) (drop from bs))) 0 next → NoCommentBelow (from + next) bs
-looked bs from next within before none k below comment = ⊎_elim
+looked {bs} {from} within before none k below comment = ⊎_elim
     (λ early. before k early comment)
     (λ late.
     let here : from + (k - from) ≡ k = omega arith in
@@ -245,14 +241,8 @@ found_mark bs from next within here =
     sym (ap (λ l. slice_index l next) (take_all (length bs - from) (drop from bs) (omega (arith, length-drop from bs))) ∙ get_or-drop from bs next 0)
     ∙ eqb-true _ _ here
 
-pub found_within : (bs : List ℕ) (from next : ℕ) → from ≤ length bs → next < length (take (length bs - from) (drop from bs)) → from + next < length bs
-found_within bs from next within high = omega (
-  arith,
-  within,
-  high,
-  length-drop from bs,
-  length-take-le (length bs - from) (drop from bs) (omega (arith, length-drop from bs)),
-)
+pub found_within : (bs : List ℕ) {from next : ℕ} → from ≤ length bs → next < length (take (length bs - from) (drop from bs)) → from + next < length bs
+found_within bs {from} within high = omega (arith, length-drop from bs, length-take-le (length bs - from) (drop from bs) (omega (arith, length-drop from bs)))
 
 -- no comment begins at a `;` that isn't first in its line
 pub looked_past : (bs : List ℕ) (at : ℕ) → NoCommentBelow at bs → at ≢ 0 → slice_index bs (at - 1) ≢ 10 → NoCommentBelow (at + 1) bs

@@ -14,7 +14,7 @@ use Rattle.answers.specs.declared.record.Answers.{Answers}
 use Rattle.answers.specs.declared.record.Record.{Record}
 use Rattle.answers.specs.declared.record.Record.TheVariants as record_is
 use Rattle.answers.specs.declared.record_text.RecordText.{RecordText}
-use Rattle.answers.specs.Records.{SaysOfLevel, body_lines, kind_line}
+use Rattle.answers.specs.Records.{SaysOfLevel, body_lines}
 use Rattle.answers.specs.Grammar.{Line, IsCertificate, IsBody, IsBlock, AreBlocks, SpellsEntries, numbered, is_kept, kept_lines, said_body, said_record, said_answers, HasLettersWithin}
 use Rattle.answers.specs.Body.{Entry, Body, LetterLines, PatternLines, OneZone, FirstBad}
 
@@ -68,15 +68,14 @@ unfolding len_lines len_all
 len_numbered n [] = refl
 len_numbered n (l ∷ ls) = ap (λ k. length l + k) (len_numbered (n + 1) ls)
 
-len_either : (c : Bool) (xs ys : List Line) (n : ℕ) → len_lines xs ≤ n → len_lines ys ≤ n → len_lines (cond c xs ys) ≤ n
-len_either true xs ys n h k = h
-len_either false xs ys n h k = k
+len_either : (c : Bool) (xs ys : List Line) {n : ℕ} → len_lines xs ≤ n → len_lines ys ≤ n → len_lines (cond c xs ys) ≤ n
+len_either true xs ys h k = h
+len_either false xs ys h k = k
 
 len_filter : (ls : List Line) → len_lines (filter is_kept ls) ≤ len_lines ls
 unfolding len_lines
 len_filter [] = omega arith
-len_filter (l ∷ ls) = len_either (is_kept l) (l ∷ filter is_kept ls) (filter is_kept ls) (length l.text + len_lines ls) (omega (arith, len_filter ls))
-    (omega (arith, len_filter ls))
+len_filter (l ∷ ls) = len_either (is_kept l) (l ∷ filter is_kept ls) (filter is_kept ls) (omega (arith, len_filter ls)) (omega (arith, len_filter ls))
 
 len_less_first : (ls : List Line) → len_lines (drop 1 ls) ≤ len_lines ls
 unfolding len_lines
@@ -116,21 +115,21 @@ letters_of : (lines : List Line) → len_body (LetterLines (map (λ l. l.text) l
 unfolding len_body
 letters_of lines = len_texts lines
 
-body_len : (version : ℕ) (kind : List ℕ) (lines : List Line) (b : Body) → IsBody version kind lines b → len_body b ≤ len_lines lines
-body_len version kind lines b (inl h) = grind (arith, len_body, letters_of)
-body_len version kind lines b (inr h) = certificate_len version lines b h.1
+body_len : (version : ℕ) {kind : List ℕ} (lines : List Line) {b : Body} → IsBody version kind lines b → len_body b ≤ len_lines lines
+body_len version lines (inl h) = grind (arith, len_body, letters_of)
+body_len version lines {b} (inr h) = certificate_len version lines b h.1
 
-block_len : (version : ℕ) (block : List Line) (e : Entry) → IsBlock version block e → len_body e.body ≤ len_lines block
+block_len : {version : ℕ} {block : List Line} {e : Entry} → IsBlock version block e → len_body e.body ≤ len_lines block
 unfolding len_lines
-block_len version block e h =
-    omega (arith, ap len_lines h.split, len_append h.lines (h.last ∷ []), body_len version h.kind.text h.lines e.body h.says)
+block_len {version} h =
+    omega (arith, ap len_lines h.split, len_append h.lines (h.last ∷ []), body_len version h.lines h.says)
 
-blocks_len : (version : ℕ) (lines : List Line) (entries : List Entry) (most : ℕ) → AreBlocks version lines entries → len_lines lines ≤ most
+blocks_len : (version : ℕ) (lines : List Line) (entries : List Entry) {most : ℕ} → AreBlocks version lines entries → len_lines lines ≤ most
     → AllByRecursion (λ (e : Entry). len_body e.body ≤ most) entries
-blocks_len version lines [] most h fits = tt
-blocks_len version lines (e ∷ entries) most h fits =
+blocks_len version lines [] h fits = tt
+blocks_len version lines (e ∷ entries) h fits =
     let parts : len_lines lines ≡ len_lines h.0 + len_lines h.1 = ap len_lines h.2 ∙ len_append h.0 h.1 in
-    (omega (arith, block_len version h.0 e h.3), blocks_len version h.1 entries most h.4 (omega arith))
+    (omega (arith, block_len h.3), blocks_len version h.1 entries h.4 (omega arith))
 
 -- ---- what is read
 
@@ -139,23 +138,23 @@ unfolding len_all
 len_sum [] = refl
 len_sum (l ∷ lines) = sum_by-cons (λ line. length line.now) l lines ∙ ap (λ k. length l.now + k) (len_sum lines)
 
-within_one : (r : Record) (most : ℕ) → len_body (said_body r) ≤ most → HasLettersWithin most r
+within_one : (r : Record) {most : ℕ} → len_body (said_body r) ≤ most → HasLettersWithin most r
 unfolding len_body
-within_one (record_is.Solution lines) most h = omega (arith, len_sum lines.items)
-within_one (record_is.Patterns patterns) most h = tt
-within_one (record_is.Zone zone) most h = tt
-within_one (record_is.BadLine line why) most h = tt
+within_one (record_is.Solution lines) h = omega (arith, len_sum lines.items)
+within_one (record_is.Patterns patterns) h = tt
+within_one (record_is.Zone zone) h = tt
+within_one (record_is.BadLine line why) h = tt
 
 within_each : (records : List (ℕ × Record)) (most : ℕ) → AllByRecursion (λ (e : Entry). len_body e.body ≤ most) (map said_record records)
     → AllByRecursion (λ (r : ℕ × Record). HasLettersWithin most r.1) records
 within_each [] most h = tt
-within_each (r ∷ records) most h = (within_one r.1 most h.0, within_each records most h.1)
+within_each (r ∷ records) most h = (within_one r.1 h.0, within_each records most h.1)
 
 pub letters_within : (text : List ℕ) (levels : ℕ) (r : Result Answers AnswersFault) → IfOk r (λ a. SpellsEntries text levels (said_answers a))
     → IfOk r (λ a. All (λ (x : ℕ × Record). HasLettersWithin (length text) x.1) a.records.items)
 letters_within text levels (Ok a) h =
     All-from_recursion (λ (x : ℕ × Record). HasLettersWithin (length text) x.1) a.records.items
-    (within_each a.records.items (length text) (blocks_len h.version (kept_lines text) (said_answers a) (length text) h.blocks (len_kept text)))
+    (within_each a.records.items (length text) (blocks_len h.version (kept_lines text) (said_answers a) h.blocks (len_kept text)))
 letters_within text levels (Err f) h = tt
 
 -- the letters that a record says are within its bytes
@@ -163,10 +162,4 @@ pub letters_of_record : (r : RecordText) (said : Record) (most : ℕ) → SaysOf
     → HasLettersWithin most said
 letters_of_record r said most says fits =
     let all = lines_in r.lines.text.now in
-    within_one said most (omega (
-      arith,
-      body_len r.version (kind_line r.kind) (body_lines r) (said_body said) says,
-      len_filter (numbered (r.lines.before + 1) all),
-      len_numbered (r.lines.before + 1) all,
-      len_text r.lines.text.now,
-    ))
+    within_one said (omega (arith, body_len r.version (body_lines r) says, len_filter (numbered (r.lines.before + 1) all), len_numbered (r.lines.before + 1) all, len_text r.lines.text.now))

@@ -22,21 +22,21 @@ record AreSeedsText (text : List ℕ) (seeds : Option (List Coord)) : Type 0 whe
   spelled : text ≡ seeds_text seeds
   lawful : AreSeeds seeds
 
-mapped_some : {A B : Type 0} (f : A → B) (o : Option A) (y : B) → option_map f o ≡ Some y → (x : A) × (o ≡ Some x) × (f x ≡ y)
-mapped_some f None y e = absurd cc
-mapped_some f (Some x) y e = search (same_Some)
+mapped_some : {A B : Type 0} {f : A → B} (o : Option A) {y : B} → option_map f o ≡ Some y → (x : A) × (o ≡ Some x) × (f x ≡ y)
+mapped_some None e = absurd cc
+mapped_some (Some x) e = search (same_Some)
 
-seeds_found : (text : List ℕ) (seeds : Option (List Coord)) → seeds_in text ≡ Some seeds → AreSeedsText text seeds
+seeds_found : {text : List ℕ} {seeds : Option (List Coord)} → seeds_in text ≡ Some seeds → AreSeedsText text seeds
 unfolding seeds_in
-seeds_found text seeds e = ⊎_elim
+seeds_found {text} {seeds} e = ⊎_elim
     (λ yes.
     let star : Some None ≡ Some seeds = rw yes at e in
-    subst (AreSeedsText text) (same_Some None seeds star) (record { spelled = (bytes_eq-Decides text (codes "*")).0 yes; lawful = tt }))
+    rw (← (same_Some None seeds star)) (record { spelled = (bytes_eq-Decides text (codes "*")).0 yes; lawful = tt }))
     (λ no.
     let listed : option_map Some (all_cells_in text) ≡ Some seeds = rw no at e in
-    let m = mapped_some Some (all_cells_in text) seeds listed in
-    let cells = cells_found text m.0 m.1 in
-    subst (AreSeedsText text) m.2 (record { spelled = cells.spelled; lawful = cells.lawful }))
+    let m = mapped_some (all_cells_in text) listed in
+    let cells = cells_found m.1 in
+    rw (← m.2) (record { spelled = cells.spelled; lawful = cells.lawful }))
     (cases_Bool (bytes_eq text (codes "*")))
 
 no_star : (cells : List Coord) → IsCellList cells → bytes_eq (cells_text cells) (codes "*") ≡ false
@@ -44,7 +44,7 @@ no_star cells h = ⊎_elim
     (λ yes.
     let e : cells_text cells ≡ codes "*" = (bytes_eq-Decides (cells_text cells) (codes "*")).0 yes in
     let there : AreCellsBefore (cells_text cells) cells [] = record { spelled = sym (append-nil (cells_text cells)); lawful = h } in
-    absurd (false≢true (rw e at (digit_of_cells (cells_text cells) cells [] tt there))))
+    absurd (false≢true (rw e at (digit_of_cells tt there))))
     (λ no. no) (cases_Bool (bytes_eq (cells_text cells) (codes "*")))
 
 seeds_again : (seeds : Option (List Coord)) → AreSeeds seeds → seeds_in (seeds_text seeds) ≡ Some seeds
@@ -75,37 +75,37 @@ line_with l boxes seeds = record { line = l.number; boxes = boxes; seeds = seeds
 pub pattern_found : (l : Line) (p : PatternLine) → pattern_in l ≡ Some p → IsLineOf l p
 unfolding pattern_in
 pattern_found l p e =
-    let a = chained (after_prefix (codes "pattern ") l.text) (λ text. cells_in text >>= λ boxes. after_prefix (codes " @ ") boxes.1 >>=
-    λ rest. seeds_in rest >>= λ seeds. Some (line_with l boxes.0 seeds)) p e in
-    let b = chained (cells_in a.0) (λ boxes. after_prefix (codes " @ ") boxes.1 >>= λ rest. seeds_in rest >>= λ seeds. Some (line_with l boxes.0 seeds)) p a.2 in
-    let c = chained (after_prefix (codes " @ ") b.0.1) (λ rest. seeds_in rest >>= λ seeds. Some (line_with l b.0.0 seeds)) p b.2 in
-    let d = chained (seeds_in c.0) (λ seeds. Some (line_with l b.0.0 seeds)) p c.2 in
+    let a = chained (after_prefix (codes "pattern ") l.text) {f = (λ text. cells_in text >>= λ boxes. after_prefix (codes " @ ") boxes.1 >>=
+    λ rest. seeds_in rest >>= λ seeds. Some (line_with l boxes.0 seeds))} {y = p} e in
+    let b = chained (cells_in a.0) a.2 in
+    let c = chained (after_prefix (codes " @ ") b.0.1) b.2 in
+    let d = chained (seeds_in c.0) c.2 in
     let boxes : AreCellsBefore a.0 b.0.0 b.0.1 = (rw b.1 at (takes_cells a.0)).found in
-    let seeds = seeds_found c.0 d.0 d.1 in
+    let seeds = seeds_found d.1 in
     let rest : b.0.1 ≡ codes " @ " ++ seeds_text d.0 = prefix_found (codes " @ ") b.0.1 c.0 c.1 ∙ ap (λ x. codes " @ " ++ x) seeds.spelled in
     let text : l.text ≡ pattern_text (line_with l b.0.0 d.0) = prefix_found (codes "pattern ") l.text a.0 a.1
     ∙ ap (λ x. codes "pattern " ++ x) (boxes.spelled ∙ ap (λ x. cells_text b.0.0 ++ x) rest) ∙ sym (after_front (cells_text b.0.0) (seeds_text d.0)) in
     subst (IsLineOf l) (same_Some (line_with l b.0.0 d.0) p d.2) (record {
-      same = ap (λ (x : List ℕ). let line : Line = record { number = l.number; text = x } in line) text;
+      same = ap (λ x. let line : Line = record { number = l.number; text = x } in line) text;
       lawful = record { boxes = boxes.lawful; seeds = seeds.lawful };
     })
 
 -- with boxes, the pattern is that of the seeds after ` @ `
-seeds_after : (l : Line) (boxes : List Coord) (seeds : List ℕ) → l.text ≡ codes "pattern " ++ (cells_text boxes ++ (codes " @ " ++ seeds)) → IsCellList boxes
+seeds_after : (l : Line) {boxes : List Coord} (seeds : List ℕ) → l.text ≡ codes "pattern " ++ (cells_text boxes ++ (codes " @ " ++ seeds)) → IsCellList boxes
     → (seeds_in seeds >>= λ s. Some (line_with l boxes s)) ≡ pattern_in l
 unfolding pattern_in
-seeds_after l boxes seeds is h = grind (arith, boxes_before)
+seeds_after l seeds is h = grind (arith, boxes_before)
 
-pub pattern_again : (p : PatternLine) → IsPattern p → pattern_in (line_of_pattern p) ≡ Some p
-pattern_again p h =
-    sym (seeds_after (line_of_pattern p) p.boxes (seeds_text p.seeds) (after_front (cells_text p.boxes) (seeds_text p.seeds)) h.boxes)
+pub pattern_again : {p : PatternLine} → IsPattern p → pattern_in (line_of_pattern p) ≡ Some p
+pattern_again {p} h =
+    sym (seeds_after (line_of_pattern p) (seeds_text p.seeds) (after_front (cells_text p.boxes) (seeds_text p.seeds)) h.boxes)
     ∙ ap (λ s. s >>= λ seeds. Some (line_with (line_of_pattern p) p.boxes seeds)) (seeds_again p.seeds h.seeds)
 
 pub no_pattern : (l : Line) → pattern_in l ≡ None → ¬ SpellsPattern l.text
 no_pattern l e h =
     let p : PatternLine = record { line = l.number; boxes = h.0.boxes; seeds = h.0.seeds } in
-    let same : l ≡ line_of_pattern p = ap (λ (x : List ℕ). let line : Line = record { number = l.number; text = x } in line) h.2 in
-    let read : pattern_in l ≡ Some p = ap pattern_in same ∙ pattern_again p (record { boxes = h.1.boxes; seeds = h.1.seeds }) in
+    let same : l ≡ line_of_pattern p = ap (λ x. let line : Line = record { number = l.number; text = x } in line) h.2 in
+    let read : pattern_in l ≡ Some p = ap pattern_in same ∙ pattern_again (record { boxes = h.1.boxes; seeds = h.1.seeds }) in
     cc
 
 -- ---- a pattern line that is read from its front
@@ -127,7 +127,7 @@ module _ (l : Line) (text : List ℕ) (front : bytes_eq (take 8 l.text) (codes "
       by_case None e = refl
       by_case (Some p) e =
           let is = pattern_found l p e in
-          let text_is : l.text ≡ pattern_text p = ap (λ (x : Line). x.text) is.same in
+          let text_is : l.text ≡ pattern_text p = ap (λ x. x.text) is.same in
           let seeds = codes " @ " ++ seeds_text p.seeds in
           let left : text ≡ cells_text p.boxes ++ seeds = ap (drop 8) (sym begins ∙ text_is ∙ after_front (cells_text p.boxes) (seeds_text p.seeds)) in
           absurd (other p.boxes (seeds_text p.seeds) (t.only p.boxes seeds (record { spelled = left; lawful = is.lawful.boxes }) (refl, refl)))
@@ -139,7 +139,7 @@ module _ (l : Line) (text : List ℕ) (front : bytes_eq (take 8 l.text) (codes "
   read_by boxes rest seeds t sign seeds_are o e =
       let is = prefixed (codes " @ ") rest seeds sign seeds_are in
       ap (λ o. o >>= λ s. Some (line_with l boxes s)) e
-      ∙ seeds_after l boxes seeds (begins ∙ ap (λ x. codes "pattern " ++ x) (t.found.spelled ∙ ap (λ x. cells_text boxes ++ x) is)) t.found.lawful
+      ∙ seeds_after l seeds (begins ∙ ap (λ x. codes "pattern " ++ x) (t.found.spelled ∙ ap (λ x. cells_text boxes ++ x) is)) t.found.lawful
 
 -- ---- zone lines
 
@@ -147,28 +147,28 @@ pub record IsLineOfZone (l : Line) (z : ZoneLine) : Type 0 where
   pub same : l ≡ line_of_zone z
   pub lawful : IsZone z
 
-pub zone_found : (l : Line) (z : ZoneLine) → zone_in l ≡ Some z → IsLineOfZone l z
+pub zone_found : {l : Line} {z : ZoneLine} → zone_in l ≡ Some z → IsLineOfZone l z
 unfolding zone_in
-zone_found l z e =
-    let a = chained (after_prefix (codes "zone ") l.text) (λ rest. all_cells_in rest >>= λ cells. Some (record { line = l.number; cells = cells })) z e in
-    let b = chained (all_cells_in a.0) (λ cells. Some (record { line = l.number; cells = cells })) z a.2 in
-    let cells = cells_found a.0 b.0 b.1 in
+zone_found {l} {z} e =
+    let a = chained (after_prefix (codes "zone ") l.text) {f = (λ rest. all_cells_in rest >>= λ cells. Some (record { line = l.number; cells = cells }))} {y = z} e in
+    let b = chained (all_cells_in a.0) a.2 in
+    let cells = cells_found b.1 in
     let made : ZoneLine = record { line = l.number; cells = b.0 } in
     let text : l.text ≡ zone_text made = prefix_found (codes "zone ") l.text a.0 a.1 ∙ ap (λ x. codes "zone " ++ x) cells.spelled in
     subst (IsLineOfZone l) (same_Some made z b.2) (record {
-      same = ap (λ (x : List ℕ). let line : Line = record { number = l.number; text = x } in line) text;
+      same = ap (λ x. let line : Line = record { number = l.number; text = x } in line) text;
       lawful = cells.lawful;
     })
 
-pub zone_again : (z : ZoneLine) → IsZone z → zone_in (line_of_zone z) ≡ Some z
+pub zone_again : {z : ZoneLine} → IsZone z → zone_in (line_of_zone z) ≡ Some z
 unfolding zone_in
-zone_again z h = rw (cells_again z.cells h) refl
+zone_again h = rw (cells_again h) refl
 
 pub no_zone : (l : Line) → zone_in l ≡ None → ¬ SpellsZone l.text
 no_zone l e h =
     let z : ZoneLine = record { line = l.number; cells = h.0.cells } in
-    let same : l ≡ line_of_zone z = ap (λ (x : List ℕ). let line : Line = record { number = l.number; text = x } in line) h.2 in
-    let read : zone_in l ≡ Some z = ap zone_in same ∙ zone_again z h.1 in
+    let same : l ≡ line_of_zone z = ap (λ x. let line : Line = record { number = l.number; text = x } in line) h.2 in
+    let read : zone_in l ≡ Some z = ap zone_in same ∙ zone_again h.1 in
     cc
 
 -- ---- level lines
@@ -177,17 +177,17 @@ pub record IsLevelOf (text digits : List ℕ) : Type 0 where
   pub text_is : text ≡ level_text (number_in digits)
   pub low : 1 ≤ number_in digits
 
-pub level_found : (text digits : List ℕ) → level_digits text ≡ Some digits → IsLevelOf text digits
+pub level_found : {text digits : List ℕ} → level_digits text ≡ Some digits → IsLevelOf text digits
 unfolding level_digits
-level_found text digits e =
-    let a = chained (after_prefix (codes "level ") text) (λ digits. cond (is_number digits) (Some digits) None) digits e in
+level_found {text} {digits} e =
+    let a = chained (after_prefix (codes "level ") text) {f = (λ digits. cond (is_number digits) (Some digits) None)} {y = digits} e in
     let b = cond_some (is_number a.0) a.0 digits a.2 in
     let n = numeral-number_in a.0 b.0 in
     subst (IsLevelOf text) b.1 (record {
       text_is = prefix_found (codes "level ") text a.0 a.1 ∙ ap (λ x. codes "level " ++ x) (sym n.0);
-      low = omega (arith, n.1);
+      low = omega arith;
     })
 
-pub level_again : (n : ℕ) → 1 ≤ n → level_digits (level_text n) ≡ Some (numeral n)
+pub level_again : {n : ℕ} → 1 ≤ n → level_digits (level_text n) ≡ Some (numeral n)
 unfolding level_digits
-level_again n low = search (prefix_again, is_number-numeral)
+level_again low = search (prefix_again, is_number-numeral)

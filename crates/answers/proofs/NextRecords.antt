@@ -29,11 +29,11 @@ module _ (version levels last : ℕ) (entries : List Entry) (after : last_level 
   kind_taken l ls n b e = search
 
   -- a whole record adds its entry, and the rest is read from there
-  pub record_taken : (kept : List Line) (level kind : Line) (more : List Line) (n : ℕ) (b : Body) (lines : List Line) (end : Line) (rest : List Line)
+  pub record_taken : {kept : List Line} {level kind : Line} {more : List Line} {n : ℕ} {b : Body} (lines : List Line) (end : Line) (rest : List Line)
       → kept ≡ level ∷ kind ∷ more → level_after last levels level ≡ Ok n → body_after kind ≡ Ok b
       → more ≡ lines ++ end ∷ rest → NoneEnds lines → end.text ≡ codes "end"
       → run version levels entries LevelDue kept ≡ run version levels (entries ++ record { level = n; body = after_lines version b lines } ∷ []) LevelDue rest
-  record_taken kept level kind more n b lines end rest is at_level at_kind split none ends =
+  record_taken {level} {kind} {more} {n} {b} lines end rest is at_level at_kind split none ends =
       let body = run_lines version levels lines entries n b none in
       let close = run_end version levels entries n (after_lines version b lines) end ends in
       ap (run version levels entries LevelDue) is ∙ level_taken level (kind ∷ more) n at_level ∙ kind_taken kind more n b at_kind

@@ -1,7 +1,7 @@
 -- The table of the numbers below 256.
 -- Each entry is compared with its numeral by computing both. An entry begins with its number of digits, and as many of its last
 -- bytes are the numeral.
-use Rattle.std.proofs.Common.{◌≡◌, ℕ, zero, suc, ◌-◌, ◌*◌, ◌<◌, ◌≤◌, Bool, true, ◌&&◌, leb, List, get_or, take, drop, refl, sym, subst, inl, inr, arith}
+use Rattle.std.proofs.Common.{◌≡◌, ℕ, zero, suc, ◌-◌, ◌*◌, ◌<◌, ◌≤◌, Bool, true, ◌&&◌, leb, List, get_or, take, drop, refl, inl, inr, arith}
 use Rattle.std.specs.Str.{bytes_eq}
 use Rattle.std.proofs.lemmas.Bool.{cases_eq, leb-true}
 use Rattle.std.proofs.lemmas.Slice.Eq.{bytes_eq-Decides}
@@ -30,17 +30,17 @@ abbrev are_entries : ℕ → Bool
 are_entries zero = true
 are_entries (suc n) = is_entry n && are_entries n
 
-entry_from_test : (n : ℕ) → is_entry n ≡ true → IsEntry n
-entry_from_test n t = grind (arith, and_true, leb-true, bytes_eq-Decides)
+entry_from_test : {n : ℕ} → is_entry n ≡ true → IsEntry n
+entry_from_test t = grind (arith, and_true, leb-true, bytes_eq-Decides)
 
-entries_below : (most n : ℕ) → are_entries most ≡ true → n < most → IsEntry n
-entries_below zero n t below = absurd (omega arith)
-entries_below (suc most) n t below =
-    let both = and_true (is_entry most) (are_entries most) t in
+entries_below : (most : ℕ) {n : ℕ} → are_entries most ≡ true → n < most → IsEntry n
+entries_below zero t below = absurd (omega arith)
+entries_below (suc most) {n} t below =
+    let both = and_true (is_entry most) t in
     elim (cases_eq n most) [
-      | inl same ↦ entry_from_test n (subst (λ (k : ℕ). is_entry k ≡ true) (sym same) both.0)
-      | inr other ↦ entries_below most n both.1 (omega arith)
+      | inl same ↦ entry_from_test (rw same both.0)
+      | inr other ↦ entries_below most both.1 (omega arith)
     ]
 
-pub entry_at : (n : ℕ) → n < 256 → IsEntry n
-entry_at n below = entries_below 256 n refl below
+pub entry_at : {n : ℕ} → n < 256 → IsEntry n
+entry_at below = entries_below 256 refl below

@@ -25,9 +25,9 @@ small_numeral m some small = grind (arith, numeral_step)
 pub number_in-push : (ds : List ℕ) (b : ℕ) → number_in (ds ++ b ∷ []) ≡ number_in ds * 10 + (b - 48)
 number_in-push ds b = search (map-append, number_push)
 
-pub and_true : (a b : Bool) → (a && b) ≡ true → (a ≡ true) × (b ≡ true)
-and_true true b h = (refl, h)
-and_true false b h = absurd (false≢true h)
+pub and_true : (a : Bool) {b : Bool} → (a && b) ≡ true → (a ≡ true) × (b ≡ true)
+and_true true h = (refl, h)
+and_true false h = absurd (false≢true h)
 
 not_48 : (b : ℕ) → not (eqb b 48) ≡ true → b ≢ 48
 not_48 b h = search (both_ways, not_from_true, eq-eqb)
@@ -50,7 +50,7 @@ is_digit b low high = search (and_from, le-leb)
 
 are_digits : (ds : List ℕ) → AllBelowBase 10 ds → list_all is_ascii_digit (map (λ d. 48 + d) ds) ≡ true
 are_digits [] h = refl
-are_digits (d ∷ ds) h = rw (is_digit (48 + d) (omega arith) (omega (arith, h.0)), are_digits ds h.1) refl
+are_digits (d ∷ ds) h = rw (is_digit (48 + d) (omega arith) (omega arith), are_digits ds h.1) refl
 
 -- a numeral consists of digits
 pub digits-numeral : (n : ℕ) → list_all is_ascii_digit (numeral n) ≡ true
@@ -60,18 +60,18 @@ first_more : (ds : List ℕ) → (0 < length ds) → slice_index (map (λ d. 48 
 first_more [] some = absurd (omega arith)
 first_more (d ∷ ds) some = refl
 
-length_numeral : (n : ℕ) → 0 < n → 0 < length (digits_of 10 n)
-length_numeral n some = grind (arith, length-digits_of_step)
+length_numeral : {n : ℕ} → 0 < n → 0 < length (digits_of 10 n)
+length_numeral some = grind (arith, length-digits_of_step)
 
-pub some_digits : (n : ℕ) → 0 < n → 0 < length (numeral n)
-some_digits n some = search (length_numeral, length-map)
+pub some_digits : {n : ℕ} → 0 < n → 0 < length (numeral n)
+some_digits some = search (length_numeral, length-map)
 
 -- a numeral of a number above 0 doesn't begin with 0
 pub is_number-numeral : (n : ℕ) → 0 < n → is_number (numeral n) ≡ true
 is_number-numeral n some =
-    let more = some_digits n some in
+    let more = some_digits some in
     let first : slice_index (numeral n) 0 ≢ 48 =
-    λ e. absurd (omega (arith, first_more (digits_of 10 n) (length_numeral n some), first_digits_of 10 n (omega arith) some)) in
+    λ e. absurd (omega (arith, first_more (digits_of 10 n) (length_numeral some), first_digits_of 10 n (omega arith) some)) in
     rw (lt-ltb 0 (length (numeral n)) more, ne_eqb (slice_index (numeral n) 0) 48 first, digits-numeral n) refl
 
 -- the digits are the numeral of the number in them, which isn't 0
@@ -82,27 +82,27 @@ record IsNumeralText (ds : List ℕ) : Type 0 where
 one_more : (front : List ℕ) (b : ℕ) → IsNumeralText front → is_ascii_digit b ≡ true → IsNumeralText (front ++ b ∷ [])
 one_more front b h digit = grind (arith, digit_from_test, number_in-push, div-mul-add, mod-mul-add, numeral_step)
 
-more_digits : (rest front : List ℕ) → IsNumeralText front → list_all is_ascii_digit rest ≡ true → IsNumeralText (front ++ rest)
-more_digits [] front h digits = search (append-nil)
-more_digits (b ∷ rest) front h digits =
-    let both = and_true (is_ascii_digit b) (list_all is_ascii_digit rest) digits in
-    subst IsNumeralText (append_assoc front (b ∷ []) rest) (more_digits rest (front ++ b ∷ []) (one_more front b h both.0) both.1)
+more_digits : (rest : List ℕ) {front : List ℕ} → IsNumeralText front → list_all is_ascii_digit rest ≡ true → IsNumeralText (front ++ rest)
+more_digits [] h digits = search (append-nil)
+more_digits (b ∷ rest) {front} h digits =
+    let both = and_true (is_ascii_digit b) digits in
+    subst IsNumeralText (append_assoc front (b ∷ []) rest) (more_digits rest (one_more front b h both.0) both.1)
 
 -- digits that don't begin with 0 are the numeral of the number in them
 pub numeral-number_in : (ds : List ℕ) → is_number ds ≡ true → (numeral (number_in ds) ≡ ds) × (0 < number_in ds)
 numeral-number_in [] h = absurd cc
 numeral-number_in (b ∷ ds) h =
-    let parts = and_true (ltb 0 (length (b ∷ ds)) && not (eqb b 48)) (list_all is_ascii_digit (b ∷ ds)) h in
-    let both = and_true (is_ascii_digit b) (list_all is_ascii_digit ds) parts.1 in
+    let parts = and_true (ltb 0 (length (b ∷ ds)) && not (eqb b 48)) {b = (list_all is_ascii_digit (b ∷ ds))} h in
+    let both = and_true (is_ascii_digit b) {b = (list_all is_ascii_digit ds)} parts.1 in
     let d = digit_from_test b both.0 in
-    let first : b ≢ 48 = not_48 b (and_true (ltb 0 (length (b ∷ ds))) (not (eqb b 48)) parts.0).1 in
+    let first : b ≢ 48 = not_48 b (and_true (ltb 0 (length (b ∷ ds))) {b = (not (eqb b 48))} parts.0).1 in
     let e : 48 + (b - 48) ≡ b = omega arith in
     let only : number_in (b ∷ []) ≡ b - 48 = omega arith in
     let one : IsNumeralText (b ∷ []) = record {
       same = ap numeral only ∙ small_numeral (b - 48) (omega arith) (omega arith) ∙ ap (λ k. k ∷ []) e;
-      some = omega (arith, only);
+      some = omega arith;
     } in
-    let all = more_digits ds (b ∷ []) one both.1 in
+    let all = more_digits ds {front = (b ∷ [])} one both.1 in
     (all.same, all.some)
 
 get_less : (ds : List ℕ) (i : ℕ) → get_or (map (λ b. b - 48) ds) i 0 ≡ get_or ds i 0 - 48
@@ -126,8 +126,8 @@ number_in-take-le ds i =
     let parts : number_in ds ≡ number_from_digits_after 10 (number_in (take i ds)) rest =
     ap number_in (sym (take-append-drop i ds)) ∙ ap (number_from_digits 10) (map-append (λ b. b - 48) (take i ds) (drop i ds)) ∙
     number_after_append 10 0 front rest in
-    omega (arith, parts, number_after_ge 10 (number_in (take i ds)) rest (omega arith))
+    omega (arith, number_after_ge 10 (number_in (take i ds)) rest (omega arith))
 
 -- a number of 16 bits has few digits
-pub few_digits : (n : ℕ) → n < 2 ^ 16 → length (numeral n) ≤ 5
-few_digits n small = grind (arith, length-map, length-digits_of-le)
+pub few_digits : {n : ℕ} → n < 2 ^ 16 → length (numeral n) ≤ 5
+few_digits small = grind (arith, length-map, length-digits_of-le)

@@ -20,17 +20,17 @@ record IsHeader (text : List ℕ) (version : ℕ) : Type 0 where
   known : (version ≡ 1) ⊎ (version ≡ 2)
   spelled : text ≡ header_text version
 
-choice : (a b : Bool) (version : ℕ) → cond a (Some 1) (cond b (Some 2) None) ≡ Some version → ((a ≡ true) × (version ≡ 1)) ⊎ ((b ≡ true) × (version ≡ 2))
-choice true b version e = inl (refl, cc)
-choice false true version e = inr (refl, cc)
-choice false false version e = absurd cc
+choice : (a b : Bool) {version : ℕ} → cond a (Some 1) (cond b (Some 2) None) ≡ Some version → ((a ≡ true) × (version ≡ 1)) ⊎ ((b ≡ true) × (version ≡ 2))
+choice true b e = inl (refl, cc)
+choice false true e = inr (refl, cc)
+choice false false e = absurd cc
 
-header_found : (text : List ℕ) (version : ℕ) → version_in text ≡ Some version → IsHeader text version
+header_found : {text : List ℕ} {version : ℕ} → version_in text ≡ Some version → IsHeader text version
 unfolding version_in
-header_found text version e = ⊎_elim
-    (λ h. subst (IsHeader text) (sym h.1) (record { known = inl refl; spelled = (bytes_eq-Decides text (codes "sokoban-answers 1")).0 h.0 }))
-    (λ h. subst (IsHeader text) (sym h.1) (record { known = inr refl; spelled = (bytes_eq-Decides text (codes "sokoban-answers 2")).0 h.0 }))
-    (choice (bytes_eq text (codes "sokoban-answers 1")) (bytes_eq text (codes "sokoban-answers 2")) version e)
+header_found {text} e = ⊎_elim
+    (λ h. rw h.1 (record { known = inl refl; spelled = (bytes_eq-Decides text (codes "sokoban-answers 1")).0 h.0 }))
+    (λ h. rw h.1 (record { known = inr refl; spelled = (bytes_eq-Decides text (codes "sokoban-answers 2")).0 h.0 }))
+    (choice (bytes_eq text (codes "sokoban-answers 1")) (bytes_eq text (codes "sokoban-answers 2")) e)
 
 header_one : version_in (header_text 1) ≡ Some 1
 unfolding version_in
@@ -40,61 +40,61 @@ header_two : version_in (header_text 2) ≡ Some 2
 unfolding version_in
 header_two = refl
 
-header_read : (version : ℕ) → (version ≡ 1) ⊎ (version ≡ 2) → version_in (header_text version) ≡ Some version
-header_read version (inl e) = search (header_one)
-header_read version (inr e) = search (header_two)
+header_read : {version : ℕ} → (version ≡ 1) ⊎ (version ≡ 2) → version_in (header_text version) ≡ Some version
+header_read (inl e) = search (header_one)
+header_read (inr e) = search (header_two)
 
-has_header : (text : List ℕ) (lines : List (List ℕ)) (version : ℕ) → lines_in text ≡ lines → header_of lines ≡ Some version → HasHeader text version
-has_header text [] version is e = absurd cc
-has_header text (first ∷ others) version is e =
-    let h = header_found first version e in
+has_header : {text : List ℕ} (lines : List (List ℕ)) {version : ℕ} → lines_in text ≡ lines → header_of lines ≡ Some version → HasHeader text version
+has_header [] is e = absurd cc
+has_header (first ∷ others) is e =
+    let h = header_found e in
     record { known = h.known; others = others; first = is ∙ ap (λ l. l ∷ others) h.spelled }
 
-header_is : (text : List ℕ) (version : ℕ) → HasHeader text version → header_of (lines_in text) ≡ Some version
-header_is text version h = ap header_of h.first ∙ header_read version h.known
+header_is : {text : List ℕ} {version : ℕ} → HasHeader text version → header_of (lines_in text) ≡ Some version
+header_is h = ap header_of h.first ∙ header_read h.known
 
 -- ---- the whole text
 
 by_version : (text : List ℕ) (levels : ℕ) (entries : List Entry) (o : Option ℕ) → header_of (lines_in text) ≡ o
     → records_under o levels (length (lines_in text)) (kept_lines text) ≡ Ok entries → SpellsEntries text levels entries
-by_version text levels entries None is e = absurd (ok_no_err entries (Header 1) (sym e))
+by_version text levels entries None is e = absurd (ok_no_err (sym e))
 by_version text levels entries (Some version) is e =
-    let h = kept_found version levels (length (lines_in text)) (kept_lines text) entries e in
-    record { version = version; header = has_header text (lines_in text) version refl is; blocks = h.0; rise = h.1 }
+    let h = kept_found version levels (length (lines_in text)) (kept_lines text) e in
+    record { version = version; header = has_header (lines_in text) refl is; blocks = h.0; rise = h.1 }
 
 -- a text spells the entries that reading gives
-pub outcome_found : (text : List ℕ) (levels : ℕ) (entries : List Entry) → outcome text levels ≡ Ok entries → SpellsEntries text levels entries
-outcome_found text levels entries e = search (by_version)
+pub outcome_found : {text : List ℕ} {levels : ℕ} {entries : List Entry} → outcome text levels ≡ Ok entries → SpellsEntries text levels entries
+outcome_found e = search (by_version)
 
 -- reading gives the entries that a text spells
-pub outcome_again : (text : List ℕ) (levels : ℕ) (entries : List Entry) → SpellsEntries text levels entries → outcome text levels ≡ Ok entries
-outcome_again text levels entries h =
-    ap (λ o. records_under o levels (length (lines_in text)) (kept_lines text)) (header_is text h.version h.header)
-    ∙ kept_again h.version levels (length (lines_in text)) (kept_lines text) entries h.blocks h.rise
+pub outcome_again : {text : List ℕ} {levels : ℕ} {entries : List Entry} → SpellsEntries text levels entries → outcome text levels ≡ Ok entries
+outcome_again {text} {levels} h =
+    ap (λ o. records_under o levels (length (lines_in text)) (kept_lines text)) (header_is h.header)
+    ∙ kept_again h.version levels (length (lines_in text)) (kept_lines text) h.blocks h.rise
 
 fault_by_version : (text : List ℕ) (levels : ℕ) (f : AnswersFault) (o : Option ℕ) → header_of (lines_in text) ≡ o
     → records_under o levels (length (lines_in text)) (kept_lines text) ≡ Err f → IsFirstAnswersFault text levels f
-fault_by_version text levels f None is e = inl ((λ version h. let some = header_is text version h in absurd cc), sym (same_Err (Header 1) f e))
+fault_by_version text levels f None is e = inl ((λ version h. let some = header_is h in absurd cc), sym (same_Err e))
 fault_by_version text levels f (Some version) is e = inr (
   version,
-  has_header text (lines_in text) version refl is,
-  kept_fault version levels (length (lines_in text)) (kept_lines text) f e,
+  has_header (lines_in text) refl is,
+  kept_fault version levels (length (lines_in text)) (kept_lines text) e,
 )
 
 -- a fault that reading gives is the first fault of the text
-pub outcome_fault : (text : List ℕ) (levels : ℕ) (f : AnswersFault) → outcome text levels ≡ Err f → IsFirstAnswersFault text levels f
-outcome_fault text levels f e = search (fault_by_version)
+pub outcome_fault : {text : List ℕ} (levels : ℕ) {f : AnswersFault} → outcome text levels ≡ Err f → IsFirstAnswersFault text levels f
+outcome_fault levels e = search (fault_by_version)
 
-no_header : (text : List ℕ) (o : Option ℕ) → header_of (lines_in text) ≡ o → ((version : ℕ) → ¬ HasHeader text version) → header_of (lines_in text) ≡ None
-no_header text None is none = is
-no_header text (Some version) is none = absurd (none version (has_header text (lines_in text) version refl is))
+no_header : {text : List ℕ} (o : Option ℕ) → header_of (lines_in text) ≡ o → ((version : ℕ) → ¬ HasHeader text version) → header_of (lines_in text) ≡ None
+no_header None is none = is
+no_header {text} (Some version) is none = absurd (none version (has_header (lines_in text) refl is))
 
 -- reading gives the first fault of a text
-pub outcome_refused : (text : List ℕ) (levels : ℕ) (f : AnswersFault) → IsFirstAnswersFault text levels f → outcome text levels ≡ Err f
-outcome_refused text levels f (inl h) =
-    ap (λ o. records_under o levels (length (lines_in text)) (kept_lines text)) (no_header text (header_of (lines_in text)) refl h.0) ∙ ap Err (sym h.1)
-outcome_refused text levels f (inr h) =
-    ap (λ o. records_under o levels (length (lines_in text)) (kept_lines text)) (header_is text h.0 h.1)
+pub outcome_refused : {text : List ℕ} (levels : ℕ) {f : AnswersFault} → IsFirstAnswersFault text levels f → outcome text levels ≡ Err f
+outcome_refused {text} levels (inl h) =
+    ap (λ o. records_under o levels (length (lines_in text)) (kept_lines text)) (no_header (header_of (lines_in text)) refl h.0) ∙ ap Err (sym h.1)
+outcome_refused {text} levels {f} (inr h) =
+    ap (λ o. records_under o levels (length (lines_in text)) (kept_lines text)) (header_is h.1)
     ∙ fault_again h.0 levels (length (lines_in text)) (kept_lines text) f h.2
 
 -- ---- one reading
@@ -102,12 +102,12 @@ outcome_refused text levels f (inr h) =
 -- a text spells one list of entries at most
 pub one_spelling : (text : List ℕ) (levels : ℕ) (entries others : List Entry) → SpellsEntries text levels entries → SpellsEntries text levels others
     → entries ≡ others
-one_spelling text levels entries others h k = same_Ok entries others (sym (outcome_again text levels entries h) ∙ outcome_again text levels others k)
+one_spelling text levels entries others h k = same_Ok (sym (outcome_again h) ∙ outcome_again k)
 
 -- a text that is spelled has no fault
 pub spelled_not_refused : (text : List ℕ) (levels : ℕ) (entries : List Entry) (f : AnswersFault) → SpellsEntries text levels entries
     → IsFirstAnswersFault text levels f → ⊥
-spelled_not_refused text levels entries f h k = ok_no_err entries f (sym (outcome_again text levels entries h) ∙ outcome_refused text levels f k)
+spelled_not_refused text levels entries f h k = ok_no_err (sym (outcome_again h) ∙ outcome_refused levels k)
 
 -- ---- what a call answers
 
@@ -135,9 +135,9 @@ fails_is (Kind n) given h = h
 fails_is (Unclosed n) given h = h
 
 -- a call that returns the first fault of the text, or `Memory`, returns what reading gives
-pub fails_by : (text : List ℕ) (levels : ℕ) (f : AnswersFault) → (f ≡ Memory) ⊎ IsFirstAnswersFault text levels f → Fails f (outcome text levels)
-fails_by text levels f (inl e) = subst (λ x. Fails x (outcome text levels)) (sym e) tt
-fails_by text levels f (inr h) = search (fails_is, outcome_refused)
+pub fails_by : {text : List ℕ} (levels : ℕ) {f : AnswersFault} → (f ≡ Memory) ⊎ IsFirstAnswersFault text levels f → Fails f (outcome text levels)
+fails_by {text} levels (inl e) = subst (λ x. Fails x (outcome text levels)) (sym e) tt
+fails_by levels (inr h) = search (fails_is, outcome_refused)
 
 only_err : (f : AnswersFault) (entries : List Entry) (given : Result (List Entry) AnswersFault) → given ≡ Ok entries → FailsAs f given → f ≡ Memory
 only_err f entries given e (by_memory h) = h
@@ -145,20 +145,20 @@ only_err f entries given e (by_text h) = search (ok_no_err)
 
 exact_err : (text : List ℕ) (levels : ℕ) (f : AnswersFault) → FailsAs f (outcome text levels) → (f ≡ Memory) ⊎ IsFirstAnswersFault text levels f
 exact_err text levels f (by_memory h) = inl h
-exact_err text levels f (by_text h) = inr (outcome_fault text levels f h)
+exact_err text levels f (by_text h) = inr (outcome_fault levels h)
 
 refused_err : (f other : AnswersFault) (given : Result (List Entry) AnswersFault) → given ≡ Err other → FailsAs f given → (f ≡ Memory) ⊎ (f ≡ other)
 refused_err f other given e (by_memory h) = inl h
-refused_err f other given e (by_text h) = inr (same_Err f other (sym h ∙ e))
+refused_err f other given e (by_text h) = inr (same_Err (sym h ∙ e))
 
 module _ {A : Type 0} (view : A → List Entry) (text : List ℕ) (levels : ℕ) where
   pub found_by : (r : Result A AnswersFault) → Gives view r (outcome text levels) → IfOk r (λ a. SpellsEntries text levels (view a))
-  found_by (Ok a) h = outcome_found text levels (view a) h
+  found_by (Ok a) h = outcome_found h
   found_by (Err f) h = tt
 
   pub only_by : (r : Result A AnswersFault) → Gives view r (outcome text levels)
       → (entries : List Entry) → SpellsEntries text levels entries → MatchResult r (λ a. view a ≡ entries) (λ e. e ≡ Memory)
-  only_by (Ok a) h entries spelled = same_Ok (view a) entries (sym h ∙ outcome_again text levels entries spelled)
+  only_by (Ok a) h entries spelled = same_Ok (sym h ∙ outcome_again spelled)
   only_by (Err f) h entries spelled = search (only_err, outcome_again, fails_as)
 
   pub exact_by : (r : Result A AnswersFault) → Gives view r (outcome text levels) → IfErr r (λ e. (e ≡ Memory) ⊎ IsFirstAnswersFault text levels e)
@@ -167,9 +167,9 @@ module _ {A : Type 0} (view : A → List Entry) (text : List ℕ) (levels : ℕ)
 
   pub refused_by : (r : Result A AnswersFault) → Gives view r (outcome text levels)
       → (fault : AnswersFault) → IsFirstAnswersFault text levels fault → MatchResult r (λ _. ⊥) (λ e. (e ≡ Memory) ⊎ (e ≡ fault))
-  refused_by (Ok a) h fault first = ok_no_err (view a) fault (sym h ∙ outcome_refused text levels fault first)
+  refused_by (Ok a) h fault first = ok_no_err (sym h ∙ outcome_refused levels first)
   refused_by (Err f) h fault first = search (refused_err, outcome_refused, fails_as)
 
 -- a text has one first fault at most
 pub one_fault : (text : List ℕ) (levels : ℕ) (a b : AnswersFault) → IsFirstAnswersFault text levels a → IsFirstAnswersFault text levels b → a ≡ b
-one_fault text levels a b h k = same_Err a b (sym (outcome_refused text levels a h) ∙ outcome_refused text levels b k)
+one_fault text levels a b h k = same_Err (sym (outcome_refused levels h) ∙ outcome_refused levels k)

@@ -36,12 +36,12 @@ plain-append xs ys p q = grind (arith, list_all-append)
 
 -- ---- what is made of plain bytes
 
-plain_digit : (d : ℕ) → d < 10 → is_plain (48 + d) ≡ true
-plain_digit d small = grind (arith, nat_tests)
+plain_digit : {d : ℕ} → d < 10 → is_plain (48 + d) ≡ true
+plain_digit small = grind (arith, nat_tests)
 
 plain_digits : (ds : List ℕ) → AllByRecursion (λ d. d < 10) ds → ArePlain (map (λ d. 48 + d) ds)
 plain_digits [] h = refl
-plain_digits (d ∷ ds) h = ap (λ b. b && list_all is_plain (map (λ d. 48 + d) ds)) (plain_digit d h.0) ∙ plain_digits ds h.1
+plain_digits (d ∷ ds) h = ap (λ b. b && list_all is_plain (map (λ d. 48 + d) ds)) (plain_digit h.0) ∙ plain_digits ds h.1
 
 pub plain_numeral : (n : ℕ) → ArePlain (numeral n)
 plain_numeral n = grind (arith, plain_digits, all_below_base_digits_of)
@@ -76,16 +76,16 @@ plain_header version = grind (arith, plain-append, plain_numeral)
 pub passes_at : (p : ℕ → Bool) (xs : List ℕ) (i d : ℕ) → i < length xs → list_all p xs ≡ true → p (get_or xs i d) ≡ true
 passes_at p [] i d below h = absurd (omega arith)
 passes_at p (x ∷ xs) zero d below h = grind (arith, and_true)
-passes_at p (x ∷ xs) (suc i) d below h = passes_at p xs i d (omega arith) (and_true (p x) (list_all p xs) h).1
+passes_at p (x ∷ xs) (suc i) d below h = passes_at p xs i d (omega arith) (and_true (p x) h).1
 
-plain_at : (xs : List ℕ) (i : ℕ) → i < length xs → ArePlain xs → is_plain (slice_index xs i) ≡ true
-plain_at xs i below h = passes_at is_plain xs i 0 below h
+plain_at : (xs : List ℕ) {i : ℕ} → i < length xs → ArePlain xs → is_plain (slice_index xs i) ≡ true
+plain_at xs {i} below h = passes_at is_plain xs i 0 below h
 
-no_feed : (b : ℕ) → is_plain b ≡ true → b ≢ 10
-no_feed b p e = grind (arith, nat_tests)
+no_feed : {b : ℕ} → is_plain b ≡ true → b ≢ 10
+no_feed p e = grind (arith, nat_tests)
 
-no_return : (b : ℕ) → is_plain b ≡ true → b ≢ 13
-no_return b p e = grind (arith, nat_tests)
+no_return : {b : ℕ} → is_plain b ≡ true → b ≢ 13
+no_return p e = grind (arith, nat_tests)
 
 no_comment : (b : ℕ) → is_plain b ≡ true → (b == 59) ≡ false
 no_comment b p = grind (arith, nat_tests)
@@ -98,30 +98,30 @@ last_is line = omega (arith, length-append line (10 ∷ []))
 ends_at : (line : List ℕ) → slice_index (ended line) (length (ended line) - 1) ≡ 10
 ends_at line = search (last_is, get_or-append_seam)
 
-within : (line : List ℕ) → IsPlainLine line → (k : ℕ) → k + 1 < length (ended line) → slice_index (ended line) k ≢ 10
-within line h k below =
+within : {line : List ℕ} → IsPlainLine line → (k : ℕ) → k + 1 < length (ended line) → slice_index (ended line) k ≢ 10
+within {line} h k below =
     let here : k < length line = omega (arith, length-append line (10 ∷ [])) in
-    subst (λ b. b ≢ 10) (sym (get_or_append_left line (10 ∷ []) 0 k here)) (no_feed (slice_index line k) (plain_at line k here h.plain))
+    subst (λ b. b ≢ 10) (sym (get_or_append_left line (10 ∷ []) 0 k here)) (no_feed (plain_at line here h.plain))
 
 one_line : (line : List ℕ) → IsPlainLine line → lines_of (ended line) ≡ ended line ∷ []
-one_line line h = lines-one (ended line) (omega (arith, length-append line (10 ∷ []))) (within line h)
+one_line line h = lines-one (ended line) (omega (arith, length-append line (10 ∷ []))) (within h)
 
-no_return_at_end : (line : List ℕ) → IsPlainLine line → no_cr line ≡ line
-no_return_at_end line h =
+no_return_at_end : {line : List ℕ} → IsPlainLine line → no_cr line ≡ line
+no_return_at_end {line} h =
     let last = slice_index line (length line - 1) in
-    let other : last ≢ 13 = no_return last (plain_at line (length line - 1) (omega (arith, h.some)) h.plain) in
+    let other : last ≢ 13 = no_return (plain_at line {i = (length line - 1)} (omega arith) h.plain) in
     let test : (nat_lt 0 (length line) && last == 13) ≡ false = ap (λ b. nat_lt 0 (length line) && b) (ne_eqb last 13 other)
     ∙ and_right (nat_lt 0 (length line)) false refl in
     cond-false _ _ _ test
 
-taken_off : (line : List ℕ) → IsPlainLine line → without_terminator (ended line) ≡ line
-taken_off line h =
+taken_off : {line : List ℕ} → IsPlainLine line → without_terminator (ended line) ≡ line
+taken_off {line} h =
     let long : 0 < length (ended line) = omega (arith, length-append line (10 ∷ [])) in
     let some : nat_lt 0 (length (ended line)) ≡ true = lt-ltb 0 (length (ended line)) long in
     let feed : (slice_index (ended line) (length (ended line) - 1) == 10) ≡ true = eq-eqb _ 10 (ends_at line) in
     let test : (nat_lt 0 (length (ended line)) && slice_index (ended line) (length (ended line) - 1) == 10) ≡ true =
     ap (λ b. b && slice_index (ended line) (length (ended line) - 1) == 10) some ∙ feed in
-    cond-true _ _ _ test ∙ ap no_cr (take_at line (10 ∷ []) (length (ended line) - 1) (sym (last_is line))) ∙ no_return_at_end line h
+    cond-true _ _ _ test ∙ ap no_cr (take_at line (10 ∷ []) (length (ended line) - 1) (sym (last_is line))) ∙ no_return_at_end h
 
 -- a text of plain lines has just these lines
 pub lines_again : (lines : List (List ℕ)) → AllByRecursion IsPlainLine lines → lines_in (flat_map ended lines) ≡ lines
@@ -130,15 +130,15 @@ lines_again (line ∷ lines) h =
     let first : lines_of (ended line ++ flat_map ended lines) ≡ lines_of (ended line) ++ lines_of (flat_map ended lines) =
     lines-append (length (ended line)) (ended line) (flat_map ended lines) (omega arith) (inr (ends_at line)) in
     ap (map without_terminator) (first ∙ ap (λ l. l ++ lines_of (flat_map ended lines)) (one_line line h.0))
-    ∙ ap (λ l. l ∷ lines_in (flat_map ended lines)) (taken_off line h.0) ∙ ap (λ l. line ∷ l) (lines_again lines h.1)
+    ∙ ap (λ l. l ∷ lines_in (flat_map ended lines)) (taken_off h.0) ∙ ap (λ l. line ∷ l) (lines_again lines h.1)
 
 -- a plain line is kept
-kept_line : (n : ℕ) (line : List ℕ) → IsPlainLine line → is_kept (record { number = n; text = line }) ≡ true
-kept_line n line h = search (lt-ltb, no_comment, plain_at)
+kept_line : (n : ℕ) {line : List ℕ} → IsPlainLine line → is_kept (record { number = n; text = line }) ≡ true
+kept_line n h = search (lt-ltb, no_comment, plain_at)
 
 pub all_kept : (n : ℕ) (lines : List (List ℕ)) → AllByRecursion IsPlainLine lines → filter is_kept (numbered n lines) ≡ numbered n lines
 all_kept n [] h = refl
 all_kept n (line ∷ lines) h =
     let this : Line = record { number = n; text = line } in
-    ap (λ b. cond b (this ∷ filter is_kept (numbered (n + 1) lines)) (filter is_kept (numbered (n + 1) lines))) (kept_line n line h.0)
+    ap (λ b. cond b (this ∷ filter is_kept (numbered (n + 1) lines)) (filter is_kept (numbered (n + 1) lines))) (kept_line n h.0)
     ∙ ap (λ l. this ∷ l) (all_kept (n + 1) lines h.1)

@@ -18,15 +18,15 @@ use Rattle.answers.proofs.KeptLines.{NoneEnds-append}
 
 -- ---- blocks and bodies, one more
 
-AreBlocks-push : (version : ℕ) (front : List Line) (entries : List Entry) (block : List Line) (e : Entry) → AreBlocks version front entries
+AreBlocks-push : {version : ℕ} (front : List Line) (entries : List Entry) {block : List Line} {e : Entry} → AreBlocks version front entries
     → IsBlock version block e → AreBlocks version (front ++ block) (entries ++ e ∷ [])
-AreBlocks-push version front [] block e h last = grind (arith, append-nil)
-AreBlocks-push version front (d ∷ entries) block e h last = (
+AreBlocks-push front [] h last = grind (arith, append-nil)
+AreBlocks-push front (d ∷ entries) {block} h last = (
   h.0,
   h.1 ++ block,
   ap (λ l. l ++ block) h.2 ∙ append_assoc h.0 h.1 block,
   h.3,
-  AreBlocks-push version h.1 entries block e h.4 last,
+  AreBlocks-push h.1 entries h.4 last,
 )
 
 -- the level of the last entry, or `low` if there is no entry
@@ -52,25 +52,25 @@ last_after-push low (d ∷ es) e = last_after-push d.level es e
 pub last_level-push : (es : List Entry) (e : Entry) → last_level (es ++ e ∷ []) ≡ e.level
 last_level-push es e = search (last_level_is, last_after-push)
 
-rise_more : (low high : ℕ) (es : List Entry) (e : Entry) → RiseWithin low high es → last_after low es < e.level → e.level ≤ high
+rise_more : (low : ℕ) {high : ℕ} (es : List Entry) (e : Entry) → RiseWithin low high es → last_after low es < e.level → e.level ≤ high
     → RiseWithin low high (es ++ e ∷ [])
 unfolding last_after
-rise_more low high [] e h over within = (over, within, tt)
-rise_more low high (d ∷ es) e h over within = (h.0, h.1, rise_more d.level high es e h.2 over within)
+rise_more low [] e h over within = (over, within, tt)
+rise_more low (d ∷ es) e h over within = (h.0, h.1, rise_more d.level es e h.2 over within)
 
-RiseWithin-push : (high : ℕ) (es : List Entry) (e : Entry) → RiseWithin 0 high es → last_level es < e.level → e.level ≤ high → RiseWithin 0 high (es ++ e ∷ [])
-RiseWithin-push high es e h over within = grind (arith, rise_more, last_level_is)
+RiseWithin-push : {high : ℕ} (es : List Entry) (e : Entry) → RiseWithin 0 high es → last_level es < e.level → e.level ≤ high → RiseWithin 0 high (es ++ e ∷ [])
+RiseWithin-push es e h over within = grind (arith, rise_more, last_level_is)
 
 texts-push : (lines : List Line) (l : Line) → map (λ l. l.text) (lines ++ l ∷ []) ≡ map (λ l. l.text) lines ++ l.text ∷ []
 texts-push [] l = refl
 texts-push (x ∷ lines) l = ap (λ r. x.text ∷ r) (texts-push lines l)
 
 -- what a body says, and one line more
-body_more : (version : ℕ) (kind : List ℕ) (lines : List Line) (b : Body) (l : Line) → IsBody version kind lines b
+body_more : (version : ℕ) {kind : List ℕ} (lines : List Line) {b : Body} (l : Line) → IsBody version kind lines b
     → IsBody version kind (lines ++ l ∷ []) (extended version b l)
 unfolding extended
-body_more version kind lines b l (inl h) = grind (arith, texts-push)
-body_more version kind lines b l (inr h) = grind (arith, certificate_more)
+body_more version lines l (inl h) = grind (arith, texts-push)
+body_more version lines l (inr h) = grind (arith, certificate_more)
 
 -- ---- what has been read
 
@@ -82,9 +82,9 @@ Reached version levels entries (BodyDue n b) done = (level kind : Line) × (line
     × IsNextLevel entries levels level.text n × IsBody version kind.text lines b × NoneEnds lines
 
 -- lines that begin with whole blocks still do with more lines at their end
-begins_more : (version levels : ℕ) (done : List Line) (entries : List Entry) (rest : List Line) (more : List Line) → BeginsWith version levels done entries rest
+begins_more : {version levels : ℕ} {done : List Line} {entries : List Entry} {rest : List Line} (more : List Line) → BeginsWith version levels done entries rest
     → BeginsWith version levels (done ++ more) entries (rest ++ more)
-begins_more version levels done entries rest more h = record {
+begins_more {rest} more h = record {
   front = h.front;
   split = ap (λ l. l ++ more) h.split ∙ append_assoc h.front rest more;
   blocks = h.blocks;
@@ -115,139 +115,137 @@ ended version levels done entries n b l is h =
     record {
       front = front ++ block;
       split = ap (λ x. x ++ l ∷ []) h.3.split ∙ append_assoc front (h.0 ∷ h.1 ∷ h.2) (l ∷ []) ∙ sym (append-nil (front ++ block));
-      blocks = AreBlocks-push version front entries block e h.3.blocks whole;
-      rise = RiseWithin-push levels entries e h.3.rise h.4.above h.4.known;
+      blocks = AreBlocks-push front entries h.3.blocks whole;
+      rise = RiseWithin-push entries e h.3.rise h.4.above h.4.known;
     }
 
-pub same_Err : {A : Type 0} (x y : AnswersFault) → ◌≡◌ {A = Result A AnswersFault} (Err x) (Err y) → x ≡ y
-same_Err x y e = cc
+pub same_Err : {A : Type 0} {x y : AnswersFault} → ◌≡◌ {A = Result A AnswersFault} (Err x) (Err y) → x ≡ y
+same_Err e = cc
 
-pub ok_no_err : {A : Type 0} (x : A) (f : AnswersFault) → ◌≡◌ {A = Result A AnswersFault} (Ok x) (Err f) → ⊥
-ok_no_err x f e = cc
+pub ok_no_err : {A : Type 0} {x : A} {f : AnswersFault} → ◌≡◌ {A = Result A AnswersFault} (Ok x) (Err f) → ⊥
+ok_no_err e = cc
 
-pub same_Ok : {A : Type 0} (x y : A) → ◌≡◌ {A = Result A AnswersFault} (Ok x) (Ok y) → x ≡ y
-same_Ok x y e = cc
+pub same_Ok : {A : Type 0} {x y : A} → ◌≡◌ {A = Result A AnswersFault} (Ok x) (Ok y) → x ≡ y
+same_Ok e = cc
 
-either : {A : Type 0} (b : Bool) (x y z : A) → ◌≡◌ {A = Result A AnswersFault} (cond b (Ok x) (Ok y)) (Ok z) → ((b ≡ true) × (x ≡ z)) ⊎ ((b ≡ false) × (y ≡ z))
-either true x y z e = inl (refl, cc)
-either false x y z e = inr (refl, cc)
+either : {A : Type 0} (b : Bool) {x y z : A} → ◌≡◌ {A = Result A AnswersFault} (cond b (Ok x) (Ok y)) (Ok z) → ((b ≡ true) × (x ≡ z)) ⊎ ((b ≡ false) × (y ≡ z))
+either true e = inl (refl, cc)
+either false e = inr (refl, cc)
 
 -- if a line was taken, the lines read are whole blocks and the open one that the new stage is in
-pub step_found : (version levels : ℕ) (done : List Line) (entries : List Entry) (stage : Stage) (l : Line) (next : List Entry × Stage)
+pub step_found : (version levels : ℕ) (done : List Line) (entries : List Entry) (stage : Stage) (l : Line) {next : List Entry × Stage}
     → Reached version levels entries stage done → step version levels entries stage l ≡ Ok next → Reached version levels next.0 next.1 (done ++ l ∷ [])
-step_found version levels done entries LevelDue l next h e =
-    let a = went_on (level_after (last_level entries) levels l) (λ n. Ok (entries, KindDue n)) next e in
+step_found version levels done entries LevelDue l {next} h e =
+    let a = went_on (level_after (last_level entries) levels l) {f = (λ n. Ok (entries, KindDue n))} {y = next} e in
     let line = level_taken (last_level entries) levels l a.0 a.1 in
     let now : Reached version levels entries (KindDue a.0) (done ++ l ∷ []) = (
       l,
-      begins_more version levels done entries [] (l ∷ []) h,
+      begins_more (l ∷ []) h,
       record { line = line.line; above = line.above; known = line.known },
     ) in
-    subst (λ (x : List Entry × Stage). Reached version levels x.0 x.1 (done ++ l ∷ [])) (same_Ok (entries, KindDue a.0) next a.2) now
-step_found version levels done entries (KindDue n) l next h e =
-    let a = went_on (body_after l) (λ b. Ok (entries, BodyDue n b)) next e in
+    subst (λ x. Reached version levels x.0 x.1 (done ++ l ∷ [])) (same_Ok a.2) now
+step_found version levels done entries (KindDue n) l h e =
+    let a = went_on (body_after l) e in
     let now : Reached version levels entries (BodyDue n a.0) (done ++ l ∷ []) = (
       h.0,
       l,
       [],
-      begins_more version levels done entries (h.0 ∷ []) (l ∷ []) h.1,
+      begins_more (l ∷ []) h.1,
       h.2,
       opened version l.text a.0 (kind_taken l a.0 a.1),
       tt,
     ) in
-    subst (λ (x : List Entry × Stage). Reached version levels x.0 x.1 (done ++ l ∷ [])) (same_Ok (entries, BodyDue n a.0) next a.2) now
-step_found version levels done entries (BodyDue n b) l next h e = ⊎_elim
-    (λ c. subst (λ (x : List Entry × Stage). Reached version levels x.0 x.1 (done ++ l ∷ [])) c.1
-    (ended version levels done entries n b l ((bytes_eq-Decides l.text (codes "end")).0 c.0) h))
+    subst (λ x. Reached version levels x.0 x.1 (done ++ l ∷ [])) (same_Ok a.2) now
+step_found version levels done entries (BodyDue n b) l h e = ⊎_elim
+    (λ c. rw (← c.1) (ended version levels done entries n b l ((bytes_eq-Decides l.text (codes "end")).0 c.0) h))
     (λ c.
     let now : Reached version levels entries (BodyDue n (extended version b l)) (done ++ l ∷ []) = (
       h.0,
       h.1,
       h.2 ++ l ∷ [],
-      begins_more version levels done entries (h.0 ∷ h.1 ∷ h.2) (l ∷ []) h.3,
+      begins_more (l ∷ []) h.3,
       h.4,
-      body_more version h.1.text h.2 b l h.5,
-      NoneEnds-append h.2 (l ∷ []) h.6 (differs l.text (codes "end") c.0, tt),
+      body_more version h.2 l h.5,
+      NoneEnds-append h.2 (l ∷ []) h.6 (differs c.0, tt),
     ) in
-    subst (λ (x : List Entry × Stage). Reached version levels x.0 x.1 (done ++ l ∷ [])) c.1 now)
-    (either (bytes_eq l.text (codes "end")) (entries ++ record { level = n; body = b } ∷ [], LevelDue) (entries, BodyDue n (extended version b l)) next e)
+    rw (← c.1) now)
+    (either (bytes_eq l.text (codes "end")) e)
 
 -- if more lines were taken, the lines read are whole blocks and the open one that the new stage is in
-pub run_found : (version levels : ℕ) (lines done : List Line) (entries : List Entry) (stage : Stage) (next : List Entry × Stage)
+pub run_found : (version levels : ℕ) (lines done : List Line) (entries : List Entry) (stage : Stage) {next : List Entry × Stage}
     → Reached version levels entries stage done → run version levels entries stage lines ≡ Ok next → Reached version levels next.0 next.1 (done ++ lines)
-run_found version levels [] done entries stage next h e = grind (arith, same_Ok, append-nil)
-run_found version levels (l ∷ lines) done entries stage next h e =
-    let a = went_on (step version levels entries stage l) (λ next. run version levels next.0 next.1 lines) next e in
+run_found version levels [] done entries stage h e = grind (arith, same_Ok, append-nil)
+run_found version levels (l ∷ lines) done entries stage {next} h e =
+    let a = went_on (step version levels entries stage l) e in
     subst (Reached version levels next.0 next.1) (append_assoc done (l ∷ []) lines)
-    (run_found version levels lines (done ++ l ∷ []) a.0.0 a.0.1 next (step_found version levels done entries stage l a.0 h a.1) a.2)
+    (run_found version levels lines (done ++ l ∷ []) a.0.0 a.0.1 (step_found version levels done entries stage l h a.1) a.2)
 
 -- ---- where reading stops
 
-level_fault : (version levels : ℕ) (kept : List Line) (count : ℕ) (entries : List Entry) (l : Line) (rest : List Line) (f : AnswersFault)
+level_fault : {version levels : ℕ} {kept : List Line} (count : ℕ) {entries : List Entry} {l : Line} {rest : List Line} {f : AnswersFault}
     → BeginsWith version levels kept entries (l ∷ rest) → IsLevelRefused (last_level entries) levels l f → IsLineFault version levels kept count f
-level_fault version levels kept count entries l rest f h (no_line none e) = grind arith
-level_fault version levels kept count entries l rest f h (not_above n line under e) = grind arith
-level_fault version levels kept count entries l rest f h (not_known n line over past e) = grind arith
+level_fault count h (no_line none e) = grind arith
+level_fault count h (not_above n line under e) = grind arith
+level_fault count h (not_known n line over past e) = grind arith
 
 no_end_fault : {A : Type 0} (b : Bool) (x y : A) (f : AnswersFault) → cond b (Ok x) (Ok y) ≡ Err f → ⊥
 no_end_fault true x y f e = cc
 no_end_fault false x y f e = cc
 
 -- a fault at a line is the fault of the kept lines
-step_fault : (version levels count : ℕ) (done : List Line) (entries : List Entry) (stage : Stage) (l : Line) (rest : List Line) (f : AnswersFault)
+step_fault : (version levels count : ℕ) (done : List Line) (entries : List Entry) (stage : Stage) (l : Line) (rest : List Line) {f : AnswersFault}
     → Reached version levels entries stage done → step version levels entries stage l ≡ Err f → IsLineFault version levels (done ++ l ∷ rest) count f
-step_fault version levels count done entries LevelDue l rest f h e = ⊎_elim
-    (λ bad. level_fault version levels (done ++ l ∷ rest) count entries l rest f (begins_more version levels done entries [] (l ∷ rest) h)
+step_fault version levels count done entries LevelDue l rest {f} h e = ⊎_elim
+    (λ bad. level_fault count (begins_more {version = version} {levels = levels} {done = done} {entries = entries} {rest = []} (l ∷ rest) h)
     (level_refused (last_level entries) levels l f bad))
-    (λ good. absurd (ok_no_err (entries, KindDue good.0) f good.2)) (went_wrong (level_after (last_level entries) levels l) (λ n. Ok (entries, KindDue n)) f e)
-step_fault version levels count done entries (KindDue n) l rest f h e = ⊎_elim
+    (λ good. absurd (ok_no_err good.2)) (went_wrong (level_after (last_level entries) levels l) e)
+step_fault version levels count done entries (KindDue n) l rest {f} h e = ⊎_elim
     (λ bad.
     let k = kind_refused l f bad in
-    subst (IsLineFault version levels (done ++ l ∷ rest) count) (sym k.1)
-    (entries, h.0, l, rest, begins_more version levels done entries (h.0 ∷ []) (l ∷ rest) h.1, refl, (n, h.2), k.0))
-    (λ good. absurd (ok_no_err (entries, BodyDue n good.0) f good.2)) (went_wrong (body_after l) (λ b. Ok (entries, BodyDue n b)) f e)
-step_fault version levels count done entries (BodyDue n b) l rest f h e = search (no_end_fault)
+    rw k.1 (entries, h.0, l, rest, begins_more (l ∷ rest) h.1, refl, (n, h.2), k.0))
+    (λ good. absurd (ok_no_err good.2)) (went_wrong (body_after l) e)
+step_fault version levels count done entries (BodyDue n b) l rest h e = search (no_end_fault)
 
-pub run_fault : (version levels count : ℕ) (lines done : List Line) (entries : List Entry) (stage : Stage) (f : AnswersFault)
+pub run_fault : (version levels count : ℕ) (lines done : List Line) (entries : List Entry) (stage : Stage) {f : AnswersFault}
     → Reached version levels entries stage done → run version levels entries stage lines ≡ Err f → IsLineFault version levels (done ++ lines) count f
-run_fault version levels count [] done entries stage f h e = search (ok_no_err)
-run_fault version levels count (l ∷ lines) done entries stage f h e = ⊎_elim
-    (λ bad. step_fault version levels count done entries stage l lines f h bad)
+run_fault version levels count [] done entries stage h e = search (ok_no_err)
+run_fault version levels count (l ∷ lines) done entries stage {f} h e = ⊎_elim
+    (λ bad. step_fault version levels count done entries stage l lines h bad)
     (λ good. subst (λ x. IsLineFault version levels x count f) (append_assoc done (l ∷ []) lines)
-    (run_fault version levels count lines (done ++ l ∷ []) good.0.0 good.0.1 f (step_found version levels done entries stage l good.0 h good.1) good.2))
-    (went_wrong (step version levels entries stage l) (λ next. run version levels next.0 next.1 lines) f e)
+    (run_fault version levels count lines (done ++ l ∷ []) good.0.0 good.0.1 (step_found version levels done entries stage l h good.1) good.2))
+    (went_wrong (step version levels entries stage l) e)
 
 kind_known : (version : ℕ) (text : List ℕ) (lines : List Line) (b : Body) → IsBody version text lines b → IsKind text
 kind_known version text lines b (inl h) = inl h.0
 kind_known version text lines b (inr h) = inr h.0
 
-closed_fault : (version levels count : ℕ) (kept : List Line) (last : List Entry × Stage) (f : AnswersFault) → Reached version levels last.0 last.1 kept
+closed_fault : (version levels count : ℕ) (kept : List Line) (last : List Entry × Stage) {f : AnswersFault} → Reached version levels last.0 last.1 kept
     → closed count last ≡ Err f → IsLineFault version levels kept count f
-closed_fault version levels count kept (entries, LevelDue) f h e = absurd (ok_no_err entries f e)
-closed_fault version levels count kept (entries, KindDue n) f h e = grind (arith, same_Err)
-closed_fault version levels count kept (entries, BodyDue n b) f h e = grind (arith, same_Err, kind_known)
+closed_fault version levels count kept (entries, LevelDue) h e = absurd (ok_no_err e)
+closed_fault version levels count kept (entries, KindDue n) h e = grind (arith, same_Err)
+closed_fault version levels count kept (entries, BodyDue n b) h e = grind (arith, same_Err, kind_known)
 
-closed_found : (version levels count : ℕ) (kept : List Line) (last : List Entry × Stage) (entries : List Entry) → Reached version levels last.0 last.1 kept
+closed_found : {version levels : ℕ} (count : ℕ) {kept : List Line} (last : List Entry × Stage) {entries : List Entry} → Reached version levels last.0 last.1 kept
     → closed count last ≡ Ok entries → BeginsWith version levels kept entries []
-closed_found version levels count kept (es, LevelDue) entries h e = grind (arith, same_Ok)
-closed_found version levels count kept (es, KindDue n) entries h e = grind (arith, ok_no_err)
-closed_found version levels count kept (es, BodyDue n b) entries h e = grind (arith, ok_no_err)
+closed_found count (es, LevelDue) h e = grind (arith, same_Ok)
+closed_found count (es, KindDue n) h e = grind (arith, ok_no_err)
+closed_found count (es, BodyDue n b) h e = grind (arith, ok_no_err)
 
 nothing_yet : (version levels : ℕ) → Reached version levels [] LevelDue []
 nothing_yet version levels = grind arith
 
 -- kept lines spell the entries that reading gives
-pub kept_found : (version levels count : ℕ) (kept : List Line) (entries : List Entry) → on_ok (run version levels [] LevelDue kept) (closed count) ≡ Ok entries
+pub kept_found : (version levels count : ℕ) (kept : List Line) {entries : List Entry} → on_ok (run version levels [] LevelDue kept) (closed count) ≡ Ok entries
     → AreBlocks version kept entries × RiseWithin 0 levels entries
-kept_found version levels count kept entries e =
-    let a = went_on (run version levels [] LevelDue kept) (closed count) entries e in
-    let last = closed_found version levels count kept a.0 entries (run_found version levels kept [] [] LevelDue a.0 (nothing_yet version levels) a.1) a.2 in
-    (subst (λ x. AreBlocks version x entries) (sym (last.split ∙ append-nil last.front)) last.blocks, last.rise)
+kept_found version levels count kept e =
+    let a = went_on (run version levels [] LevelDue kept) e in
+    let last = closed_found count a.0 (run_found version levels kept [] [] LevelDue (nothing_yet version levels) a.1) a.2 in
+    (rw (sym (last.split ∙ append-nil last.front)) at last.blocks, last.rise)
 
 -- a fault that reading gives is the fault of the kept lines
-pub kept_fault : (version levels count : ℕ) (kept : List Line) (f : AnswersFault) → on_ok (run version levels [] LevelDue kept) (closed count) ≡ Err f
+pub kept_fault : (version levels count : ℕ) (kept : List Line) {f : AnswersFault} → on_ok (run version levels [] LevelDue kept) (closed count) ≡ Err f
     → IsLineFault version levels kept count f
-kept_fault version levels count kept f e = ⊎_elim
-    (λ bad. run_fault version levels count kept [] [] LevelDue f (nothing_yet version levels) bad)
-    (λ good. closed_fault version levels count kept good.0 f (run_found version levels kept [] [] LevelDue good.0 (nothing_yet version levels) good.1) good.2)
-    (went_wrong (run version levels [] LevelDue kept) (closed count) f e)
+kept_fault version levels count kept e = ⊎_elim
+    (λ bad. run_fault version levels count kept [] [] LevelDue (nothing_yet version levels) bad)
+    (λ good. closed_fault version levels count kept good.0 (run_found version levels kept [] [] LevelDue (nothing_yet version levels) good.1) good.2)
+    (went_wrong (run version levels [] LevelDue kept) e)

@@ -48,15 +48,15 @@ lines_go_on : (count : ℕ) (letters : List ℕ) → AllByRecursion IsLetter let
 lines_go_on zero letters h = tt
 lines_go_on (suc count) letters h = (not_end (take 70 letters) (letters_front 70 letters h), lines_go_on count (drop 70 letters) (letters_rest 70 letters h))
 
-lines_join : (count : ℕ) (letters : List ℕ) → length letters ≤ 70 * count → concat (lines_of_70 count letters) ≡ letters
-lines_join zero letters few = sym (none letters (omega arith))
+lines_join : (count : ℕ) {letters : List ℕ} → length letters ≤ 70 * count → concat (lines_of_70 count letters) ≡ letters
+lines_join zero {letters} few = sym (none letters (omega arith))
   where
     none : (xs : List ℕ) → length xs ≤ 0 → xs ≡ []
     none [] h = refl
     none (x ∷ xs) h = absurd (omega arith)
-lines_join (suc count) letters few =
+lines_join (suc count) {letters} few =
     let rest : length (drop 70 letters) ≤ 70 * count = omega (arith, length-drop 70 letters) in
-    ap (λ l. take 70 letters ++ l) (lines_join count (drop 70 letters) rest) ∙ take-append-drop 70 letters
+    ap (λ l. take 70 letters ++ l) (lines_join count rest) ∙ take-append-drop 70 letters
 
 -- ---- the lines of a solution
 

@@ -2,7 +2,7 @@
 -- kept. The lines of a record are a block of the entry that says what the record says, with its line numbers. Blocks follow one
 -- another, and their levels rise because the levels of the records do. A text with a zone has version 2, because the header has that
 -- version if some record holds a zone.
-use Rattle.std.proofs.Common.{◌≡◌, ◌≢◌, ℕ, suc, ◌+◌, ◌⊎◌, Bool, true, false, ◌||◌, if◌then◌else◌, List, [], ◌∷◌, ◌++◌, length, map, refl, sym, ap, subst, ◌∙◌, arith, inl, inr, codes, lit<}
+use Rattle.std.proofs.Common.{◌≡◌, ◌≢◌, ℕ, suc, ◌+◌, ◌⊎◌, Bool, true, false, ◌||◌, if◌then◌else◌, List, [], ◌∷◌, ◌++◌, length, map, refl, ap, ◌∙◌, arith, inl, inr, codes, lit<}
 use Rattle.std.specs.Prelude.{filter, drop}
 use Rattle.std.specs.List.{AllByRecursion, flat_map, list_any}
 use Rattle.answers.specs.declared.pattern.Pattern.{Pattern}
@@ -100,11 +100,11 @@ a_block : (version n level : ℕ) (kind : List ℕ) (lines : List (List ℕ)) (b
     → IsBlock version (numbered n (level_text level ∷ kind ∷ (lines ++ codes "end" ∷ []))) (record { level = level; body = body })
 a_block version n level kind lines body says on = grind (arith, numbered-append, none_ends)
 
-record_block : (version n level : ℕ) (b : MadeBody) → IsLawfulBody b → (holds_zone b ≡ true → version ≡ 2)
+record_block : {version : ℕ} (n level : ℕ) (b : MadeBody) → IsLawfulBody b → (holds_zone b ≡ true → version ≡ 2)
     → IsBlock version (numbered n (level_text level ∷ (made_lines b ++ codes "end" ∷ []))) (record { level = level; body = body_from (n + 1 + 1) b })
-record_block version n level (made_is.Letters letters) h two = grind (arith, a_block, texts_of, letter_lines-go_on)
-record_block version n level (made_is.Patterns patterns) h two = grind (arith, patterns_count, patterns_spelled, patterns_lawful, a_block, patterns_go_on)
-record_block version n level (made_is.Zone zone) h two =
+record_block n level (made_is.Letters letters) h two = grind (arith, a_block, texts_of, letter_lines-go_on)
+record_block n level (made_is.Patterns patterns) h two = grind (arith, patterns_count, patterns_spelled, patterns_lawful, a_block, patterns_go_on)
+record_block {version} n level (made_is.Zone zone) h two =
     a_block version n level (codes "unsolvable") (zone_text (said_zone zone) ∷ []) _ (inr (refl, (two refl, h, refl))) (zone_is_no_end (said_zone zone), tt)
 
 -- the version is 2 if some record holds a zone
@@ -119,7 +119,7 @@ record_blocks version n low high (r ∷ rs) h zones =
       numbered n (record_lines r),
       numbered next (flat_map record_lines rs),
       numbered-append n (record_lines r) (flat_map record_lines rs),
-      record_block version n r.level r.body h.2 zones.0,
+      record_block n r.level r.body h.2 zones.0,
       record_blocks version next r.level high rs h.3 zones.1,
     )
 
@@ -129,15 +129,15 @@ any_head : (a b : Bool) → a ≡ true → (a || b) ≡ true
 any_head true b h = refl
 any_head false b h = absurd cc
 
-any_tail : (a b : Bool) → b ≡ true → (a || b) ≡ true
-any_tail true b h = refl
-any_tail false b h = h
+any_tail : (a : Bool) {b : Bool} → b ≡ true → (a || b) ≡ true
+any_tail true h = refl
+any_tail false h = h
 
-suits : (version : ℕ) (rs : List MadeRecord) → (list_any (λ r. holds_zone r.body) rs ≡ true → version ≡ 2) → SuitsZones version rs
-suits version [] h = tt
-suits version (r ∷ rs) h =
+suits : {version : ℕ} (rs : List MadeRecord) → (list_any (λ r. holds_zone r.body) rs ≡ true → version ≡ 2) → SuitsZones version rs
+suits [] h = tt
+suits (r ∷ rs) h =
     let some = list_any (λ r. holds_zone r.body) rs in
-    (λ (e : holds_zone r.body ≡ true). h (any_head (holds_zone r.body) some e), suits version rs (λ (e : some ≡ true). h (any_tail (holds_zone r.body) some e)))
+    (λ (e : holds_zone r.body ≡ true). h (any_head (holds_zone r.body) some e), suits rs (λ (e : some ≡ true). h (any_tail (holds_zone r.body) e)))
 
 version_two : (rs : List MadeRecord) → list_any (λ r. holds_zone r.body) rs ≡ true → version_of rs ≡ 2
 version_two rs e = search
@@ -164,8 +164,8 @@ records_plain low high (r ∷ rs) h =
     plain_all (record_lines r) (flat_map record_lines rs) (plain_level r.level, plain_all (made_lines r.body) (codes "end" ∷ []) (body_plain r.body h.2) end)
     (records_plain r.level high rs h.3)
 
-pub canonical_spells : (rs : List MadeRecord) (levels : ℕ) → AreLawfulRecords 0 levels rs → SpellsEntries (canonical rs) levels (entries_from 2 rs)
-canonical_spells rs levels h =
+pub canonical_spells : (rs : List MadeRecord) {levels : ℕ} → AreLawfulRecords 0 levels rs → SpellsEntries (canonical rs) levels (entries_from 2 rs)
+canonical_spells rs {levels} h =
     let plain = records_plain 0 levels rs h in
     let lines = lines_again (canonical_lines rs) (plain_header (version_of rs), plain) in
     let kept : kept_lines (canonical rs) ≡ numbered 2 (flat_map record_lines rs) = ap (λ l. filter is_kept (drop 1 (numbered 1 l))) lines
@@ -173,7 +173,6 @@ canonical_spells rs levels h =
     record {
       version = version_of rs;
       header = record { known = version_known (list_any (λ r. holds_zone r.body) rs); others = flat_map record_lines rs; first = lines };
-      blocks = subst (λ l. AreBlocks (version_of rs) l (entries_from 2 rs)) (sym kept)
-          (record_blocks (version_of rs) 2 0 levels rs h (suits (version_of rs) rs (version_two rs)));
+      blocks = rw kept (record_blocks (version_of rs) 2 0 levels rs h (suits rs (version_two rs)));
       rise = entries_rise 2 0 levels rs h;
     }

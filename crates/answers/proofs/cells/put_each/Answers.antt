@@ -19,7 +19,7 @@ loop-left-init c =
       within = omega arith;
       long = c.told-text;
       put =
-          drop_all 768 c.args.text.now (omega (arith, c.told-text))
+          drop_all 768 c.args.text.now (omega arith)
           ∙ ap (flat_map (between c.args.before.now c.args.after.now)) (sym (drop_all (length cells) cells (omega arith)));
     }
 
@@ -34,11 +34,11 @@ loop-left-preserved c =
     let next : l.left ≡ k + 1 = omega arith in
     let f = between c.args.before.now c.args.after.now in
     record {
-      left = let h = kept.left in omega (arith, h);
-      room = let h = kept.left in let r = kept.room in omega (arith, h, r, c.put_cell-at.ensures.few);
-      within = let w = kept.within in omega (arith, w, c.put_cell-at.ensures.few);
+      left = let h = kept.left in omega arith;
+      room = let h = kept.left in let r = kept.room in omega arith;
+      within = let w = kept.within in omega arith;
       long = c.put_cell-at.ensures.len ∙ kept.long;
       put =
           c.put_cell-at.ensures.put ∙ ap (λ r. f cell ++ r) (kept.put ∙ ap (λ n. flat_map f (drop n cells)) next)
-          ∙ cells_put f cells k none (let h = kept.left in omega (arith, h));
+          ∙ cells_put f cells k none (let h = kept.left in omega arith);
     }

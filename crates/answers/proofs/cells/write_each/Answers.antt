@@ -1,5 +1,4 @@
-use Rattle.std.proofs.Common.{[], ◌++◌, refl, arith}
-use Rattle.std.proofs.lemmas.Grind.{common_steps}
+use Rattle.std.proofs.Common.{[], ◌++◌, refl}
 use Rattle.std.specs.List.{flat_map}
 use Rattle.answers.specs.CellTexts.{between}
 use Rattle.answers.proofs.CellBuffers.{parts_on}
@@ -16,8 +15,7 @@ loop-rest-preserved g c =
     let part = flat_map f c.split_at.result.0.now in (
       front ++ part,
       handed_both _ _ _ front part _ _ wrote c.in_ok-write_part.ensures,
-      parts_on f front c.split_at.result.0.now c.split_at.result.1.now c.loop-rest.rest.now c.args.cells.now c.min.result c.split_at.ensures.front
-          c.split_at.ensures.back whole,
+      parts_on f front c.loop-rest.rest.now c.args.cells.now c.min.result c.split_at.ensures.front c.split_at.ensures.back whole,
     )
 
 pub returns-in_err-write_part : goal.returns-in_err-write_part
@@ -28,5 +26,5 @@ returns-in_err-write_part g c =
     let cut = handed_both _ _ _ front part _ _ wrote c.in_err-write_part.ensures in
     let more = handed_part _ _ (front ++ part) (flat_map f c.split_at.result.1.now) _ cut in
     passed_on _ _ _ _ _ c.from_residual.ensures.0
-    (handed_as _ _ _ _ _ (parts_on f front c.split_at.result.0.now c.split_at.result.1.now c.loop-rest.rest.now c.args.cells.now c.min.result
+    (handed_as _ _ _ _ _ (parts_on f front c.loop-rest.rest.now c.args.cells.now c.min.result
     c.split_at.ensures.front c.split_at.ensures.back whole) more)

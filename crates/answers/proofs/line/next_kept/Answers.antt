@@ -9,7 +9,7 @@ use Rattle.answers.proofs.line.next_kept.Goals as goal
 pub returns-then-is_kept-clause-some : goal.returns-then-is_kept-clause-some
 returns-then-is_kept-clause-some c =
     let found = c.in-Some.ensures.some in
-    sym c.loop-line.invariant.kept ∙ comments_skipped _ _ found.skipped ∙ line_kept _ _ _ _ _ found (sym c.is_kept.ensures ∙ c.if-is_kept.true)
+    sym c.loop-line.invariant.kept ∙ comments_skipped found.skipped ∙ line_kept _ _ _ _ _ found (sym c.is_kept.ensures ∙ c.if-is_kept.true)
 
 pub returns-then-is_kept-clause-count : goal.returns-then-is_kept-clause-count
 returns-then-is_kept-clause-count c = grind (arith, found_count)
@@ -18,10 +18,9 @@ pub loop-line-preserved : goal.loop-line-preserved
 loop-line-preserved c =
     let found = c.in-Some.ensures.some in
     record {
-      kept = sym (line_left _ _ _ _ _ found (sym c.is_kept.ensures ∙ c.if-is_kept.false)) ∙ sym (comments_skipped _ _ found.skipped)
-          ∙ c.loop-line.invariant.kept;
+      kept = sym (line_left _ _ _ _ _ found (sym c.is_kept.ensures ∙ c.if-is_kept.false)) ∙ sym (comments_skipped found.skipped) ∙ c.loop-line.invariant.kept;
       count = found_count _ _ _ _ _ found ∙ c.loop-line.invariant.count;
-      shorter = omega (arith, found_shorter _ _ _ _ _ found, c.loop-line.invariant.shorter);
+      shorter = omega (arith, found_shorter _ _ _ _ _ found);
     }
 
 pub returns-clause-none : goal.returns-clause-none

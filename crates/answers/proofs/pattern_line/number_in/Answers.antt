@@ -8,7 +8,7 @@ returns-in_err-checked_mul c =
     let ds = c.args.digits.now in
     let i = c.loop-digit.digit-index in
     let large = c.in_err-checked_mul.ensures in
-    rw c.from_residual.ensures (λ low. large (omega (arith, number_in-more ds i (omega arith), number_in-take-le ds (i + 1), c.loop-digit.invariant.0)))
+    rw c.from_residual.ensures (λ low. large (omega (arith, number_in-more ds i (omega arith), number_in-take-le ds (i + 1))))
 
 pub returns-in_err-number : goal.returns-in_err-number
 returns-in_err-number c =
@@ -16,7 +16,7 @@ returns-in_err-number c =
     let i = c.loop-digit.digit-index in
     let large = c.in_err-number.ensures in
     rw c.from_residual-in_err-number.ensures
-    (λ low. large (omega (arith, number_in-more ds i (omega arith), number_in-take-le ds (i + 1), c.loop-digit.invariant.0)))
+    (λ low. large (omega (arith, number_in-more ds i (omega arith), number_in-take-le ds (i + 1))))
 
 pub loop-digit-preserved : goal.loop-digit-preserved
 loop-digit-preserved c = grind (arith, number_in-more)
@@ -24,4 +24,4 @@ loop-digit-preserved c = grind (arith, number_in-more)
 pub returns : goal.returns
 returns c =
     let all = ap number_in (take_all c.loop-digit.digit-index c.args.digits.now (omega arith)) in
-    (omega (arith, all, c.loop-digit.invariant.0, c.loop-digit.invariant.1), omega (arith, all, c.loop-digit.invariant.0))
+    (omega arith, omega arith)

@@ -11,15 +11,14 @@ returns-in_default c = no_cell c.args.text.now c.loop-cell.cells.items c.loop-ce
 
 pub returns-then-not-is_before : goal.returns-then-not-is_before
 returns-then-not-is_before c =
-    not_after c.args.text.now c.loop-cell.cells.items c.loop-cell.last c.loop-cell.rest.now c.loop-cell.invariant c.in-Some.cell c.in-Some.after.now
-    c.in-Some.ensures
-    (λ before. false≢true (sym c.if-not-is_before.true ∙ c.is_before.ensures ∙ test_from_before c.loop-cell.last c.in-Some.cell before))
+    not_after c.args.text.now c.loop-cell.cells.items c.loop-cell.last c.loop-cell.rest.now c.loop-cell.invariant c.in-Some.ensures
+    (λ before. false≢true (sym c.if-not-is_before.true ∙ c.is_before.ensures ∙ test_from_before before))
 
 pub returns-in_default-after_blank : goal.returns-in_default-after_blank
 returns-in_default-after_blank c =
     rw c.in_ok-push.ensures.ok
     (last_cell c.args.text.now c.loop-cell.cells.items c.loop-cell.last c.loop-cell.rest.now c.loop-cell.invariant c.in-Some.cell c.in-Some.after.now
-    c.in-Some.ensures (before_from_test c.loop-cell.last c.in-Some.cell (sym c.is_before.ensures ∙ c.if-not-is_before.false))
+    c.in-Some.ensures (before_from_test (sym c.is_before.ensures ∙ c.if-not-is_before.false))
     c.in_default-after_blank.ensures.none)
 
 pub loop-cell-preserved : goal.loop-cell-preserved
@@ -27,5 +26,5 @@ loop-cell-preserved c =
     let next = c.in-Some-after_blank.ensures.some in
     rw c.in_ok-push.ensures.ok
     (one_more c.args.text.now c.loop-cell.cells.items c.loop-cell.last c.loop-cell.rest.now c.loop-cell.invariant c.in-Some.cell c.in-Some.after.now
-    c.in-Some.ensures (before_from_test c.loop-cell.last c.in-Some.cell (sym c.is_before.ensures ∙ c.if-not-is_before.false))
+    c.in-Some.ensures (before_from_test (sym c.is_before.ensures ∙ c.if-not-is_before.false))
     c.in-Some-after_blank.next.now next.0 next.1)

@@ -1,9 +1,9 @@
 -- The invariant says that the digits so far spell the number, which stays small because a digit is added only to at most 6,553. At the end
 -- no digit follows that could be added. So the text begins with no number that is allowed (`takes_no_number`), or just this one is taken
 -- (`takes_number`).
-use Rattle.std.proofs.Common.{◌+◌, ◌∙◌, arith, get_or, subst, sym}
+use Rattle.std.proofs.Common.{◌+◌, ◌∙◌, arith, get_or, sym}
 use Rattle.std.proofs.lemmas.List.{length-take, take_rest}
-use Rattle.answers.proofs.Coordinates.{BeginsWithDigits, one_digit_more, takes_no_number, takes_number}
+use Rattle.answers.proofs.Coordinates.{one_digit_more, takes_no_number, takes_number}
 use Rattle.answers.proofs.Numerals.{digit_from_test}
 use Rattle.answers.proofs.pattern_line.take_coordinate.Goals as goal
 use Rattle.answers.proofs.pattern_line.take_coordinate.Goals.{then-number-gt65535-via-then-number-gt65535, then-number-gt65535-via-else-number-gt65535+then-not-begins_number}
@@ -21,8 +21,8 @@ loop-more-preserved c =
     let more = c.in-Some.ensures.some in
     let digit = digit_from_test (get_or text at 0) more.1 in
     record {
-      read = subst (BeginsWithDigits text (at + 1)) (sym more.3) (one_digit_more text at c.loop-more.number c.loop-more.invariant.read more.0 more.1);
-      small = omega (arith, more.2, more.3, digit.1);
+      read = rw more.3 (one_digit_more text at c.loop-more.number c.loop-more.invariant.read more.0 more.1);
+      small = omega arith;
     }
 
 pub slice_bounds-begins_number-end : goal.slice_bounds-begins_number-end

@@ -1,6 +1,6 @@
 use Rattle.std.proofs.Common.{arith}
 use Rattle.std.proofs.lemmas.List.{drop_all, take_rest}
-use Rattle.answers.proofs.LetterPieces.{comments_alone, letters_past, no_letters, past_some}
+use Rattle.answers.proofs.LetterPieces.{comments_alone, letters_past, no_letters}
 use Rattle.answers.proofs.pieces.past_comments.Goals as goal
 
 pub returns-in-Some-clause-letters : goal.returns-in-Some-clause-letters

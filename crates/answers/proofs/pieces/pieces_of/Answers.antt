@@ -17,7 +17,7 @@ loop-left-preserved-in_ok-push c =
       letters = ap (λ ps. unbroken (joined ps) ++ letters_in c.cut_at_comment.result.1.now) all
           ∙ piece_added c.loop-left.pieces.items c.cut_at_comment.result.0 c.loop-left.left.now c.cut_at_comment.result.1.now _
           cut.letters c.loop-left.invariant.letters;
-      within = omega (arith, ap (sum_by (λ piece. length piece.now)) all, size, cut.within, c.loop-left.invariant.within);
+      within = omega (arith, ap (sum_by (λ piece. length piece.now)) all, cut.within, c.loop-left.invariant.within);
     }
 
 pub returns-clause-letters : goal.returns-clause-letters

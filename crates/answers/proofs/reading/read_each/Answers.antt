@@ -1,6 +1,5 @@
 use Rattle.std.proofs.Common.{◌≡◌, ◌+◌, ◌++◌, [], ◌∷◌, map, take, take_all, sym, ap, arith, ◌∙◌}
 use Rattle.std.proofs.lemmas.List.{map_push, take_more}
-use Rattle.answers.specs.Grammar.{said_record}
 use Rattle.answers.specs.Reading.{entry_of}
 use Rattle.answers.proofs.reading.read_each.Goals as goal
 

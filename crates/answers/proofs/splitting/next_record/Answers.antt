@@ -32,11 +32,11 @@ returns c =
     let from = c.after_comments-from.ensures in
     let cut = c.in-Some-cut_at_end.ensures.some in
     record {
-      some = λ entries after. record_taken c.args.version c.args.levels c.args.last entries after _ _ _ _ _ _ _ cut.last (kept_in c.in-Some-cut_at_end.rest)
+      some = λ entries after. record_taken c.args.version c.args.levels c.args.last entries after _ cut.last (kept_in c.in-Some-cut_at_end.rest)
           kept (sym c.in_ok-level.ensures) c.in_ok-kind.ensures cut.kept cut.goes_on cut.ends;
       none = tt;
       count = cut.count ∙ from.count ∙ c.in-Some-next_kept.ensures.count ∙ c.in-Some.ensures.count;
-      shorter = omega (arith, c.in-Some.ensures.shorter, c.in-Some-next_kept.ensures.shorter, from.no_longer, cut.shorter);
+      shorter = omega (arith, c.in-Some.ensures.shorter, c.in-Some-next_kept.ensures.shorter, cut.shorter);
       fault = tt;
     }
 

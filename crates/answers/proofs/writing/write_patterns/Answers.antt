@@ -1,7 +1,7 @@
 use Rattle.std.proofs.Common.{ℕ, List, arith}
 use Rattle.answers.specs.declared.pattern.Pattern.{Pattern}
 use Rattle.answers.specs.Canonical.{ended, line_of_made}
-use Rattle.devices.proofs.WrittenTexts.{handed_all, handed_item, handed_nothing, handed_some, passed_on}
+use Rattle.devices.proofs.WrittenTexts.{handed_all, handed_item, handed_some, passed_on}
 use Rattle.answers.proofs.writing.write_patterns.Goals as goal
 
 abbrev text : Pattern → List ℕ

@@ -2,7 +2,7 @@ use Rattle.std.proofs.Common.{ℕ, List, arith}
 use Rattle.std.specs.List.{flat_map}
 use Rattle.answers.specs.declared.record.MadeRecord.{MadeRecord}
 use Rattle.answers.specs.Canonical.{ended, record_lines}
-use Rattle.devices.proofs.WrittenTexts.{handed_all, handed_item, handed_nothing, handed_some, passed_on}
+use Rattle.devices.proofs.WrittenTexts.{handed_all, handed_item, handed_some, passed_on}
 use Rattle.answers.proofs.writing.write_records.Goals as goal
 
 abbrev text : MadeRecord → List ℕ

@@ -11,8 +11,7 @@ pub returns-in-Some-2-clause-says : goal.returns-in-Some-2-clause-says
 returns-in-Some-2-clause-says c = λ patterns count.
     let lines = c.args.self.now in
     let zone = sym (c.in_ok-zone.ensures patterns count) ∙ ap (option_map said_zone) c.in-Some-2.is in
-    zone_next lines.version patterns (said_line c.in-Some.line) (kept_in c.in-Some.rest) (lines_left lines) c.in-Some.ensures.some
-    (said_zone c.in-Some-2.zone) zone ∙ c.zone_before.ensures.says lines.version patterns lines
+    zone_next lines.version patterns (said_line c.in-Some.line) (kept_in c.in-Some.rest) (lines_left lines) c.in-Some.ensures.some zone ∙ c.zone_before.ensures.says lines.version patterns lines
 
 pub returns-in_default-3-clause-says : goal.returns-in_default-3-clause-says
 returns-in_default-3-clause-says c = λ patterns count.

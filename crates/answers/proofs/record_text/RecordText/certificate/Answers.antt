@@ -1,8 +1,6 @@
-use Rattle.std.proofs.Common.{[], ap, inl, map, refl, subst, sym}
+use Rattle.std.proofs.Common.{ap, inl, map, refl}
 use Rattle.answers.specs.declared.record_text.Kind.TheVariants as kind
-use Rattle.answers.specs.Grammar.{IsBody, Line}
-use Rattle.answers.specs.Body.{PatternLines}
-use Rattle.answers.specs.Reading.{after_lines}
+use Rattle.answers.specs.Grammar.{Line}
 use Rattle.answers.specs.Records.{body_lines, kind_line}
 use Rattle.answers.proofs.BodyLines.{body_says}
 use Rattle.answers.proofs.record_text.RecordText.certificate.Goals as goal
@@ -14,5 +12,4 @@ returns-in-Solution-clause-none c =
 pub returns-in-Unsolvable-clause-some : goal.returns-in-Unsolvable-clause-some
 returns-in-Unsolvable-clause-some c =
     let r = c.args.self.now in
-    subst (λ kind. IsBody r.version (kind_line kind) (body_lines r) (after_lines r.version (PatternLines []) (body_lines r))) (sym c.in-Unsolvable.is)
-    (body_says r.version kind.Unsolvable (body_lines r))
+    rw c.in-Unsolvable.is (body_says r.version kind.Unsolvable (body_lines r))
