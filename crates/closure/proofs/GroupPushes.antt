@@ -26,7 +26,9 @@ use Rattle.closure.specs.Run.{state_after}
 use Rattle.closure.specs.Sides.{cell_no, cells_in}
 use Rattle.closure.specs.declared.groups.Groups.{Groups}
 use Rattle.closure.specs.declared.tables.Tables.{Tables}
-use Rattle.closure.specs.Tables.{AreNoted, CoversFrom, CoversToward, HasNoPush, IsGrouped, AreTables, IsPushAt, IsPushOf, IsStepBack, boxes_of, list_of, position_at}
+use Rattle.closure.specs.GroupPushes.{AreNoted, CoversFrom, CoversToward, HasNoPush, IsPushAt, IsPushOf, IsStepBack}
+use Rattle.closure.specs.Groups.{IsGrouped, boxes_of, list_of, position_at}
+use Rattle.closure.specs.Tables.{AreTables}
 use Rattle.closure.proofs.Arenas.{list_long}
 use Rattle.closure.proofs.CellLists.{at_any, in_list, no_cell, of_list}
 use Rattle.closure.proofs.Grouped.{box_floor, covered_of_group, group_in_room, line_boxes, of_line}

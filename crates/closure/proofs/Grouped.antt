@@ -19,7 +19,8 @@ use Rattle.closure.specs.Closed.{IsLawful, AreLawful, IsListedSeed}
 use Rattle.closure.specs.Arena.{pattern_at}
 use Rattle.closure.specs.Sides.{cells_in}
 use Rattle.closure.specs.declared.groups.Groups.{Groups}
-use Rattle.closure.specs.Tables.{GroupCovers, HasLine, IsGrouped, IsSeed, IsSeedOf, SeedsAreIn, boxes_of, list_of, position_at, seeds_with}
+use Rattle.closure.specs.Groups.{HasLine, IsGrouped, IsSeed, IsSeedOf, SeedsAreIn, boxes_of, list_of, position_at, seeds_with}
+use Rattle.closure.specs.Tables.{GroupCovers}
 use Rattle.closure.proofs.Arenas.{boxes_is, list_long, listed_at}
 use Rattle.closure.proofs.CellLists.{at_any}
 use Rattle.closure.proofs.Regions.{region_lacks}

@@ -11,7 +11,7 @@ use Rattle.reach.proofs.Chains.{reached_more}
 use Rattle.closure.specs.Pattern.{Seeds}
 use Rattle.closure.specs.Arena.{boxes_at, line_at, pattern_at}
 use Rattle.closure.specs.Around.{IsFlooded, IsOnePiece}
-use Rattle.closure.specs.Tables.{AreGroups, HasSeedsFrom, HasSeedsOnly, HasStar, IsSeed, IsSeedOf, list_of}
+use Rattle.closure.specs.Groups.{AreGroups, HasSeedsFrom, HasSeedsOnly, HasStar, IsSeed, IsSeedOf, list_of}
 use Rattle.closure.specs.Spans.{AreSpans, IsWithin, part, span_at}
 use Rattle.closure.specs.declared.groups.Groups.{Groups}
 use Rattle.closure.specs.declared.arena.Arena.{Arena}

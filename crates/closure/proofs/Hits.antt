@@ -14,7 +14,7 @@ use Rattle.reach.specs.Region.{IsFree, beside}
 use Rattle.board.specs.Game.{Level}
 use Rattle.board.specs.Board.{IsWellFormed}
 use Rattle.closure.specs.Pattern.{Pattern, InPatternRegion}
-use Rattle.closure.specs.Tables.{AreHits}
+use Rattle.closure.specs.Hits.{AreHits}
 use Rattle.closure.specs.declared.tree.Hit.{Hit}
 use Rattle.closure.proofs.Turns.{through}
 use Rattle.closure.proofs.Lists.{old_item, new_item, length_more}

@@ -9,7 +9,10 @@ use Rattle.board.specs.Game.{Level, State}
 use Rattle.board.specs.Board.{IsWellFormed}
 use Rattle.closure.specs.Pattern.{IsCovered}
 use Rattle.closure.specs.Closed.{AreLawful}
-use Rattle.closure.specs.Tables.{GroupCovers, IsGrouped, IsInBucket, AreTables, boxes_of, list_of, index_of}
+use Rattle.closure.specs.Buckets.{IsInBucket}
+use Rattle.closure.specs.CellIndex.{index_of}
+use Rattle.closure.specs.Groups.{IsGrouped, boxes_of, list_of}
+use Rattle.closure.specs.Tables.{GroupCovers, AreTables}
 use Rattle.closure.specs.Sides.{cells_in}
 use Rattle.closure.specs.declared.groups.Groups.{Groups}
 use Rattle.closure.specs.declared.tables.Tables.{Tables}

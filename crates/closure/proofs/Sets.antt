@@ -71,11 +71,6 @@ difference_more s t k = same_members _ _
     kept_by_remove (set.difference s t) k c (other_where (set.insert t k) c k parts.1 (inserted t k))
     (in_difference s t c parts.0 (lacks_where t c (λ in_t. not_both (set.insert t k) c (kept_by_insert t k c in_t) parts.1))))
 
--- Cells that compare unequal are two cells.
-pub other_cell : (a b : Cell) → false ≡ ((a.row == b.row) && (a.column == b.column)) → a ≢ b
-other_cell a b h e = false≢true (h ∙ (ap (λ x. (x.row == b.row) && (x.column == b.column)) e ∙
-    and_both (b.row == b.row) (b.column == b.column) (eq-eqb b.row b.row refl) (eq-eqb b.column b.column refl)))
-
 -- Cells that compare equal are one cell.
 pub same_cell : (a b : Cell) → true ≡ ((a.row == b.row) && (a.column == b.column)) → a ≡ b
 same_cell a b h =

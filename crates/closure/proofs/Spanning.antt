@@ -16,7 +16,8 @@ use Rattle.cellset.proofs.Neighbors.{neighbor_back}
 use Rattle.reach.specs.Region.{Joined, at_seed, beside}
 use Rattle.board.specs.Game.{Level, IsFloor}
 use Rattle.board.specs.Board.{IsWellFormed}
-use Rattle.closure.specs.Tables.{AreJoinedBeside, AreNodes, IsGrowing, IsNumbered, index_of}
+use Rattle.closure.specs.CellIndex.{index_of}
+use Rattle.closure.specs.SpanningTree.{AreJoinedBeside, AreNodes, IsGrowing, IsNumbered}
 use Rattle.closure.specs.declared.tree.Node.{Node}
 use Rattle.closure.specs.declared.tree.Tree.{Tree}
 use Rattle.closure.proofs.Lists.{old_item, new_item, length_more}

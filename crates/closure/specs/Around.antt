@@ -6,7 +6,7 @@ use Rattle.cellset.specs.declared.cell.Cell.{Cell}
 use Rattle.cellset.specs.declared.dir.Dir.{Dir}
 use Rattle.reach.specs.Region.{Joined}
 use Rattle.reach.specs.Reached.{Reached, WalksTo}
-use Rattle.closure.specs.Tables.{IsSeedOf}
+use Rattle.closure.specs.Groups.{IsSeedOf}
 use Rattle.closure.specs.declared.groups.Groups.{Groups}
 
 -- chains of neighbours lead from each of these cells to each other

@@ -7,6 +7,13 @@ pub mod FirstFault
 pub mod Index
 pub mod PatternList
 pub mod Spans
+pub mod Buckets
+pub mod CellIndex
+pub mod GroupPushes
+pub mod GroupRegions
+pub mod Groups
+pub mod Hits
+pub mod SpanningTree
 pub mod Tables
 pub mod Run
 pub mod Scan

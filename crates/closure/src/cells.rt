@@ -1,5 +1,5 @@
 //! Lists of cells, and the sets of their cells.
-ghost use Rattle.std.specs.Prelude.{◌≡◌, ◌≢◌, ◌<◌, ◌↔◌, ◌++◌, IfOk, IsTrue, List, MatchBool, MatchOption, length, map};
+ghost use Rattle.std.specs.Prelude.{◌≡◌, ◌≢◌, ◌+◌, ◌*◌, ◌<◌, ◌↔◌, ◌++◌, IfOk, IsTrue, List, MatchBool, MatchOption, length, map};
 ghost use Rattle.std.specs.FinSet as finset;
 ghost use Rattle.std.specs.List.{All};
 ghost use Rattle.cellset.specs.Cell.{IsOn};
@@ -13,7 +13,27 @@ use answers::Coord;
 use cellset::{Cell, CellSet, Shape};
 use std::alloc::{AllocError, Global};
 
+// Returns whether two cells are the same, by one comparison of both bytes. With two comparisons long lists take 3 % more instructions, and
+// a quarter more of their jumps are predicted wrongly.
+#[inline(always)]
+pub(crate) fn is_same(left: Cell, right: Cell) -> bool
+    ensures { MatchBool result (left ≡ right) (left ≢ right) }
+{
+    both_bytes(left) == both_bytes(right)
+}
+
+// Returns the row and the column as one number.
+#[inline(always)]
+fn both_bytes(cell: Cell) -> u16
+    ensures { result ≡ cell.row + 256 * cell.column }
+{
+    u16::from(cell.row()) + 256 * u16::from(cell.column())
+}
+
 // Adds the cells of coordinates to a list, up to the first that is off the grid. Returns their span if all of them are on it.
+//
+// It is inlined, because most lists have one or two cells. Without that lists of single boxes take 3 % more instructions.
+#[inline(always)]
 pub(crate) fn add_cells(
     shape: Shape,
     coords: &[Coord],
@@ -86,7 +106,7 @@ pub(crate) fn stand_beside<S: CellSet>(cells: &[Cell], player: Cell, boxes: &S) 
     ensures { IsTrue result ↔ All (λ c. Has (S.members boxes.now) c × (c ≢ player)) cells.now }
 {
     for cell in cells {
-        if *cell == player || !boxes.contains(*cell) {
+        if is_same(*cell, player) || !boxes.contains(*cell) {
             return false;
         }
     }
@@ -99,7 +119,7 @@ pub(crate) fn number_of(cells: &[Cell], cell: Cell) -> Option<usize>
         × (cell_no cells.now number ≡ cell)) }
 {
     for (number, at) in cells.iter().enumerate() {
-        if *at == cell {
+        if is_same(*at, cell) {
             return Some(number);
         }
     }

@@ -11,7 +11,9 @@ ghost use Rattle.closure.specs.Closed.{AreLawful, CoversPushesOf, Closed};
 ghost use Rattle.closure.specs.FirstFault.{IsFirstPatternFault};
 ghost use Rattle.closure.specs.Arena.{lines_in, list_in};
 ghost use Rattle.closure.specs.Run.{state_after, AllLead, IsFirstAstray};
-ghost use Rattle.closure.specs.Tables.{AreFilled, AreNoted, AreTables, IsRoomy, list_of};
+ghost use Rattle.closure.specs.GroupPushes.{AreNoted};
+ghost use Rattle.closure.specs.Groups.{list_of};
+ghost use Rattle.closure.specs.Tables.{AreFilled, AreTables, IsRoomy};
 
 use crate::arena::Arena;
 use crate::cells::stand_beside;

@@ -9,7 +9,8 @@ ghost use Rattle.cellset.specs.CellSet.{Has, Lacks};
 ghost use Rattle.cellset.specs.declared.cell.Cell.{Cell as GridCell};
 ghost use Rattle.closure.specs.Closed.{AreLawful};
 ghost use Rattle.closure.specs.Around.{AreSidesJoined, IsFlooded, IsOnePiece};
-ghost use Rattle.closure.specs.Tables.{AreRegions, HasSeedsFrom, HasSeedsOnly, HasStar, IsGrouped, list_of, no_sides};
+ghost use Rattle.closure.specs.GroupRegions.{AreRegions, no_sides};
+ghost use Rattle.closure.specs.Groups.{HasSeedsFrom, HasSeedsOnly, HasStar, IsGrouped, list_of};
 ghost use Rattle.closure.specs.Sides.{IsAround, cell_no, cells_in};
 
 use crate::groups::Groups;

@@ -1,7 +1,7 @@
 //! Groups: lines with equal boxes.
 ghost use Rattle.std.specs.Prelude.{◌≡◌, ◌<◌, ◌⊎◌, ◌++◌, ◌∷◌, [], IfOk, IfSome, IsTrue, length};
 ghost use Rattle.closure.specs.Spans.{AreSpans, IsWithin, part as part_of, span_at};
-ghost use Rattle.closure.specs.Tables.{IsGrouped, boxes_of};
+ghost use Rattle.closure.specs.Groups.{IsGrouped, boxes_of};
 
 use crate::arena::{Arena, Span, part};
 use crate::chains::{Chains, chain};

@@ -8,7 +8,10 @@ ghost use Rattle.cellset.specs.Cell.{IsOn};
 ghost use Rattle.cellset.specs.CellSet.{Has, Lacks};
 ghost use Rattle.closure.specs.Pattern.{InPatternRegion, Covers, IsCovered};
 ghost use Rattle.closure.specs.Sides.{cells_in};
-ghost use Rattle.closure.specs.Tables.{AreHits, AreFilled, GroupCovers, IsReadyFor, IsRoomy, boxes_of, list_of, index_of, position_at};
+ghost use Rattle.closure.specs.CellIndex.{index_of};
+ghost use Rattle.closure.specs.Groups.{boxes_of, list_of, position_at};
+ghost use Rattle.closure.specs.Hits.{AreHits};
+ghost use Rattle.closure.specs.Tables.{AreFilled, GroupCovers, IsReadyFor, IsRoomy};
 
 use crate::cells::{number_of, stand_beside};
 use crate::tables::Tables;

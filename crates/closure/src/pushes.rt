@@ -13,10 +13,12 @@ ghost use Rattle.closure.specs.Pattern.{IsCovered};
 ghost use Rattle.closure.specs.Closed.{CoversPushesOf};
 ghost use Rattle.closure.specs.Run.{state_after};
 ghost use Rattle.closure.specs.Sides.{cell_no, cells_in};
-ghost use Rattle.closure.specs.Tables.{AreFilled, AreNoted, AreTables, CoversFrom, CoversToward, HasNoPush, IsPushAt, IsPushOf, IsPushedBox, IsRoomy, IsStepBack, list_of, position_at, pushed_cell};
+ghost use Rattle.closure.specs.GroupPushes.{AreNoted, CoversFrom, CoversToward, HasNoPush, IsPushAt, IsPushOf, IsPushedBox, IsStepBack, pushed_cell};
+ghost use Rattle.closure.specs.Groups.{list_of, position_at};
+ghost use Rattle.closure.specs.Tables.{AreFilled, AreTables, IsRoomy};
 ghost use Rattle.closure.specs.Trap.{AreOff};
 
-use crate::cells::{load, number_of};
+use crate::cells::{is_same, load, number_of};
 use crate::hints::{TRIES, hash_of, hash_with, hash_without};
 use crate::lookup::{Scratch, is_any_covering};
 use crate::sides::Sides;
@@ -224,14 +226,14 @@ fn number_after(after: &[Cell], pushed: &PushedBox, push: Push) -> Option<usize>
 {
     let mut found = None;
     for (number, at) in after.iter().enumerate() {
-        if *at == push.to {
+        if is_same(*at, push.to) {
             found = Some(number);
             continue;
         }
-        if *at == push.from {
+        if is_same(*at, push.from) {
             return None;
         }
-        if number >= pushed.boxes.len() || pushed.boxes[number] != *at {
+        if number >= pushed.boxes.len() || !is_same(pushed.boxes[number], *at) {
             number_of(pushed.boxes, *at)?;
         }
     }

@@ -8,7 +8,10 @@ ghost use Rattle.closure.specs.Sides.{IsAround, cell_no, cells_in};
 ghost use Rattle.closure.specs.Closed.{AreLawful};
 ghost use Rattle.closure.specs.Arena.{list_in};
 ghost use Rattle.closure.specs.Trap.{AreOff, IsTrapOf};
-ghost use Rattle.closure.specs.Tables.{AreBuckets, AreFilled, AreTables, IsGrouped, boxes_of, list_of, index_of, position_at};
+ghost use Rattle.closure.specs.Buckets.{AreBuckets};
+ghost use Rattle.closure.specs.CellIndex.{index_of};
+ghost use Rattle.closure.specs.Groups.{IsGrouped, boxes_of, list_of, position_at};
+ghost use Rattle.closure.specs.Tables.{AreFilled, AreTables};
 
 use crate::arena::Arena;
 use crate::chains::{Chains, chain};

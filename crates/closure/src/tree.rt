@@ -6,7 +6,8 @@ ghost use Rattle.std.specs.FinSet as set;
 ghost use Rattle.cellset.specs.Cell.{neighbor};
 ghost use Rattle.cellset.specs.CellSet.{Has, Lacks};
 ghost use Rattle.cellset.specs.declared.cell.Cell.{Cell as GridCell};
-ghost use Rattle.closure.specs.Tables.{AreJoinedBeside, IsTree, IsGrowing, index_of};
+ghost use Rattle.closure.specs.CellIndex.{index_of};
+ghost use Rattle.closure.specs.SpanningTree.{AreJoinedBeside, IsTree, IsGrowing};
 ghost use Rattle.closure.specs.declared.tree.Node.{Node as NodeValue};
 
 use board::Board;

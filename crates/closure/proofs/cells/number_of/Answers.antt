@@ -3,16 +3,15 @@ use Rattle.std.proofs.lemmas.List.Elements.{All-more}
 use Rattle.cellset.proofs.Members.{lacks_where}
 use Rattle.closure.specs.Sides.{cells_in}
 use Rattle.closure.proofs.CellLists.{each_of, no_cell}
-use Rattle.closure.proofs.Sets.{other_cell, same_cell}
 use Rattle.closure.proofs.cells.number_of.Goals as goal
 
-pub returns-then-eq : goal.returns-then-eq
-returns-then-eq c = (c.loop-number-test.true, same_cell (get_or c.args.cells.now c.loop-number.number no_cell) c.args.cell c.if-eq.ensures)
+pub returns-then-is_same : goal.returns-then-is_same
+returns-then-is_same c = (c.loop-number-test.true, c.if-is_same.ensures)
 
 pub loop-number-preserved : goal.loop-number-preserved
 loop-number-preserved c =
     All-more (λ q. q ≢ c.args.cell) c.args.cells.now c.loop-number.number no_cell c.loop-number-test.true c.loop-number.invariant
-    (other_cell (get_or c.args.cells.now c.loop-number.number no_cell) c.args.cell c.if-eq.ensures)
+    c.if-is_same.ensures
 
 pub returns : goal.returns
 returns c =

@@ -3,14 +3,13 @@ use Rattle.std.proofs.lemmas.List.{take_all}
 use Rattle.std.proofs.lemmas.List.Elements.{All-more, All-same}
 use Rattle.cellset.specs.CellSet.{Has}
 use Rattle.cellset.specs.declared.cell.Cell.{Cell}
-use Rattle.closure.proofs.Sets.{other_cell}
 use Rattle.closure.proofs.cells.stand_beside.Goals as goal
 
 pub loop-cell-preserved : goal.loop-cell-preserved
 loop-cell-preserved g c =
     let P : Cell → Type 0 = λ q. Has (g.S.CellSet.members c.args.boxes.now) q × (q ≢ c.args.player) in
     All-more P c.args.cells.now c.loop-cell.cell-index (record { row = 0; column = 0 }) c.loop-cell-test.true c.loop-cell.invariant
-    (sym c.if-not-contains.ensures, other_cell _ c.args.player c.if-eq.ensures)
+    (sym c.if-not-contains.ensures, c.if-is_same.ensures)
 
 pub returns : goal.returns
 returns g c =

@@ -10,7 +10,7 @@ use Rattle.closure.specs.Arena.{line_at, line_in, lines_in, pattern_at}
 use Rattle.closure.specs.Closed.{CoversPushesOf}
 use Rattle.closure.specs.FirstFault.{HasFirstUncovered, IsFirstFaultyLine}
 use Rattle.closure.specs.Pattern.{Pattern, pattern_of}
-use Rattle.closure.specs.Tables.{list_of}
+use Rattle.closure.specs.Groups.{list_of}
 use Rattle.closure.specs.declared.arena.StoredLine.{StoredLine}
 use Rattle.closure.proofs.Arenas.{list_long}
 use Rattle.closure.proofs.CellLists.{at_any}

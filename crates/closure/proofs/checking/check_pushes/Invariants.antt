@@ -1,7 +1,8 @@
 use Rattle.std.proofs.Common.{◌≡◌, ◌<◌, ℕ}
 use Rattle.closure.specs.Arena.{pattern_at}
 use Rattle.closure.specs.Closed.{CoversPushesOf}
-use Rattle.closure.specs.Tables.{IsRoomy, list_of}
+use Rattle.closure.specs.Groups.{list_of}
+use Rattle.closure.specs.Tables.{IsRoomy}
 use Rattle.closure.proofs.checking.check_pushes.Given as goal
 
 abbrev pub invariant-loop-line : goal.invariant-loop-line

@@ -12,7 +12,7 @@ use Rattle.reach.specs.Pushes.{ArePushesOut, IsPushOut}
 use Rattle.reach.proofs.PushRuns.{next_is_out, came_before, all_came}
 use Rattle.closure.specs.Pattern.{IsCovered}
 use Rattle.closure.specs.Run.{state_after}
-use Rattle.closure.specs.Tables.{list_of}
+use Rattle.closure.specs.Groups.{list_of}
 use Rattle.closure.proofs.checking.first_uncovered.Goals as goal
 use Rattle.closure.proofs.checking.first_uncovered.Goals.{After-into_iter-push-iterator, In-Some}
 

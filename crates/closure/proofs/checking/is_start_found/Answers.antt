@@ -5,7 +5,7 @@ use Rattle.cellset.specs.declared.cell.Cell.{Cell}
 use Rattle.cellset.proofs.Members.{lacks_where}
 use Rattle.board.specs.Game.{start}
 use Rattle.closure.specs.Sides.{cells_in}
-use Rattle.closure.specs.Tables.{boxes_of, list_of}
+use Rattle.closure.specs.Groups.{boxes_of, list_of}
 use Rattle.closure.proofs.CellLists.{each_in, in_list}
 use Rattle.closure.proofs.Grouped.{boxes_on, covered_of_group}
 use Rattle.closure.proofs.Traps.{start_trapped}

@@ -18,7 +18,8 @@ use Rattle.closure.specs.Sides.{IsAround, cell_no, cells_in}
 use Rattle.closure.specs.Spans.{AreSpans, part, span_at}
 use Rattle.closure.specs.Closed.{AreLawful}
 use Rattle.closure.specs.Around.{IsOnePiece}
-use Rattle.closure.specs.Tables.{IsGrouped, AreSidesAt, IsRegionAt, boxes_of, list_of, position_at}
+use Rattle.closure.specs.GroupRegions.{AreSidesAt, IsRegionAt}
+use Rattle.closure.specs.Groups.{IsGrouped, boxes_of, list_of, position_at}
 use Rattle.closure.specs.Trap.{AreOff}
 use Rattle.closure.specs.declared.groups.Groups.{Groups}
 use Rattle.closure.specs.declared.group_regions.Region.{Region}

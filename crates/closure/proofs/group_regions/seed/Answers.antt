@@ -13,7 +13,7 @@ use Rattle.closure.specs.Pattern.{Pattern, Seeds, listed}
 use Rattle.closure.specs.Arena.{pattern_at, seeds_among}
 use Rattle.closure.specs.Chains.{IsLast}
 use Rattle.closure.specs.Sides.{cells_in}
-use Rattle.closure.specs.Tables.{IsSeed, SeedsAreIn, list_of}
+use Rattle.closure.specs.Groups.{IsSeed, SeedsAreIn, list_of}
 use Rattle.closure.proofs.CellLists.{at_any}
 use Rattle.closure.proofs.Grouped.{seeds_more}
 use Rattle.closure.proofs.group_regions.seed.Goals as goal

@@ -1,6 +1,6 @@
 use Rattle.std.proofs.Common.{◌≡◌, ◌<◌, ◌≤◌, ◌-◌, length, slice_index}
 use Rattle.cellset.specs.CellSet.{Has}
-use Rattle.closure.specs.Tables.{HasSeedsFrom, HasSeedsOnly}
+use Rattle.closure.specs.Groups.{HasSeedsFrom, HasSeedsOnly}
 use Rattle.closure.proofs.group_regions.seed.Given as goal
 
 abbrev pub invariant-loop-at : goal.invariant-loop-at

@@ -1,5 +1,5 @@
 use Rattle.std.proofs.Common.{◌≡◌, ℕ, ◌≤◌, ◌+◌, List, [], ◌∷◌, ◌++◌, length, sym, ap, subst, inl, inr, arith}
-use Rattle.closure.specs.Tables.{AreGroups}
+use Rattle.closure.specs.Groups.{AreGroups}
 use Rattle.closure.specs.declared.arena.Span.{Span}
 use Rattle.closure.proofs.Grouping.{group_more, line_more, line_within}
 use Rattle.closure.proofs.groups.group.Goals as goal

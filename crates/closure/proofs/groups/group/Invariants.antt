@@ -1,5 +1,5 @@
 use Rattle.std.proofs.Common.{◌≤◌, length, vec_capacity}
-use Rattle.closure.specs.Tables.{AreGroups}
+use Rattle.closure.specs.Groups.{AreGroups}
 use Rattle.closure.proofs.groups.group.Given as goal
 
 abbrev pub invariant-loop-line : goal.invariant-loop-line

@@ -8,7 +8,7 @@ use Rattle.cellset.specs.Members.{AreMembersOf}
 use Rattle.cellset.specs.declared.cell.Cell.{Cell}
 use Rattle.cellset.proofs.MemberLists.{all_came, next_has, next_came}
 use Rattle.cellset.proofs.Truth.{either}
-use Rattle.closure.specs.Tables.{index_of}
+use Rattle.closure.specs.CellIndex.{index_of}
 use Rattle.closure.proofs.lookup.find_covering.Goals as goal
 
 pub find_in_bucket-requires-clause-cell : goal.find_in_bucket-requires-clause-cell

@@ -1,5 +1,5 @@
 use Rattle.std.proofs.Common.{◌<◌, ◌≤◌, ◌+◌, length, slice_index_or, vec_capacity}
-use Rattle.closure.specs.Tables.{AreHits}
+use Rattle.closure.specs.Hits.{AreHits}
 use Rattle.closure.specs.declared.tree.Node.{Node}
 use Rattle.closure.proofs.lookup.find_hits.Given as goal
 

@@ -6,7 +6,8 @@ use Rattle.std.proofs.Common.{◌≡◌, ℕ, ◌-◌, ◌<◌, ◌≤◌, List,
 use Rattle.std.specs.Prelude.{slice_index}
 use Rattle.std.proofs.lemmas.Bool.{cases_lt, false≢true}
 use Rattle.closure.specs.Chains.{AreChains, IsLast}
-use Rattle.closure.specs.Tables.{GroupCovers, index_of}
+use Rattle.closure.specs.CellIndex.{index_of}
+use Rattle.closure.specs.Tables.{GroupCovers}
 use Rattle.closure.proofs.CellLists.{at_any}
 use Rattle.closure.proofs.lookup.find_in_bucket.Goals as goal
 

@@ -8,7 +8,8 @@ use Rattle.std.proofs.lemmas.Bool.{false≢true}
 use Rattle.cellset.specs.CellSet.{Has}
 use Rattle.cellset.specs.declared.cell.Cell.{Cell}
 use Rattle.cellset.proofs.Members.{lacks_where, not_both}
-use Rattle.closure.specs.Tables.{HitsDecide, boxes_of, position_at}
+use Rattle.closure.specs.Groups.{boxes_of, position_at}
+use Rattle.closure.specs.Hits.{HitsDecide}
 use Rattle.closure.specs.Sides.{cells_in}
 use Rattle.closure.proofs.CellLists.{each_in, in_list}
 use Rattle.closure.specs.declared.tree.Hit.{Hit}

@@ -10,7 +10,7 @@ use Rattle.cellset.specs.declared.dir.Dir.TheVariants.{L}
 use Rattle.cellset.specs.declared.cell.Cell.{Cell}
 use Rattle.closure.specs.Pattern.{InPatternRegion}
 use Rattle.closure.specs.Sides.{cell_no, cells_in}
-use Rattle.closure.specs.Tables.{boxes_of, position_at}
+use Rattle.closure.specs.Groups.{boxes_of, position_at}
 use Rattle.closure.specs.declared.tree.Hit.{Hit}
 use Rattle.closure.proofs.Turns.{through}
 use Rattle.closure.proofs.CellLists.{in_list, no_cell}

@@ -1,6 +1,7 @@
 use Rattle.std.proofs.Common.{◌≡◌}
 use Rattle.std.specs.Prelude.{IfSome}
-use Rattle.closure.specs.Tables.{AreFilled, AreNoted, IsRoomy}
+use Rattle.closure.specs.GroupPushes.{AreNoted}
+use Rattle.closure.specs.Tables.{AreFilled, IsRoomy}
 use Rattle.closure.proofs.pushes.cover_groups.Given as goal
 
 abbrev pub invariant-loop-group : goal.invariant-loop-group

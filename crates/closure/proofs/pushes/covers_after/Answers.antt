@@ -2,7 +2,7 @@ use Rattle.std.proofs.Common.{sym, ◌∙◌, ap, subst}
 use Rattle.cellset.specs.Cell.{neighbor, opposite}
 use Rattle.closure.specs.Pattern.{InPatternRegion}
 use Rattle.closure.specs.Sides.{cell_no, cells_in}
-use Rattle.closure.specs.Tables.{position_at}
+use Rattle.closure.specs.Groups.{position_at}
 use Rattle.closure.proofs.GroupPushes.{covers_result}
 use Rattle.closure.proofs.pushes.covers_after.Goals as goal
 

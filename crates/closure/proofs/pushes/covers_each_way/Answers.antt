@@ -2,7 +2,8 @@ use Rattle.std.proofs.Common.{◌≡◌, true, sym, ◌∙◌}
 use Rattle.std.proofs.lemmas.Bool.{false≢true}
 use Rattle.cellset.specs.declared.dir.Dir.{Dir}
 use Rattle.cellset.specs.declared.dir.Dir.TheVariants.{L, U, R}
-use Rattle.closure.specs.Tables.{CoversToward, list_of, position_at, pushed_cell}
+use Rattle.closure.specs.GroupPushes.{CoversToward, pushed_cell}
+use Rattle.closure.specs.Groups.{list_of, position_at}
 use Rattle.closure.proofs.GroupPushes.{covered_each_way}
 use Rattle.closure.proofs.pushes.covers_each_way.Goals as goal
 use Rattle.closure.proofs.pushes.covers_each_way.Goals.{then-covers_toward, else-covers_toward, then-covers_toward-2, else-covers_toward-2}

@@ -7,7 +7,8 @@ use Rattle.std.proofs.lemmas.Bool.{cases_lt}
 use Rattle.cellset.specs.CellSet.{Has}
 use Rattle.cellset.specs.declared.cell.Cell.{Cell}
 use Rattle.closure.specs.Sides.{cell_no, cells_in}
-use Rattle.closure.specs.Tables.{CoversFrom, list_of, position_at}
+use Rattle.closure.specs.GroupPushes.{CoversFrom}
+use Rattle.closure.specs.Groups.{list_of, position_at}
 use Rattle.closure.proofs.Grouped.{boxes_on}
 use Rattle.closure.proofs.GroupPushes.{covered_each_box, trapped_pushes}
 use Rattle.closure.proofs.pushes.covers_pushes_of.Goals as goal

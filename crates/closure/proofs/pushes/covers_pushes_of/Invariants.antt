@@ -1,6 +1,8 @@
 use Rattle.std.proofs.Common.{◌≡◌, ℕ, ◌<◌}
 use Rattle.std.specs.Prelude.{IfSome}
-use Rattle.closure.specs.Tables.{AreFilled, CoversFrom, IsRoomy, list_of, position_at}
+use Rattle.closure.specs.GroupPushes.{CoversFrom}
+use Rattle.closure.specs.Groups.{list_of, position_at}
+use Rattle.closure.specs.Tables.{AreFilled, IsRoomy}
 use Rattle.closure.specs.Sides.{cell_no, cells_in}
 use Rattle.closure.proofs.pushes.covers_pushes_of.Given as goal
 

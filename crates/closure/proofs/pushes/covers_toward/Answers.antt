@@ -7,7 +7,8 @@ use Rattle.cellset.proofs.Members.{lacks_where}
 use Rattle.closure.specs.Pattern.{IsCovered}
 use Rattle.closure.specs.Sides.{cells_in}
 use Rattle.closure.specs.Run.{state_after}
-use Rattle.closure.specs.Tables.{list_of, position_at, pushed_cell}
+use Rattle.closure.specs.GroupPushes.{pushed_cell}
+use Rattle.closure.specs.Groups.{list_of, position_at}
 use Rattle.closure.proofs.CellLists.{in_list, no_cell}
 use Rattle.closure.proofs.Grouped.{boxes_on}
 use Rattle.closure.proofs.GroupPushes.{covered_one, push_in_box, toward_trap}

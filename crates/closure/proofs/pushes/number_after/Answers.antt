@@ -6,20 +6,18 @@ use Rattle.std.specs.FinSet as set
 use Rattle.std.proofs.lemmas.List.Elements.{All-more}
 use Rattle.cellset.specs.CellSet.{Has}
 use Rattle.cellset.specs.declared.cell.Cell.{Cell}
-use Rattle.std.proofs.lemmas.Bool.{not-false}
 use Rattle.cellset.proofs.Members.{inserted, kept_by_insert, kept_by_remove}
 use Rattle.board.specs.Game.{moved}
 use Rattle.closure.specs.Sides.{cell_no, cells_in}
 use Rattle.closure.proofs.CellLists.{each_of, in_list, no_cell}
-use Rattle.closure.proofs.Sets.{other_cell, same_cell}
 use Rattle.closure.proofs.pushes.number_after.Goals as goal
-use Rattle.closure.proofs.pushes.number_after.Goals.{then-number-pushed+in_ok-number_of, else-number-pushed+else-ne}
+use Rattle.closure.proofs.pushes.number_after.Goals.{then-number-pushed+in_ok-number_of, else-number-pushed+else-not-is_same}
 
-pub loop-number-preserved-then-eq : goal.loop-number-preserved-then-eq
-loop-number-preserved-then-eq c =
+pub loop-number-preserved-then-is_same : goal.loop-number-preserved-then-is_same
+loop-number-preserved-then-is_same c =
     let boxes = cells_in c.args.pushed.now.boxes.now in
     let push = c.args.push in
-    let here = same_cell (get_or c.args.after.now c.loop-number.number no_cell) push.to c.if-eq.ensures in
+    let here = c.if-is_same.ensures in
     record {
       stand = All-more (Has (moved boxes push.from push.to)) c.args.after.now c.loop-number.number no_cell c.loop-number-test.true c.loop-number.invariant.stand
           (subst (Has (moved boxes push.from push.to)) (sym here) (inserted (set.remove boxes push.from) push.to));
@@ -33,12 +31,12 @@ loop-number-preserved c =
     let at = get_or c.args.after.now c.loop-number.number no_cell in
     let box : (n : ℕ) × (n < length list) × (cell_no list n ≡ at) = elim c.if-number-pushed.branch [
       | then-number-pushed+in_ok-number_of w ↦ (w.in_ok-number_of.field-0, w.in_ok-number_of.ensures.0, w.in_ok-number_of.ensures.1)
-      | else-number-pushed+else-ne w ↦ (c.loop-number.number, w.if-number-pushed.false, same_cell _ at (sym (not-false _ (sym w.if-ne.ensures))))
+      | else-number-pushed+else-not-is_same w ↦ (c.loop-number.number, w.if-number-pushed.false, w.if-not-is_same.ensures)
     ] in
     record {
       stand = All-more (Has (moved (cells_in list) push.from push.to)) c.args.after.now c.loop-number.number no_cell c.loop-number-test.true
           c.loop-number.invariant.stand (kept_by_insert (set.remove (cells_in list) push.from) push.to at (kept_by_remove (cells_in list) push.from at
-          (other_cell at push.from c.if-eq-2.ensures) (subst (Has (cells_in list)) box.2 (in_list list box.0 no_cell box.1))));
+          c.if-is_same-2.ensures (subst (Has (cells_in list)) box.2 (in_list list box.0 no_cell box.1))));
       found = c.loop-number.invariant.found;
     }
 

@@ -9,7 +9,8 @@ use Rattle.cellset.specs.CellSet.{Lacks}
 use Rattle.cellset.specs.declared.cell.Cell.{Cell}
 use Rattle.cellset.proofs.Neighbors.{neighbor_back}
 use Rattle.reach.specs.Region.{IsFree}
-use Rattle.closure.specs.Tables.{pushed_cell, position_at}
+use Rattle.closure.specs.GroupPushes.{pushed_cell}
+use Rattle.closure.specs.Groups.{position_at}
 use Rattle.closure.specs.Sides.{cells_in}
 use Rattle.closure.proofs.CellLists.{in_list, no_cell}
 use Rattle.closure.proofs.Grouped.{boxes_on}

@@ -1,5 +1,5 @@
 use Rattle.std.proofs.Common.{◌≡◌, ℕ, ◌<◌, ◌≤◌, length, vec_capacity}
-use Rattle.closure.specs.Tables.{IsInBucket}
+use Rattle.closure.specs.Buckets.{IsInBucket}
 use Rattle.closure.proofs.tables.fill_buckets.Given as goal
 
 abbrev pub invariant-loop-group : goal.invariant-loop-group

@@ -1,7 +1,7 @@
 use Rattle.std.proofs.Common.{◌≡◌}
 use Rattle.cellset.specs.CellSet.{Has}
 use Rattle.cellset.specs.declared.cell.Cell.{Cell}
-use Rattle.closure.specs.Tables.{index_of}
+use Rattle.closure.specs.CellIndex.{index_of}
 use Rattle.closure.specs.Sides.{cells_in}
 use Rattle.closure.proofs.tables.first_of.Given as goal
 

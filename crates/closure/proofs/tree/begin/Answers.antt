@@ -8,7 +8,7 @@ use Rattle.std.specs.Vec.{with_item}
 use Rattle.cellset.specs.Shape.{Extent}
 use Rattle.cellset.specs.CellSet.{Cells, Has}
 use Rattle.cellset.specs.declared.dir.Dir.TheVariants.{L}
-use Rattle.closure.specs.Tables.{index_of}
+use Rattle.closure.specs.CellIndex.{index_of}
 use Rattle.closure.specs.declared.tree.Node.{Node}
 use Rattle.closure.proofs.Spanning.{root_alone}
 use Rattle.closure.proofs.tree.begin.Goals as goal

@@ -1,6 +1,6 @@
 use Rattle.std.proofs.Common.{◌≡◌, ◌≤◌, ◌+◌, ◌-◌, length}
 use Rattle.std.specs.FinSet as set
-use Rattle.closure.specs.Tables.{AreJoinedBeside, IsGrowing}
+use Rattle.closure.specs.SpanningTree.{AreJoinedBeside, IsGrowing}
 use Rattle.closure.proofs.tree.grow_tree.Given as goal
 
 abbrev pub invariant-loop-from : goal.invariant-loop-from

@@ -14,7 +14,7 @@ use Rattle.closure.specs.Pattern.{Pattern, InPatternRegion, IsCovered, PushesOut
 use Rattle.closure.specs.Closed.{IsLawful, CoversPushesOf}
 use Rattle.closure.specs.FirstFault.{IsFirstUncovered}
 use Rattle.closure.specs.Run.{AllLead, IsFirstAstray}
-use Rattle.closure.specs.Tables.{list_of}
+use Rattle.closure.specs.Groups.{list_of}
 use Rattle.closure.proofs.Arenas.{listed_at}
 use Rattle.closure.proofs.Regions.{region_on}
 use Rattle.closure.proofs.checking.Trial.first_push.Goals as goal

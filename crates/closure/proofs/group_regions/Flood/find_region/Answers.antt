@@ -5,7 +5,7 @@ use Rattle.std.proofs.lemmas.Bool.{false≢true}
 use Rattle.std.specs.Prelude.{MatchBool}
 use Rattle.cellset.specs.CellSet.{Has}
 use Rattle.cellset.specs.declared.cell.Cell.{Cell}
-use Rattle.closure.specs.Tables.{HasSeedsFrom}
+use Rattle.closure.specs.Groups.{HasSeedsFrom}
 use Rattle.closure.proofs.Grouping.{flooded_seeds, flooded_star, flooded_whole}
 use Rattle.closure.proofs.group_regions.Flood.find_region.Goals.{then-has_star, else-has_star+then-self, else-has_star+else-self}
 use Rattle.closure.proofs.group_regions.Flood.find_region.Goals as goal

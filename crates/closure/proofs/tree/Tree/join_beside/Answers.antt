@@ -10,7 +10,8 @@ use Rattle.cellset.specs.Shape.{Extent}
 use Rattle.cellset.specs.Cell.{IsOn, neighbor}
 use Rattle.cellset.specs.CellSet.{Cells, Lacks}
 use Rattle.cellset.proofs.Members.{remove_absent}
-use Rattle.closure.specs.Tables.{IsGrowing, index_of}
+use Rattle.closure.specs.CellIndex.{index_of}
+use Rattle.closure.specs.SpanningTree.{IsGrowing}
 use Rattle.closure.specs.declared.tree.Node.{Node}
 use Rattle.closure.specs.declared.tree.Tree.{Tree}
 use Rattle.closure.proofs.Counts.{len-remove_member}
