@@ -2,15 +2,20 @@
 PROGRAM it builds the program of these sources if they changed. The library for C is always the one
 of these sources.
 
-With OTHER nothing is timed: both programs run each case at about a hundredth of its size, and have
-to print the same. Then the last line is 'N passed, M failed'."""
+With OTHER both programs run each case at about a hundredth of its size, and have to print the same.
+Of PROGRAM the slowest known inputs are timed, by their ratios to plain ones. Then the last line is
+'N passed, M failed'."""
 import os
+import resource
 import sys
-from typing import Iterator
+from typing import Iterator, Tuple
 
 from bench.measured import Case, Size, cases
-from tests.runner import TOP, Cases, enter_folder, read, run, run_apart, write
+from bench.worst import Worst, worst
+from tests.runner import TOP, Cases, call, enter_folder, read, run, run_apart, write
 from tests.tables.rows import text
+
+TRIES = 3
 
 TIME = "/usr/bin/time --quiet -f '%U s for the program, %S s for the system, %M kB'"
 
@@ -33,6 +38,39 @@ def measure() -> None:
         if said.splitlines()[-1] not in ("status 0", "status 1"):
             sys.exit(said)
         print(read("out").splitlines()[-1], said.rpartition("status")[0].strip(), sep="\n")
+    for it in worst():
+        times = seconds(it, it.slow), seconds(it, it.plain)
+        print(it.name, "%.3f s for all; a plain input of this size: %.3f s" % times, sep="\n")
+
+
+def seconds(it: Worst, texts: Tuple[str, str]) -> float:
+    """The least processor time that a run on these texts takes, of three."""
+    for file, line in zip(("levels", "answers"), texts):
+        write(file, text(line))
+    times = [_used()]
+    for _ in range(3):
+        call(it.command.split())
+        times.append(_used())
+    return min(after - before for before, after in zip(times, times[1:]))
+
+
+def _used() -> float:
+    """The processor time that all runs took so far."""
+    used = resource.getrusage(resource.RUSAGE_CHILDREN)
+    return used.ru_utime + used.ru_stime
+
+
+def ratios(compared: Cases) -> None:
+    """A case for each slow input: it takes up to so many times as long as a plain one. The machine
+    may be busy, so the best of some tries counts."""
+    for it in worst():
+        for _ in range(TRIES):
+            slow, plain = seconds(it, it.slow), seconds(it, it.plain)
+            if slow <= it.most * plain:
+                break
+        said = f"{slow:.3f} s, {slow / plain:.1f} times as long as a plain input"
+        compared.say(f"{it.name}: {said}")
+        compared.holds(f"{it.name}: up to {it.most} times as long", slow <= it.most * plain, said)
 
 
 def compare(other: str) -> None:
@@ -42,6 +80,7 @@ def compare(other: str) -> None:
         wanted = run_apart(["bash", "-c", case.command.replace("./sokoaudit", other)])
         found = run_apart(["bash", "-c", f"{case.command} | tee out; exit ${{PIPESTATUS[0]}}"])
         compared.same(f"a hundredth of: {case.name}", "".join(wanted), "".join(found))
+    ratios(compared)
     compared.finish()
 
 
