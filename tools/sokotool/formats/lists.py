@@ -4,6 +4,7 @@ An entry of a list is letters, alone in lines or at the end of a line of words, 
 words above them. One of these has the title of a level, or its number in the export of the list's
 name. A replay decides: letters go to the level of that title or number whose board they solve.
 """
+import functools
 import os
 import re
 from typing import Container, Dict, Iterator, List, NamedTuple, Optional, Sequence, Tuple
@@ -13,6 +14,12 @@ from ..collection import Attempt, Collection, another, cost
 from . import headings, letters, plain, rows
 
 LONG = 8
+# A file with more lines or a longer one is no list.
+MOST_LINES, LONGEST = 100_000, 1 << 20
+# the most characters of a title before letters
+LONGEST_TITLE = 200
+# the most bytes of a list without a solution that become a comment
+MOST_KEPT = 1 << 20
 _NUMBERED = re.compile(r"[>;\s]*[#(\[]?[0-9]+(?:[.):\];,|=]+\s*|\s+)(?=[lurdLURD(0-9\"'])")
 _TOKEN = re.compile(r"[^\s:;,=|\"'\[\]{}<>]+")
 _LETTERS = re.compile(r"[0-9()]*[lurdLURD][lurdLURD0-9()]*")
@@ -26,6 +33,9 @@ _BARE_NUMBER = re.compile(r"\W*(?:level|puzzle|no|nr|number)?\W*[0-9]+\W*", re.I
 _HEADINGS = {headings.HEADING, headings.SOFT, headings.KEY, headings.KEY_WORDS, headings.SAVED}
 
 
+_kind_of = functools.lru_cache(maxsize=1000)(headings.kind_of)
+
+
 class Words(NamedTuple):
     """A line of words: its number, its text, and the letters in it with the text before them."""
 
@@ -37,7 +47,7 @@ class Words(NamedTuple):
     @property
     def kind(self) -> int:
         """The kind of the line."""
-        return headings.kind_of(self.text)
+        return _kind_of(self.text)
 
 
 class Entry(NamedTuple):
@@ -97,7 +107,8 @@ class Found(NamedTuple):
 
 def is_list(lines: Sequence[str]) -> bool:
     """Returns whether a file has letters and no level."""
-    return (not any(rows.is_plain(line) for line in lines)
+    return (len(lines) <= MOST_LINES and not any(rows.is_plain(line) for line in lines)
+            and max(map(len, lines), default=0) <= LONGEST
             and any(letters.are_alone(line) or _words(0, line, {}).letters for line in lines)
             and not any(plain.rows_of(lines).rows))
 
@@ -165,7 +176,8 @@ class Lists:
         if last:
             last.notes.extend(rest)
         else:
-            self.collection.add_comment([texts.shown(line) for line in lines if line.strip()])
+            if sum(map(len, lines)) <= MOST_KEPT:
+                self.collection.add_comment([texts.shown(line) for line in lines if line.strip()])
             if not self._reported:
                 self._fault(file, 1, "no level in this file")
 
@@ -313,23 +325,24 @@ def _words(at: int, line: str, titles: Container[str]) -> Words:
     """Reads a line of words: the longest run of letters in it, and the text before that. A title
     that begins the line ends before the letters."""
     bare = letters.untagged(line)
-    runs: List[Tuple[int, str]] = []
+    runs: List[Tuple[int, List[str]]] = []
     is_run = False
     for match in _TOKEN.finditer(bare):
-        if is_run and _key(bare[:match.start()].strip(_DRESS)) in titles:
+        if is_run and match.start() <= LONGEST_TITLE and (
+                _key(bare[:match.start()].strip(_DRESS)) in titles):
             runs, is_run = [], False
         was_run, is_run = is_run, bool(_LETTERS.fullmatch(match.group()))
         if is_run and not was_run:
-            runs.append((match.start(), match.group()))
+            runs.append((match.start(), [match.group()]))
         elif is_run:
-            runs[-1] = (runs[-1][0], runs[-1][1] + match.group())
-    first, text = max(runs, key=lambda run: len(run[1]), default=(len(bare), ""))
-    return Words(at, line, bare[:first], text)
+            runs[-1][1].append(match.group())
+    first, parts = max(runs, key=lambda run: sum(map(len, run[1])), default=(len(bare), []))
+    return Words(at, line, bare[:first], "".join(parts))
 
 
 def _names(text: str) -> Iterator[str]:
     """Yields the titles that words may have, as keys."""
-    bare = texts.shown(text).strip(_DRESS)
+    bare = text.strip(_DRESS)
     fields = re.split(r"[,;|]|\t|  +", bare)
     before = _BEFORE.match(bare)
     for name in (text, bare, bare.partition(":")[2], bare[before.end() if before else 0:], *fields):
@@ -340,4 +353,4 @@ def _names(text: str) -> Iterator[str]:
 
 def _key(title: str) -> str:
     """Returns a title as titles are compared."""
-    return " ".join(texts.shown(title).split()).casefold()
+    return " ".join(title.split()).casefold()
