@@ -55,8 +55,8 @@ impl<'r> Relay<'r> {
         })
     }
 
-    /// Returns a free goal to which a box can be pushed from a cell, if there are no other boxes. If there is none, all cells to which the
-    /// box can be pushed are known to `store_reach`.
+    /// Returns a free goal to which a box can be pushed from a cell, as if there were no other boxes. If there is none, `store_reach` knows
+    /// every cell to which it can be pushed.
     pub fn goal_in_reach<S: CellSet>(
         &mut self,
         board: &Board<S>,
