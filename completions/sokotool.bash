@@ -3,7 +3,7 @@ _sokotool() {
     local word=${COMP_WORDS[COMP_CWORD]} before=${COMP_WORDS[COMP_CWORD - 1]} command=${COMP_WORDS[1]}
     local commands="check page table find export convert warn merge carry named diff twins help"
     local -A options=(
-        [check]="--answers --best --seconds --search --jobs --solver --verbose" [convert]="--best --replace --split" [named]="--json --output"
+        [check]="--answers --best --seconds --search --jobs --encoding --solver --verbose" [convert]="--best --replace --split --encoding" [named]="--json --output"
         [find]="--seconds --jobs --output" [diff]="--json --output" [table]="--page --seconds --memory --output"
         [export]="--to --output" [warn]="--output" [merge]="--output" [page]="--output"
         [twins]="--output" [carry]="--output"
@@ -13,7 +13,7 @@ _sokotool() {
         1:* | 2:help:*) mapfile -t COMPREPLY < <(compgen -W "$commands" -- "$word") ;;
         *:--best) mapfile -t COMPREPLY < <(compgen -W "moves pushes" -- "$word") ;;
         *:--to) mapfile -t COMPREPLY < <(compgen -W "slc sok xsb rle" -- "$word") ;;
-        *:--seconds | *:--search | *:--jobs | *:--memory | *:--solver) ;;
+        *:--seconds | *:--search | *:--encoding | *:--jobs | *:--memory | *:--solver) ;;
         *)
             compopt -o filenames 2>/dev/null
             mapfile -t COMPREPLY < <(compgen -f -- "$word")

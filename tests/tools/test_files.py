@@ -1,10 +1,12 @@
 """The files that commands read and write: no file is replaced unasked, and outputs are whole."""
+import glob
 import os
 import re
 import resource
 import signal
 import subprocess
 import time
+import zipfile
 
 from sokotool import answers, levels, main
 
@@ -195,10 +197,91 @@ class Reading(Case):
         result = self.tool("convert", "out", "exports")
         self.assertEqual(result.err, "convert: 4 levels, 1 solutions, 0 left out\n")
         found = [line for line in self.read("out.xsb").decode().split("\n") if line[:1] == ";"]
-        self.assertEqual(found, [f"; exports/{name}" for name in (
+        self.assertEqual(found, [f"; {name}" for name in (
             "a.txt", "b.txt", "sub/c.txt", "sub/one.xsb")])
         self.assertEqual([it.level for it in answers.read(self.read("out.answers")).records], [4])
         self.assertEqual(self.tool("convert", "again", "exports/a.txt", "exports/sub").status, 0)
+
+    def test_what_is_in_folders(self):
+        """Links to parents end, a pipe isn't opened, a file that can't be read is reported, and none
+        of the files that are written is read."""
+        os.makedirs("in/sub")
+        self.write("in/a.txt", ONE)
+        self.write("in/sub/b.txt", OTHER)
+        os.symlink("..", "in/sub/up")
+        os.symlink("../sub", "in/sub/again")
+        os.symlink("nothing", "in/gone")
+        os.mkfifo("in/pipe")
+        os.chdir("in")
+        for command, wanted in ((("convert", "my"), "convert: cannot read "),
+                                (("check", "my"), "problem: cannot read "),
+                                (("check", "my"), "problem: cannot read ")):
+            result = self.tool(*command, ".")
+            self.assertEqual(result.status, 1)
+            said = result.err + result.out.decode()
+            self.assertIn(wanted + "./gone: No such file or directory\n", said)
+            self.assertEqual(len(levels.read(self.read("my.xsb"))), 2, command)
+        self.assertIn("nothing changed", said)
+        names = [name for name in os.listdir(".") if name != "pipe"]
+        self.assertIn(b"nothing changed", self.tool("check", "my", *sorted(names)).out)
+        self.assertEqual(self.tool("check", "my", "my.xsb").err,
+                         "check: would write over my.xsb\n")
+
+    def test_archives(self):
+        """A zip file is read as a folder, and one that can't be read is reported."""
+        with zipfile.ZipFile("pack.zip", "w") as archive:
+            for name, text in (("b/two.txt", OTHER), ("a.txt", ONE), ("b/two.SOL", "rR"),
+                               ("__MACOSX/a.txt", "x"), (".hidden", "x"), ("empty/", "")):
+                archive.writestr(name, text)
+        result = self.tool("convert", "out", "pack.zip")
+        self.assertEqual((result.status, result.err),
+                         (0, "convert: 2 levels, 1 solutions, 0 left out\n"))
+        self.assertEqual([line for line in self.read("out.xsb").split(b"\n") if line[:1] == b";"],
+                         [b"; a.txt", b"; b/two.txt"])
+        self.write("a.txt", ONE)
+        self.write("bad.zip", self.read("pack.zip").replace(b"#", b"x", 3))
+        result = self.tool("convert", "two", "a.txt", "bad.zip")
+        self.assertEqual(result.status, 1)
+        self.assertIn("convert: cannot read bad.zip/b/two.txt: Bad CRC-32", result.err)
+
+    def test_names_do_not_tell_where_files_are(self):
+        """The same exports give the same bytes in any folder."""
+        written = []
+        for folder in ("here", "some/where/else"):
+            os.makedirs(folder + "/exports/sub")
+            self.write(folder + "/exports/a.txt", ONE)
+            self.write(folder + "/exports/sub/b.txt", OTHER)
+            path = os.path.realpath(folder)
+            for words in ((f"{path}/exports/a.txt", f"{path}/exports/sub"), (f"{path}/exports",)):
+                self.tool("convert", f"{folder}/out", *words)
+                written += [self.read(f"{folder}/out.xsb"), self.read(f"{folder}/out.answers")]
+                self.tool("check", f"{folder}/my", *words, "--seconds", "0")
+                written += [self.read(f"{folder}/my" + end)
+                            for end in (".xsb", ".answers", ".report", ".html")]
+        self.assertEqual(written[:6] * 3, written[6:])
+        self.assertNotIn(os.path.realpath(".").encode(), b"".join(written))
+
+    def test_encodings(self):
+        """A file that isn't UTF-8 gets a note, and --encoding reads it right."""
+        for name, text in (("koi8-r", "\u041f\u0435\u0440\u0432\u044b\u0439"),
+                           ("windows-1251", "\u041f\u0435\u0440\u0432\u044b\u0439"),
+                           ("GB18030", "\u7b2c\u4e00"), ("shift-jis", "\u6700\u521d")):
+            self.write("a.txt", (text + "\n" + ONE).encode(name))
+            result = self.tool("convert", "out", "a.txt", "--replace")
+            self.assertIn("convert: a.txt line 1: not UTF-8: read as Windows-1252; --encoding "
+                          "names another encoding\n", result.err)
+            for words in (("convert", "new", "a.txt", "--replace"),
+                          ("check", "new", "a.txt", "--seconds", "0")):
+                result = self.tool(*words, "--encoding", name)
+                self.assertNotIn("UTF-8", result.err)
+                self.assertIn(text, self.read("new.xsb").decode())
+            for old in glob.glob("*.*"):
+                os.remove(old)
+        self.write("a.txt", b"\xff\n" + ONE.encode())
+        self.assertIn("not a text in ascii", self.tool("convert", "out", "a.txt", "--encoding",
+                                                       "ascii").err)
+        self.assertIn("there is no encoding klingon", self.tool("check", "out", "a.txt",
+                                                                "--encoding", "klingon").err)
 
     def test_solution_file_before_its_level(self):
         self.write("a.xsb", OTHER)

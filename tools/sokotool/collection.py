@@ -41,14 +41,14 @@ class Collection:
     levels of the last one, and `total` all levels.
     """
 
-    def __init__(self, best: str = "", split: bool = False) -> None:
-        self.best, self.split = best, split
+    def __init__(self, best: str = "", split: bool = False, encoding: str = "") -> None:
+        self.best, self.split, self.encoding = best, split, encoding
         self.full: List[Tuple[bytes, bytes]] = []
         self.text = bytearray()
         self.records: List[bytes] = []
         self.count = self.total = 0
         self.solutions = self.faults = self.unsolved = self.torn = 0
-        self.file = ""
+        self.file = self.published = ""
         self.level: Optional[levels.Level] = None
         self._board: Optional[game.Board] = None
         self._tries: List[Try] = []
@@ -67,7 +67,12 @@ class Collection:
         """Reports what was read with a change."""
         self._reported += 1
         if self._reported <= MOST_MESSAGES:
-            print(f"convert: {texts.shown(file or self.file)} line {line}: {why}", file=sys.stderr)
+            print("convert: " + self.place(line, file) + why, file=sys.stderr)
+
+    def place(self, line: int, file: Optional[str] = None) -> str:
+        """Returns a place as messages begin with it: a line, or 0 for a message that names its
+        file."""
+        return f"{texts.shown(file or self.file)} line {line}: " if line else ""
 
     def report_rest(self) -> None:
         """Reports how many messages were not printed."""
@@ -137,7 +142,7 @@ class Collection:
         self.text, self.records = bytearray(), []
         self.count = self._letters = 0
         self._after_row = False
-        self.add_text("; " + texts.shown(self.file))
+        self.add_text("; " + texts.shown(self.published))
 
     def _add(self, text: str) -> None:
         data = text.encode("utf-8", "replace")

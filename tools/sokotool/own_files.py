@@ -1,6 +1,6 @@
 """The files of a check: NAME.xsb and so on, as they were and as they become."""
 import os
-from typing import Dict, List, Optional
+from typing import Dict, Optional
 
 from . import answers, auditor, memory, output, texts
 
@@ -10,6 +10,7 @@ XSB, ANSWERS, REPORT, PAGE = ".xsb", ".answers", ".report", ".html"
 KEPT_XSB, KEPT_ANSWERS, MEMORY = ".kept.xsb", ".kept.answers", ".memory"
 # the files that are kept as NAME.xsb~ and so on when one of them changes
 ENDS = (XSB, ANSWERS, REPORT, PAGE, KEPT_XSB, KEPT_ANSWERS)
+EVERY = (*ENDS, MEMORY, ".unfinished")
 _NOTE = f"; {auditor.REFERENCE_NOTE}".encode()
 
 
@@ -26,13 +27,6 @@ class Files:
                                          for end in (*ENDS, MEMORY) if os.path.exists(name + end)}
         self.now: Dict[str, Optional[bytes]] = dict(self.before)
         self._has_backups = False
-
-    def refuse(self, inputs: List[str]) -> None:
-        """Refuses inputs that would be written over."""
-        own = [self.name + end + more for end in (*ENDS, MEMORY) for more in ("", "~")]
-        for file in inputs:
-            if any(texts.same_file(file, name) for name in own):
-                raise texts.Stop(f"would write over {texts.shown(file)}")
 
     def levels(self) -> Optional[bytes]:
         """Returns the text of NAME.xsb without the note of the reference, or None if there is none.

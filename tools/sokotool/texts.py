@@ -2,7 +2,7 @@
 import os
 import re
 import sys
-from typing import Any, AnyStr, Callable, List, Optional, Sequence, Union
+from typing import Any, AnyStr, Callable, List, Optional, Sequence, Tuple, Union
 
 MOST_BYTES = 33_554_432
 MARK = b"\xef\xbb\xbf"
@@ -109,11 +109,11 @@ def decoded(data: bytes) -> str:
     return data.decode("latin-1")
 
 
-def text_of(data: bytes) -> Optional[str]:
-    """Returns the text of a file, with LF at the end of each line, or None if it isn't a text.
+def text_of(data: bytes, encoding: str = "") -> Tuple[Optional[str], str]:
+    """Returns the text of a file, with LF at the end of each line, or None if it isn't a text, and
+    what it was read as if it isn't all UTF-8 or UTF-16: an encoding, or Windows-1252 by lines.
 
-    Byte order marks are dropped, except at the start of a later line. A file that isn't all UTF-8
-    or UTF-16 is decoded line by line.
+    Byte order marks are dropped, except at the start of a later line.
     """
     if data.startswith((b"\xff\xfe", b"\xfe\xff")):
         coding = "utf-16"
@@ -121,18 +121,24 @@ def text_of(data: bytes) -> Optional[str]:
         coding = "utf-16-le" if data[1:2] == b"\0" else "utf-16-be"
     else:
         coding = "utf-8"
+    other = ""
     try:
         text = data.decode(coding)
     except UnicodeDecodeError:
         if coding != "utf-8":
-            return None
-        text = _mixed(data)
+            return None, ""
+        try:
+            text, other = (data.decode(encoding), encoding) if encoding else (
+                _mixed(data), "Windows-1252")
+        except UnicodeDecodeError:
+            return None, ""
     if "\0" in text:
-        return None
+        return None, ""
     if "\r" in text:
         text = _RETURNS.sub("\n", text).replace("\r\n", "\n").replace("\r", "\n")
     # A mark within the text shows where two files were joined.
-    return _INNER_MARK.sub("", text[1:] if text.startswith("\ufeff") else text)
+    text = _INNER_MARK.sub("", text[1:] if text.startswith("\ufeff") else text)
+    return text, "" if encoding else other
 
 
 def _mixed(data: bytes) -> str:

@@ -17,8 +17,8 @@ import os
 import re
 from typing import Any, Callable, List, NamedTuple, Optional, Tuple
 
-from .. import (answers, auditor, blocks, boards, by_hand, changes, kept, levels, memory, own_files,
-                report, solvers, summary, taking, texts)
+from .. import (answers, auditor, blocks, boards, by_hand, changes, exports, kept, levels, memory,
+                own_files, report, solvers, summary, taking, texts)
 from ..audits import Audits
 from ..collection import MOVES, PUSHES, Collection
 from ..own_files import ANSWERS, KEPT_ANSWERS, KEPT_XSB, MEMORY, PAGE, REPORT, XSB, noted
@@ -52,6 +52,7 @@ def arguments(parser: argparse.ArgumentParser) -> None:
     parser.add_argument("--jobs", metavar="N", type=above_zero(int),
                         default=len(os.sched_getaffinity(0)),
                         help="search N levels at once (default one for each processor)")
+    convert.encoding_argument(parser)
     parser.add_argument("--solver", metavar="COMMAND",
                         help="run this command for each level that is left then: it gets the level "
                              "on standard input, and in the file {}")
@@ -61,19 +62,16 @@ def arguments(parser: argparse.ArgumentParser) -> None:
 class QuietCollection(Collection):
     """A collection that keeps what is left out or wrong for the summary."""
 
-    def __init__(self, shown: Progress, best: str) -> None:
-        super().__init__(best)
+    def __init__(self, shown: Progress, options: argparse.Namespace) -> None:
+        super().__init__(options.best, encoding=options.encoding or "")
         self.shown = shown
         self.problems: List[Tuple[str, str]] = []
 
     def fault(self, line, why, file=None):
-        self.problems.append((self._place(line, file), why))
+        self.problems.append((self.place(line, file), why))
 
     def note(self, line, why, file=None):
-        self.shown.keep(self._place(line, file) + why)
-
-    def _place(self, line, file) -> str:
-        return f"{texts.shown(file or self.file)} line {line}: "
+        self.shown.keep(self.place(line, file) + why)
 
 
 class Exports(NamedTuple):
@@ -94,10 +92,14 @@ def run(options: argparse.Namespace) -> int:
 
 
 def converted(options: argparse.Namespace, shown: Progress) -> Exports:
-    """Reads the exports."""
+    """Reads the exports, without the files of NAME."""
     shown.show("reading")
-    collection = QuietCollection(shown, options.best)
-    convert.read_files(collection, convert.listed(options.exports))
+    collection = QuietCollection(shown, options)
+    is_own = exports.own(options.name, own_files.EVERY)
+    named = [name for name in options.exports if os.path.isdir(name) or not is_own(name)]
+    if not named:
+        raise texts.Stop(f"would write over {texts.shown(options.exports[0])}")
+    convert.read_files(collection, exports.listed(named, is_own))
     if not collection.count:
         raise texts.Stop("\n  ".join(["these files have no level",
                                       *map("".join, collection.problems)]))
@@ -114,22 +116,21 @@ class Job:
         self.options, self.shown = options, Progress("check")
         self.program = auditor.find()
         self.files = own_files.Files(options.name)
-        self.files.refuse(convert.listed(options.exports))
         self.memory = self.files.memory()
-        exports = converted(options, self.shown)
+        found = converted(options, self.shown)
         self.stored = self._stored()
         self.before = by_hand.collection(self.memory.blocks)
         self.mine = by_hand.collection(self._own_blocks())
         self.merged = by_hand.merged(self.before, self.mine,
-                                     by_hand.collection(blocks.read(exports.text)),
+                                     by_hand.collection(blocks.read(found.text)),
                                      [entry.block for entry in self.stored.entries],
                                      self.memory.is_ordered)
         self.text = noted(self.program, blocks.text(self.merged.blocks))
-        found = levels.read(self.text)
-        self.now = changes.State(found, boards.forms_of(found), [])
+        drawn = levels.read(self.text)
+        self.now = changes.State(drawn, boards.forms_of(drawn), [])
         self.picks = Picks(self.now.levels, options.best)
         self.taken = taking.Taken(self.picks, self.now)
-        self._take_over(exports)
+        self._take_over(found)
         self.written = b""
         self.read = report.Report()
 
@@ -150,19 +151,19 @@ class Job:
         text = self.files.before.get(KEPT_XSB, b"")
         return kept.read(text, self.files.answers(KEPT_ANSWERS, len(levels.read(text))))
 
-    def _take_over(self, exports: Exports) -> None:
+    def _take_over(self, exported: Exports) -> None:
         """Adds the former answers, those of the exports, and those of other files: by the board of
         the level that each names."""
         places = {at: number for number, at in enumerate(self.merged.exports, 1)}
         self.problems = [place + _LEVEL.sub(lambda it: f"level {places[int(it[1]) - 1]}", why)
-                         for place, why in exports.problems]
+                         for place, why in exported.problems]
         self.former = (self.before if self.before.blocks else self.mine).state
         most = max(len(self.former.levels), len(self.mine.blocks))
         self.taken.add_own(self.files.answers(ANSWERS, most), self.former, self.mine.state,
                            set(self.memory.computed))
         self.taken.add_stored(self.stored)
         self.taken.add_exported([kept.renumbered(record, places[record.level - 1])
-                                 for record in answers.read(exports.answers).records])
+                                 for record in answers.read(exported.answers).records])
         for name in self.options.answers:
             self.taken.add_file(name, self.former)
 

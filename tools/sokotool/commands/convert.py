@@ -9,13 +9,15 @@ docs/keeping.md lists what is read.
 Anything that can't be read or played is reported with file and line. If NAME.xsb or NAME.answers
 has something that convert didn't write from the same exports, nothing is written without
 --replace."""
+import argparse
+import codecs
 import hashlib
 import os
 import sys
-from typing import Iterator, List, Optional, Sequence, Tuple
+from typing import List, Optional, Sequence, Tuple
 
 from .. import collection as collections
-from .. import former, output, texts
+from .. import exports, former, output, texts
 from ..collection import Collection
 from ..formats import letters, lists, plain, slc
 
@@ -35,14 +37,33 @@ def arguments(parser):
     parser.add_argument("--split", action="store_true",
                         help="write NAME-1.*, NAME-2.* and so on, each within the limits of "
                              "sokoaudit")
+    encoding_argument(parser)
+
+
+def encoding_argument(parser):
+    """Adds the argument of commands that read exports."""
+    parser.add_argument("--encoding", metavar="NAME", type=_encoding,
+                        help="read files that aren't UTF-8 or UTF-16 in this encoding, by Python's "
+                             "name, such as koi8-r (default windows-1252)")
+
+
+def _encoding(name: str) -> str:
+    """Returns the name of an encoding, or refuses it."""
+    try:
+        b"".decode(name)
+        return codecs.lookup(name).name
+    except (LookupError, ValueError):
+        raise argparse.ArgumentTypeError(f"there is no encoding {texts.shown(name)}") from None
 
 
 def run(options) -> int:
     """Converts the files, and reports how much was read."""
-    files = listed(options.files)
-    _check_inputs(files, [options.name + ".xsb", options.name + ".answers"])
-    collection = Collection(options.best, options.split)
-    sources = read_files(collection, files)
+    ends = (".xsb", ".answers")
+    listed = exports.listed(options.files, exports.own(options.name, ends))
+    files = [export.name for export in listed]
+    _check_inputs(files, [options.name + end for end in ends])
+    collection = Collection(options.best, options.split, options.encoding or "")
+    sources = read_files(collection, listed)
     collection.report_rest()
     written: List[former.File] = []
     for pair in collection.parts(options.name):
@@ -61,57 +82,33 @@ def _check_inputs(files: Sequence[str], written: Sequence[str]) -> None:
 
 # ---- what to read
 
-def listed(names: Sequence[str]) -> List[str]:
-    """Returns the files to read: a folder stands for its files in order, without hidden ones.
-
-    A file NAME.sol comes directly after the file NAME.* of its level.
-    """
-    files = [file for name in names
-             for file in (_files_in(name) if os.path.isdir(name) else [name])]
-    stems = [os.path.splitext(file)[0] for file in files]
-    for solution in [file for file in files if file.endswith(".sol")]:
-        stem = os.path.splitext(solution)[0]
-        if stems.count(stem) == 2:
-            files.remove(solution)
-            at = next((at for at, it in enumerate(files) if os.path.splitext(it)[0] == stem),
-                      len(files) - 1)
-            files.insert(at + 1, solution)
-    return files
-
-
-def _files_in(folder: str) -> Iterator[str]:
-    try:
-        names = sorted(os.listdir(folder))
-    except OSError as error:
-        raise texts.Stop(f"cannot read {texts.shown(folder)}: {error.strerror}") from None
-    for name in names:
-        path = os.path.join(folder, name)
-        if name.startswith("."):
-            continue
-        if os.path.isdir(path):
-            yield from _files_in(path)
-        else:
-            yield path
-
-
-def read_files(collection: Collection, files: Sequence[str]) -> List[str]:
-    """Reads the files into the collection. Returns their names, and of standard input a checksum.
-    """
+def read_files(collection: Collection, listed: Sequence[exports.Export]) -> List[str]:
+    """Reads exports into the collection. Returns their names from the common folder on, and of
+    standard input a checksum. A file that can't be read is reported, unless it is the only one."""
     sources = []
     before: Tuple[str, int] = ("", 0)
     waiting = lists.Lists(collection)
-    for file in files:
-        data = texts.read(file)
-        sources.append("-" + hashlib.sha256(data).hexdigest()[:16] if file == "-" else file)
-        if file.endswith(".sol"):
-            collection.file = file
+    names = exports.published([export.name for export in listed])
+    for export in listed:
+        try:
+            data = export.read()
+        except texts.Stop as stop:
+            if len(listed) == 1:
+                raise
+            collection.fault(0, str(stop), export.name)
+            continue
+        name = names[export.name]
+        sources.append("-" + hashlib.sha256(data).hexdigest()[:16] if name == "-" else name)
+        if not export.is_solution:
+            collection.end_level()
+        collection.file, collection.published = export.name, name
+        if export.is_solution:
             _read_solution(collection, data, before, waiting)
             continue
-        collection.end_level()
-        collection.file, count = file, collection.total
+        count = collection.total
         _read_levels(collection, data, waiting)
-        before = (os.path.splitext(file)[0], collection.total - count)
-        waiting.add_export(file, count, collection.total)
+        before = (export.stem, collection.total - count)
+        waiting.add_export(export.name, count, collection.total)
     collection.end_level()
     waiting.place()
     return sources
@@ -125,7 +122,7 @@ def _read_levels(collection: Collection, data: bytes, waiting: lists.Lists) -> N
         waiting.add(collection.file, texts.lines_of(text))
         return
     if collection.file != "-":
-        collection.add_text("; " + texts.shown(collection.file))
+        collection.add_text("; " + texts.shown(collection.published))
     count = collection.total
     if slc.is_slc(text):
         slc.read(collection, data, text)
@@ -136,9 +133,11 @@ def _read_levels(collection: Collection, data: bytes, waiting: lists.Lists) -> N
 
 
 def _text_of(collection: Collection, data: bytes) -> Optional[str]:
-    text = texts.text_of(data)
+    text, coding = texts.text_of(data, collection.encoding)
     if text is None:
-        collection.fault(1, "not a text in UTF-8, UTF-16 or Latin-1")
+        collection.fault(1, f"not a text in {collection.encoding or 'UTF-8, UTF-16 or Latin-1'}")
+    elif coding:
+        collection.note(1, f"not UTF-8: read as {coding}; --encoding names another encoding")
     return text
 
 

@@ -1,0 +1,149 @@
+"""The exports that a command reads: files, the files of folders, and those of zip archives."""
+import glob
+import os
+import stat
+import zipfile
+import zlib
+from typing import Callable, Dict, Iterator, List, NamedTuple, Sequence, Set, Tuple
+
+from . import texts
+
+MOST_IN_ARCHIVE = 10_000
+MOST_UNPACKED = 8 * texts.MOST_BYTES
+_ZIP = b"PK\3\4"
+
+
+class Export(NamedTuple):
+    """An export: its name, and a function that reads it or raises `Stop`."""
+
+    name: str
+    read: Callable[[], bytes]
+
+    @property
+    def is_solution(self) -> bool:
+        """Whether its name is that of a solution."""
+        return self.name.lower().endswith(".sol")
+
+    @property
+    def stem(self) -> str:
+        """Its name without the end."""
+        return os.path.splitext(self.name)[0]
+
+
+def listed(names: Sequence[str], is_own: Callable[[str], bool] = lambda _: False) -> List[Export]:
+    """Returns the exports to read: a folder stands for its regular files in order, without hidden
+    ones and those that the command itself writes, and an archive for the files in it. Each folder
+    is read once, and a file that was read isn't read again with a folder.
+
+    A file NAME.sol comes directly after the file NAME.* of its level.
+    """
+    seen: Set[Tuple[int, int]] = set()
+    found = [export for name in names for export in _of(name, seen, is_own)]
+    stems = [export.stem for export in found]
+    for solution in [export for export in found if export.is_solution]:
+        if stems.count(solution.stem) == 2:
+            found.remove(solution)
+            at = next((at for at, it in enumerate(found) if it.stem == solution.stem),
+                      len(found) - 1)
+            found.insert(at + 1, solution)
+    return found
+
+
+def own(name: str, ends: Sequence[str]) -> Callable[[str], bool]:
+    """Returns a function that tells the files that a command writes or keeps for NAME: those with
+    these ends, also if they are numbered parts."""
+    written = [name + end + more for end in ends for more in ("", "~")]
+    written += [part for end in ends for part in glob.glob(f"{glob.escape(name)}-[0-9]*{end}*")]
+    return lambda file: any(texts.same_file(file, it) for it in written)
+
+
+def published(names: Sequence[str]) -> Dict[str, str]:
+    """Returns the names of files from their common folder on, so that they don't tell where they
+    are on this machine."""
+    paths = {name: os.path.abspath(name) for name in names if name != "-"}
+    folder = os.path.commonpath([os.path.dirname(path) for path in paths.values()] or ["/"])
+    return {"-": "-", **{name: os.path.relpath(path, folder) for name, path in paths.items()}}
+
+
+def _of(name: str, seen: Set[Tuple[int, int]], is_own: Callable[[str], bool]) -> Iterator[Export]:
+    """Yields the exports that a name on the command line stands for. `seen` gets the folders and
+    files."""
+    if os.path.isdir(name):
+        yield from _in_folder(name, seen, is_own)
+    elif name == "-" or not os.path.isfile(name):
+        yield Export(name, lambda: texts.read(name))
+    else:
+        _is_new(os.stat(name), seen)
+        yield from _in_file(name)
+
+
+def _is_new(known: os.stat_result, seen: Set[Tuple[int, int]]) -> bool:
+    """Returns whether a folder or file is seen for the first time."""
+    key = known.st_dev, known.st_ino
+    is_new = key not in seen
+    seen.add(key)
+    return is_new
+
+
+def _in_folder(folder: str, seen: Set[Tuple[int, int]], is_own: Callable[[str], bool]
+               ) -> Iterator[Export]:
+    try:
+        if not _is_new(os.stat(folder), seen):
+            return
+        names = sorted(os.listdir(folder))
+    except OSError as error:
+        yield _unreadable(folder, error.strerror)
+        return
+    for path in [os.path.join(folder, name) for name in names if not name.startswith(".")]:
+        try:
+            known = os.stat(path)
+        except OSError as error:
+            yield _unreadable(path, error.strerror)
+            continue
+        if stat.S_ISDIR(known.st_mode):
+            yield from _in_folder(path, seen, is_own)
+        elif stat.S_ISREG(known.st_mode) and not is_own(path) and _is_new(known, seen):
+            yield from _in_file(path)
+
+
+def _in_file(path: str) -> Iterator[Export]:
+    """Yields a file, or the files in it if it is an archive."""
+    try:
+        with open(path, "rb") as file:
+            is_archive = file.read(len(_ZIP)) == _ZIP and zipfile.is_zipfile(file)
+        if not is_archive:
+            yield Export(path, lambda: texts.read(path))
+            return
+        with zipfile.ZipFile(path) as archive:
+            members = [it for it in archive.infolist() if not it.is_dir() and not any(
+                part.startswith((".", "__MACOSX")) for part in it.filename.split("/"))]
+    except (OSError, zipfile.BadZipFile) as error:
+        yield _unreadable(path, getattr(error, "strerror", None) or str(error))
+        return
+    if len(members) > MOST_IN_ARCHIVE or sum(it.file_size for it in members) > MOST_UNPACKED:
+        yield _unreadable(path, f"more than {MOST_IN_ARCHIVE} files or {MOST_UNPACKED} bytes in it")
+        return
+    for member in sorted(members, key=lambda it: it.filename):
+        yield _packed(path, member)
+
+
+def _packed(path: str, member: zipfile.ZipInfo) -> Export:
+    """Returns an export in an archive."""
+    name = os.path.join(path, member.filename)
+
+    def read() -> bytes:
+        try:
+            with zipfile.ZipFile(path) as archive, archive.open(member) as file:
+                data = file.read(texts.MOST_BYTES + 1)
+        except (OSError, RuntimeError, EOFError, zipfile.BadZipFile, zlib.error) as error:
+            raise texts.Stop(f"cannot read {texts.shown(name)}: {error}") from None
+        if len(data) > texts.MOST_BYTES:
+            raise texts.Stop(f"{texts.shown(name)} is longer than {texts.MOST_BYTES} bytes")
+        return data
+    return Export(name, read)
+
+
+def _unreadable(name: str, why: str) -> Export:
+    def read() -> bytes:
+        raise texts.Stop(f"cannot read {texts.shown(name)}: {why}")
+    return Export(name, read)
