@@ -8,7 +8,7 @@ from . import coding, rows
 BETWEEN = " \t,;.'\"`*-"
 _WORD = "lurdLURD0123456789"
 _RUN = re.compile(rf"[{_WORD}(){BETWEEN}]+")
-_ALONE = re.compile(rf"[{_WORD}(){BETWEEN}]*[lurdLURD][{_WORD}(){BETWEEN}]*")
+_ALONE = re.compile(rf"[0-9(){BETWEEN}]*[lurdLURD][{_WORD}(){BETWEEN}]*")
 _PURE = re.compile(rf"[lurdLURD](?:[lurdLURD{BETWEEN}]*[lurdLURD])?")
 _FRONT = re.compile(r"[>\s]*(?:[0-9]+[.):]\s+)?")
 _LOOSE_NUMBER = re.compile(rf"(?<![\w(])[0-9]+(?=[{BETWEEN}]|$)")
