@@ -1,6 +1,6 @@
 -- How a row of words is filled word by word. Upward, a run goes on in the next word if it reached the last bit of this one;
 -- downward, it goes on in the word before if it reached the first bit.
-use Rattle.std.proofs.Common.{◌≡◌, ℕ, ◌+◌, ◌-◌, ◌*◌, ◌/◌, ◌%◌, ◌^◌, ◌<◌, ◌≤◌, List, length, get_or, refl, sym, ◌∙◌, subst, inl, inr, arith}
+use Rattle.std.proofs.Common.{◌≡◌, ℕ, ◌+◌, ◌-◌, ◌*◌, ◌/◌, ◌%◌, ◌^◌, ◌<◌, ◌≤◌, List, length, get_or, refl, ◌∙◌, inl, inr, arith}
 use Rattle.std.specs.Prelude.{◌↔◌, bit_or}
 use Rattle.std.proofs.Math.ListN.{set, length-set}
 use borrow.Author.Count.{below_more}
@@ -13,34 +13,22 @@ use Rattle.reach.proofs.Many.{wrote_same, wrote_other, wrote_cases, moved}
 
 -- ---- a place among the words, and its bit in a word
 pub to_word : (words : List ℕ) (i b k : ℕ) → b < 64 → k ≡ 64 * i + b → HasBit words k → Bit (get_or words i 0) b
-to_word words i b k below e h =
-    let word : k / 64 ≡ i = omega arith in
-    let bit : k % 64 ≡ b = omega arith in
-    subst (λ (n : ℕ). Bit (get_or words i 0) n) bit (moved words (k / 64) i (k % 64) (sym word) h)
+to_word words i b k below e h = grind (arith, moved)
 
 pub of_word : (words : List ℕ) (i b k : ℕ) → b < 64 → k ≡ 64 * i + b → Bit (get_or words i 0) b → HasBit words k
-of_word words i b k below e h =
-    let word : k / 64 ≡ i = omega arith in
-    let bit : k % 64 ≡ b = omega arith in
-    moved words i (k / 64) (k % 64) word (subst (λ (n : ℕ). Bit (get_or words i 0) n) (sym bit) h)
+of_word words i b k below e h = grind (arith, moved)
 
 -- no bit lies past the last word
 pub none_past : (words : List ℕ) (n k : ℕ) → length words ≡ n → 64 * n ≤ k → HasBit words k → ⊥
-none_past words n k long past h = no_bit_zero (k % 64) (subst (λ (w : ℕ). Bit w (k % 64)) (get_or_past words (k / 64) 0 (omega arith)) h)
+none_past words n k long past h = grind (arith, no_bit_zero, get_or_past)
 
 pub run_to_word : (words : List ℕ) (i a b from to : ℕ) → b < 64 → from ≡ 64 * i + a → to ≡ 64 * i + b → Run (HasBit words) from to
     → Run (Bit (get_or words i 0)) a b
-run_to_word words i a b from to below ea eb r = record {
-  all =
-      λ k low high. to_word words i k (64 * i + k) (omega arith) refl (r.all (64 * i + k) (omega arith) (omega arith));
-}
+run_to_word words i a b from to below ea eb r = grind (arith, to_word)
 
 pub run_of_word : (words : List ℕ) (i a b from to : ℕ) → b < 64 → from ≡ 64 * i + a → to ≡ 64 * i + b → Run (Bit (get_or words i 0)) a b
     → Run (HasBit words) from to
-run_of_word words i a b from to below ea eb r = record {
-  all = λ k low high. let e : k ≡ 64 * i + (k - 64 * i) =
-      omega arith in of_word words i (k - 64 * i) k (omega arith) e (r.all (k - 64 * i) (omega arith) (omega arith));
-}
+run_of_word words i a b from to below ea eb r = grind (arith, of_word)
 
 module _ (free seeds : List ℕ) where
   abbrev Below : ℕ → Type 0
@@ -61,22 +49,14 @@ module _ (free seeds : List ℕ) where
     pub comes : 1 ≤ i → Below (64 * i - 1) → Bit carry 0
 
   pub upward_start : IsUpTo seeds 0 0
-  upward_start = record {
-    long = refl;
-    fit = λ j low. absurd (omega (arith, low));
-    small = omega arith;
-    done = λ k low. absurd (omega (arith, low));
-    rest = λ _ _. refl;
-    came = λ b h. absurd (no_bit_zero b h);
-    comes = λ some. absurd (omega (arith, some));
-  }
+  upward_start = grind (arith, no_bit_zero)
 
   pub upward_more : (row : List ℕ) (i carry got : ℕ) → i < length row → got < 2 ^ 64 → get_or row i 0 < 2 ^ 64
       → ((b : ℕ) → Bit got b ↔ FromBelow (Bit (get_or free i 0)) (Bit (bit_or (get_or row i 0) carry)) b)
       → IsUpTo row i carry → IsUpTo (set row i got) (i + 1) (got / 2 ^ 63)
   upward_more row i carry got within fits word_fits filled u = record {
     long = length-set row i got ∙ u.long;
-    fit = below_more (λ j. get_or seeds j 0 < 2 ^ 64) i u.fit (subst (λ (w : ℕ). w < 2 ^ 64) (u.rest i (omega arith)) word_fits);
+    fit = below_more (λ j. get_or seeds j 0 < 2 ^ 64) i u.fit (rw (u.rest i (omega arith)) at word_fits);
     small = omega arith;
     done = λ k h. elim (cases_lt k (64 * i)) [
       | inl old ↦ (
@@ -106,7 +86,7 @@ module _ (free seeds : List ℕ) where
           (λ old. record {
             seed = 64 * i + f.seed;
             below = omega arith;
-            is_seed = of_word seeds i f.seed (64 * i + f.seed) (omega arith) refl (subst (λ (w : ℕ). Bit w f.seed) (u.rest i (omega arith)) old);
+            is_seed = of_word seeds i f.seed (64 * i + f.seed) (omega arith) refl (rw (u.rest i (omega arith)) at old);
             run = run_of_word free i f.seed b (64 * i + f.seed) k below refl e f.run;
           })
           (λ c.
@@ -128,8 +108,7 @@ module _ (free seeds : List ℕ) where
                 record {
                   seed = h.seed - 64 * i;
                   below = omega arith;
-                  is_seed = bit_or_l _ carry _ (subst (λ (w : ℕ). Bit w (h.seed - 64 * i)) (sym (u.rest i (omega arith)))
-                      (to_word seeds i _ h.seed (omega arith) place h.is_seed));
+                  is_seed = bit_or_l _ carry _ (rw (u.rest i (omega arith)) (to_word seeds i _ h.seed (omega arith) place h.is_seed));
                   run = run_to_word free i (h.seed - 64 * i) b h.seed k below place e h.run;
                 }
             | inl before ↦ record {
@@ -154,10 +133,7 @@ module _ (free seeds : List ℕ) where
   ]
 
   pub upward_fit : (row : List ℕ) (n carry : ℕ) → length seeds ≡ n → IsUpTo row n carry → (j : ℕ) → get_or seeds j 0 < 2 ^ 64
-  upward_fit row n carry long u j = elim (cases_lt j n) [
-    | inl low ↦ u.fit j low
-    | inr past ↦ subst (λ (w : ℕ). w < 2 ^ 64) (sym (get_or_past seeds j 0 (omega (arith, long, past)))) (omega arith)
-  ]
+  upward_fit row n carry long u j = grind (arith, cases_lt, get_or_past)
 
   -- ---- downward
   -- the words from i on are filled, the others are unchanged, and the carry has the first bit of the words from i on
@@ -169,13 +145,7 @@ module _ (free seeds : List ℕ) where
     pub comes : Above (64 * i) → Bit carry 63
 
   pub downward_start : (n : ℕ) → length free ≡ n → length seeds ≡ n → IsDownTo seeds n 0
-  downward_start n long_free long = record {
-    long = refl;
-    done = λ k past. ((λ b. absurd (none_past seeds n k long past b)), (λ f. absurd (none_past free n k long_free past (f.run.all k (omega arith) f.above))));
-    rest = λ _ _. refl;
-    came = λ b h. absurd (no_bit_zero b h);
-    comes = λ f. absurd (none_past free n (64 * n) long_free (omega arith) (f.run.all (64 * n) (omega arith) f.above));
-  }
+  downward_start n long_free long = grind (arith, none_past, no_bit_zero)
 
   pub downward_more : (row : List ℕ) (i carry got : ℕ) → i < length row → get_or free i 0 < 2 ^ 64
       → ((b : ℕ) → Bit got b ↔ FromAbove (Bit (get_or free i 0)) (Bit (bit_or (get_or row i 0) carry)) b)
@@ -210,7 +180,7 @@ module _ (free seeds : List ℕ) where
           (λ old. record {
             seed = 64 * i + f.seed;
             above = omega arith;
-            is_seed = of_word seeds i f.seed (64 * i + f.seed) in_word refl (subst (λ (w : ℕ). Bit w f.seed) (d.rest i (omega arith)) old);
+            is_seed = of_word seeds i f.seed (64 * i + f.seed) in_word refl (rw (d.rest i (omega arith)) at old);
             run = run_of_word free i b f.seed k (64 * i + f.seed) in_word e refl f.run;
           })
           (λ c.
@@ -222,7 +192,7 @@ module _ (free seeds : List ℕ) where
             above = omega arith;
             is_seed = after.is_seed;
             run = run_then (HasBit free) k (64 * i + f.seed) after.seed (run_of_word free i b f.seed k (64 * i + f.seed) in_word e refl f.run)
-                (subst (λ (n : ℕ). Run (HasBit free) n after.seed) next after.run);
+                (rw next at after.run);
           })
 
       back : (b k : ℕ) → b < 64 → k ≡ 64 * i + b → Above k → Bit got b
@@ -234,8 +204,7 @@ module _ (free seeds : List ℕ) where
                 record {
                   seed = h.seed - 64 * i;
                   above = omega arith;
-                  is_seed = bit_or_l _ carry _ (subst (λ (w : ℕ). Bit w (h.seed - 64 * i)) (sym (d.rest i (omega arith)))
-                      (to_word seeds i _ h.seed (omega arith) place h.is_seed));
+                  is_seed = bit_or_l _ carry _ (rw (d.rest i (omega arith)) (to_word seeds i _ h.seed (omega arith) place h.is_seed));
                   run = run_to_word free i b (h.seed - 64 * i) k h.seed (omega arith) e place h.run;
                 }
             | inr after ↦ record {

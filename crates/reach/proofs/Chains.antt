@@ -2,7 +2,7 @@
 -- Each cell of the region is reached from a seed, and no step leads out of the region from a row outside the worklist. A look takes
 -- a row from the worklist, adds what steps along it reach, and adds to the rows above and below what steps from it reach. Each of
 -- those two joins the worklist if it grew. Once the worklist is empty, no step leads out of the region, so it has all that is reached.
-use Rattle.std.proofs.Common.{◌≡◌, ℕ, ◌+◌, ◌*◌, ◌^◌, ◌<◌, ◌≤◌, List, [], length, get_or, sym, ◌∙◌, subst, inl, inr, arith}
+use Rattle.std.proofs.Common.{◌≡◌, ℕ, ◌+◌, ◌*◌, ◌^◌, ◌<◌, ◌≤◌, List, [], length, get_or, sym, ◌∙◌, inl, inr, arith}
 use Rattle.std.specs.Prelude.{◌⊎◌, ◌↔◌, sum}
 use Rattle.std.proofs.Math.ListN.{set}
 use Rattle.std.proofs.lemmas.Bool.{cases_eq}
@@ -15,7 +15,7 @@ use Rattle.reach.specs.Bits.{HasBit, room_left}
 use Rattle.reach.specs.RowsOf.{InRows, InRow, work_left}
 use Rattle.reach.proofs.Written.{IsWritten, row_written, as_at, to_row, of_row}
 use Rattle.reach.specs.Reached.{Reached, at_seed, by_step, IsClosedUnder}
-use Rattle.reach.specs.Grown.{IsAbove, IsBelow, IsBeside, IsOffered, IsLookedAt}
+use Rattle.reach.specs.Grown.{IsAbove, IsBeside, IsOffered, IsLookedAt}
 
 -- cells reached from reached cells are reached, also from more seeds
 pub reached_twice : (L : Cell → Cell → Type 0) (S T : Cell → Type 0) → ((c : Cell) → T c → Reached L S c) → (c : Cell) → Reached L T c → Reached L S c
@@ -43,15 +43,7 @@ growing_start L S W waits = record { sound = λ c h. at_seed h; kept = λ c h. h
 -- the invariant of a flood still holds after a row was taken from the worklist and looked at
 pub growing_more : (L : Cell → Cell → Type 0) (S G G' : Cell → Type 0) (W Rest W' : ℕ → Type 0) (row : ℕ)
     → IsGrowing L S G W → ((k : ℕ) → W k → (k ≡ row) ⊎ Rest k) → IsLookedAt L row G Rest G' W' → IsGrowing L S G' W'
-growing_more L S G G' W Rest W' row g rest s = record {
-  sound = λ c h. reached_twice L S G g.sound c (s.sound c h);
-  kept = λ c h. s.kept c (g.kept c h);
-  settled = λ b h. either (s.added b h)
-      (λ old. either (g.settled b old)
-      (λ w. either (rest b.row w) (λ e. inr (λ c l. s.here b c e h l)) (λ r. inl (s.waits b.row r)))
-      (λ done. inr (λ c l. s.kept c (done c l))))
-      (λ new. either new (λ e. inr (λ c l. s.here b c e h l)) (λ w. inl w));
-}
+growing_more L S G G' W Rest W' row g rest s = grind (arith, reached_twice, either)
 
 -- with an empty worklist the region is complete
 complete : (L : Cell → Cell → Type 0) (S G : Cell → Type 0) (W : ℕ → Type 0) → ((k : ℕ) → W k → ⊥) → IsGrowing L S G W → (c : Cell) → Reached L S c → G c
@@ -59,7 +51,7 @@ complete L S G W none g c (at_seed seed) = g.kept c seed
 complete L S G W none g c (by_step b before step) = either (g.settled b (complete L S G W none g b before)) (λ w. absurd (none b.row w)) (λ done. done c step)
 
 pub growing_end : (L : Cell → Cell → Type 0) (S G : Cell → Type 0) (W : ℕ → Type 0) → ((k : ℕ) → W k → ⊥) → IsGrowing L S G W → (c : Cell) → G c ↔ Reached L S c
-growing_end L S G W none g c = (g.sound c, complete L S G W none g c)
+growing_end L S G W none g c = grind (arith, complete)
 
 -- ---- one look
 -- a row that was filled has all that steps along it reach
@@ -92,33 +84,30 @@ look L row above n Region Filled Raised New Waits More NewWaits beside within lo
     same_row : (b : Cell) → b.row ≡ row → New b → Filled b
     same_row b e h = either (down.added b h)
         (λ old. either (up.added b old) (λ older. older) (λ (to, _, _). absurd (apart (sym to ∙ e))))
-        (λ (to, _, _). absurd (omega (arith, e, to)))
+        (λ (to, _, _). absurd (omega arith))
 
     go : (b c : Cell) → b.row ≡ row → Filled b → L b c → New c
     go b c e h step =
-        let in_rows : c.row < n = within b c step (subst (λ (k : ℕ). k < n) (sym e) low) in
+        let in_rows : c.row < n = within b c step (rw e low) in
         either (beside b c step)
         (λ same. down.kept c (up.kept c (filled.closed b c e (same ∙ e) h step)))
         (λ (column, side). either side
-        (λ raised. down.kept c (up.all b c e (is_above c.row (subst (λ (k : ℕ). IsAbove k c.row) e raised)) in_rows column h step))
-        (λ lowered. down.all b c e (subst (λ (k : ℕ). IsBelow k c.row) e lowered) in_rows column (up.kept b h) step))
+        (λ raised. down.kept c (up.all b c e (is_above c.row (rw e at raised)) in_rows column h step))
+        (λ lowered. down.all b c e (rw e at lowered) in_rows column (up.kept b h) step))
 
 -- ---- rows of bits
 pub row_filled : (L : Cell → Cell → Type 0) (region : List (List ℕ)) (y : ℕ) (row : List ℕ) → y < length region
-    → ((k : ℕ) → HasBit (get_or region y []) k → HasBit row k)
-    → ((k : ℕ) → HasBit row k → Reached L (InRow y (get_or region y [])) (cell_at k y))
-    → ((j k : ℕ) → HasBit row j → L (cell_at j y) (cell_at k y) → HasBit row k)
-    → IsRowFilled L y (InRows region) (InRows (set region y row))
+    → ((k : ℕ) → HasBit (get_or region y []) k → HasBit row k) → ((k : ℕ) → HasBit row k → Reached L (InRow y (get_or region y [])) (cell_at k y))
+    → ((j k : ℕ) → HasBit row j → L (cell_at j y) (cell_at k y) → HasBit row k) → IsRowFilled L y (InRows region) (InRows (set region y row))
 row_filled L region y row within kept sound closed = record {
   kept = kept_all;
   sound = λ c h. either (written.only c h)
-      (λ (e, bit). subst (Reached L (InRows region)) (as_at c y e)
-      (reached_more L (InRow y (get_or region y [])) (InRows region) (λ q (f, b). of_row region y q f b) (cell_at c.column y) (sound c.column bit)))
+      (λ (e, bit). rw (as_at c y e) at (reached_more L (InRow y (get_or region y [])) (InRows region) (λ q (f, b). of_row region y q f b) (cell_at c.column y) (sound c.column bit)))
       (λ (_, old). at_seed old);
   added = λ c h. either (written.only c h) (λ (e, _). inr e) (λ (_, old). inl old);
   closed = λ b c e f h step. written.same c f (closed b.column c.column
       (either (written.only b h) (λ (_, bit). bit) (λ (ne, _). absurd (ne e)))
-      (subst (λ q. L q (cell_at c.column y)) (sym (as_at b y e)) (subst (L b) (sym (as_at c y f)) step)));
+      (rw (as_at b y e, as_at c y f) step));
 }
   where
     written : IsWritten (InRows region) y (HasBit row) (InRows (set region y row))
@@ -144,8 +133,8 @@ module _ (L : Cell → Cell → Type 0) (region : List (List ℕ)) (from to : �
   offered_all n b c e f low column h step =
       let at : cell_at c.column from ≡ b = λ j. record { row = sym e j; column = column j } in
       (row_written region to row within).same c f ((bits c.column).1 (inr (
-        subst (λ (k : ℕ). HasBit (get_or region from []) k) (sym column) (to_row region from b e h),
-        (leads c.column).1 (subst (λ q. L q (cell_at c.column to)) (sym at) (subst (L b) (sym (as_at c to f)) step)),
+        rw column (to_row region from b e h),
+        (leads c.column).1 (rw at (rw (as_at c to f) step)),
       )))
 
   pub offered_more : (n : ℕ) (W W' : ℕ → Type 0) → ((k : ℕ) → W' k ↔ (W k ⊎ (k ≡ to))) → IsOffered L from to n (InRows region) W (InRows (set region to row)) W'
@@ -157,7 +146,7 @@ module _ (L : Cell → Cell → Type 0) (region : List (List ℕ)) (from to : �
         (λ (here, clear). inr (
           e,
           (waits c.row).1 (inr e),
-          (cell_at c.column from, (here, subst (L (cell_at c.column from)) (as_at c to e) ((leads c.column).0 clear))),
+          (cell_at c.column from, (here, rw (as_at c to e) at ((leads c.column).0 clear))),
         )))
         (λ (_, old). inl old);
     all = offered_all n;
@@ -168,7 +157,7 @@ module _ (L : Cell → Cell → Type 0) (region : List (List ℕ)) (from to : �
   offered_same n W same = record {
     kept = offered_kept;
     added = λ c h. inl (either ((row_written region to row within).only c h)
-        (λ (e, bit). of_row region to c e (subst (λ (r : List ℕ). HasBit r c.column) same bit))
+        (λ (e, bit). of_row region to c e (rw same at bit))
         (λ (_, old). old));
     all = offered_all n;
     waits = λ k w. w;
@@ -184,8 +173,8 @@ reached_on shape L S step seeds c (by_step b before leads) = step b c leads
 -- the work that is left doesn't rise if a row loses at least what the worklist gains
 pub work_written : (region : List (List ℕ)) (y : ℕ) (row waiting more : List ℕ) → y < length region
     → room_left row * 2 ^ 64 + sum more ≤ room_left (get_or region y []) * 2 ^ 64 + sum waiting → work_left (set region y row) more ≤ work_left region waiting
-work_written region y row waiting more within less = omega (arith, sum_by-set room_left region y row [] within, less)
+work_written region y row waiting more within less = grind (arith, sum_by-set)
 
 pub work_grown : (region : List (List ℕ)) (y : ℕ) (row waiting more : List ℕ) → y < length region
     → room_left row < room_left (get_or region y []) → sum more ≤ sum waiting + 2 ^ 64 → work_left (set region y row) more ≤ work_left region waiting
-work_grown region y row waiting more within fell rose = work_written region y row waiting more within (omega (arith, fell, rose))
+work_grown region y row waiting more within fell rose = grind (arith, work_written)

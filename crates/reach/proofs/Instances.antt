@@ -23,7 +23,7 @@ joined_is F S c = (there c, back c)
 
     back : (c : Cell) → Reached (WalksTo F) (λ q. S q × F q) c → Joined F S c
     back c (at_seed (seed, free)) = region.at_seed seed free
-    back c (by_step b before step) = subst (Joined F S) (sym step.next) (region.beside step.dir (back b before) (subst F step.next step.free))
+    back c (by_step b before step) = subst (Joined F S) (sym step.next) (region.beside step.dir (back b before) (rw step.next at step.free))
 
 -- walks over more free cells, and from more seeds, reach no less
 pub walked_more : (F G S T : Cell → Type 0) → ((c : Cell) → F c → G c) → ((c : Cell) → S c → T c) → (c : Cell) → Reached (WalksTo F) S c

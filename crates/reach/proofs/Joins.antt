@@ -1,5 +1,5 @@
 -- How a row gets the free bits of another row, word by word.
-use Rattle.std.proofs.Common.{◌≡◌, ℕ, Bool, true, false, ◌+◌, ◌-◌, ◌*◌, ◌/◌, ◌%◌, ◌^◌, ◌<◌, ◌≤◌, List, [], ◌∷◌, length, get_or, suc, refl, sym, ◌∙◌, ap, subst}
+use Rattle.std.proofs.Common.{◌≡◌, ℕ, Bool, true, false, ◌+◌, ◌-◌, ◌*◌, ◌/◌, ◌%◌, ◌^◌, ◌<◌, ◌≤◌, List, [], ◌∷◌, length, get_or, suc, refl, sym, ◌∙◌, ap}
 use Rattle.std.proofs.Common.{inl, inr, arith}
 use Rattle.std.specs.Prelude.{◌⊎◌, ◌↔◌, bit_and, bit_or}
 use Rattle.std.specs.Int.{bit_not, w64}
@@ -33,10 +33,7 @@ module _ (free here start : List ℕ) where
 
     -- an offered free bit is new, or the row had it before
     offered : (k : ℕ) → k / 64 ≡ i → HasBit here k → HasBit free k → HasBit row k ⊎ Bit gain (k % 64)
-    offered k e h f = bit_cases (get_or row i 0) (k % 64)
-        (λ old. inl (moved row i (k / 64) (k % 64) e old))
-        (λ lacks. inr (bit_and_from _ _ (k % 64) (bit_and_from _ _ (k % 64) (moved here (k / 64) i (k % 64) (sym e) h)
-        (moved free (k / 64) i (k % 64) (sym e) f)) (bit_not_from (get_or row i 0) (k % 64) fits (omega arith) lacks)))
+    offered k e h f = grind (arith, bit_cases, moved, bit_and_from, bit_not_from)
 
     pub joining_more : i < length row → IsJoining (set row i (bit_or (get_or row i 0) gain)) (i + 1) (bit_or grew gain)
     joining_more within = record {
@@ -54,8 +51,7 @@ module _ (free here start : List ℕ) where
             (λ n. wrote_same row i _ (k / 64) (k % 64) within (omega arith) (bit_or_r (get_or row i 0) gain (k % 64) n))
       ];
       none = λ e. let no_gain : gain ≡ 0 = omega (arith, le_or_r grew gain) in
-          subst (λ (n : ℕ). set row i (bit_or (get_or row i 0) n) ≡ start) (sym no_gain)
-          (ap (λ n. set row i n) (or_zero_r (get_or row i 0)) ∙ set-get_or row i 0 ∙ j.none (omega (arith, le_or_l grew gain)));
+          rw no_gain (ap (λ n. set row i n) (or_zero_r (get_or row i 0)) ∙ set-get_or row i 0 ∙ j.none (omega (arith, le_or_l grew gain)));
       less = let less = j.less in omega (arith, rooms, le_or_l (get_or row i 0) gain);
       some = λ more. elim (cases_lt 0 gain) [
         | inl new ↦ let less = j.less in omega (arith, rooms, larger new)
@@ -84,15 +80,12 @@ module _ (free here start : List ℕ) where
 
   pub joined : (row : List ℕ) (n grew : ℕ) → length free ≡ n → IsJoining row n grew → (k : ℕ)
       → HasBit row k ↔ (HasBit start k ⊎ (HasBit here k × HasBit free k))
-  joined row n grew long j k = (
-    j.there k,
-    (λ h. either h (j.kept k) (λ (a, f). elim (cases_lt k (64 * n)) [ inl low ↦ j.got k low a f | inr past ↦ absurd (none_past free n k long past f) ])),
-  )
+  joined row n grew long j k = grind (arith, either, cases_lt, none_past)
 
 -- ---- a row that joined others has no more room
 pub room_joined : (grew : Bool) (was now : List ℕ) → (grew ≡ false → now ≡ was) → (grew ≡ true → room_left now < room_left was) → room_left now ≤ room_left was
 room_joined true was now none some = omega (arith, some refl)
-room_joined false was now none some = omega (arith, ap room_left (none refl))
+room_joined false was now none some = grind arith
 
 -- ---- a row that keeps its bits has no more room
 rooms_le : (xs ys : List ℕ) → length xs ≡ length ys → ((i : ℕ) → get_or ys i 0 ≤ get_or xs i 0) → room_left xs ≤ room_left ys

@@ -1,5 +1,5 @@
 -- Filling a row over clear columns, seen as steps along it: each step leads to the column before or after, if that is clear.
-use Rattle.std.proofs.Common.{◌≡◌, ℕ, ◌+◌, ◌-◌, ◌*◌, ◌/◌, ◌%◌, ◌^◌, ◌<◌, List, length, get_or, refl, sym, ap, subst, inl, inr, arith}
+use Rattle.std.proofs.Common.{◌≡◌, ℕ, ◌+◌, ◌-◌, ◌*◌, ◌/◌, ◌%◌, ◌^◌, ◌<◌, List, length, get_or, refl, sym, ap, inl, inr, arith}
 use Rattle.std.specs.Prelude.{◌⊎◌, ◌↔◌, bit_and, bit_or}
 use Rattle.std.specs.Int.{bit_not, w64}
 use Rattle.std.proofs.Math.ListN.{set, replicate}
@@ -23,12 +23,12 @@ both_word a b i wa wb is_a is_b fits k = (
   (λ h. let below = bit_below wa 64 k fits (bit_and_l wa wb k h) in (
     below,
     (
-      of_word a i k (64 * i + k) below refl (subst (λ (w : ℕ). Bit w k) is_a (bit_and_l wa wb k h)),
-      of_word b i k (64 * i + k) below refl (subst (λ (w : ℕ). Bit w k) is_b (bit_and_r wa wb k h)),
+      of_word a i k (64 * i + k) below refl (rw is_a at (bit_and_l wa wb k h)),
+      of_word b i k (64 * i + k) below refl (rw is_b at (bit_and_r wa wb k h)),
     ),
   )),
-  (λ (below, both). bit_and_from wa wb k (subst (λ (w : ℕ). Bit w k) (sym is_a) (to_word a i k (64 * i + k) below refl both.0))
-      (subst (λ (w : ℕ). Bit w k) (sym is_b) (to_word b i k (64 * i + k) below refl both.1))),
+  (λ (below, both). bit_and_from wa wb k (rw is_a (to_word a i k (64 * i + k) below refl both.0))
+      (rw is_b (to_word b i k (64 * i + k) below refl both.1))),
 )
 
 pub either_word : (a b : List ℕ) (i : ℕ) → get_or a i 0 < 2 ^ 64 → get_or b i 0 < 2 ^ 64
@@ -44,20 +44,8 @@ either_word a b i fits_a fits_b k = (
 
 -- what is filled along some places is filled along more
 pub filled_more : (F G S : ℕ → Type 0) → ((k : ℕ) → F k → G k) → (k : ℕ) → IsFilled F S k → IsFilled G S k
-filled_more F G S f k (inl b) = inl (record {
-  seed = b.seed;
-  below = b.below;
-  is_seed = b.is_seed;
-  run =
-      record { all = λ m low high. f m (b.run.all m low high) };
-})
-filled_more F G S f k (inr a) = inr (record {
-  seed = a.seed;
-  above = a.above;
-  is_seed = a.is_seed;
-  run =
-      record { all = λ m low high. f m (a.run.all m low high) };
-})
+filled_more F G S f k (inl b) = grind arith
+filled_more F G S f k (inr a) = grind arith
 
 -- ---- steps along a row
 module _ (L : Cell → Cell → Type 0) (y : ℕ) (S Open : ℕ → Type 0)
@@ -71,20 +59,12 @@ module _ (L : Cell → Cell → Type 0) (y : ℕ) (S Open : ℕ → Type 0)
 
 -- the clear columns beside a filled one are filled
 pub filled_beside : (S Open : ℕ → Type 0) (j k : ℕ) → (k ≡ j + 1) ⊎ (k ≡ j - 1) → Open k → IsFilled (λ j. S j ⊎ Open j) S j → IsFilled (λ j. S j ⊎ Open j) S k
-filled_beside S Open j k (inl e) clear filled = subst (IsFilled (λ j. S j ⊎ Open j) S) (sym e)
-    (filled_right (λ j. S j ⊎ Open j) S j filled (inr (subst Open e clear)))
-filled_beside S Open j k (inr e) clear filled = subst (IsFilled (λ j. S j ⊎ Open j) S) (sym e)
-    (filled_left (λ j. S j ⊎ Open j) S j filled (inr (subst Open e clear)))
+filled_beside S Open j k (inl e) clear filled = grind (arith, filled_right)
+filled_beside S Open j k (inr e) clear filled = grind (arith, filled_left)
 
 -- ---- rows without a bit, and one bit less
 pub none_in_zeros : (n k : ℕ) → HasBit (replicate {A = ℕ} n 0) k → ⊥
-none_in_zeros n k h = no_bit_zero (k % 64) (subst (λ (w : ℕ). Bit w (k % 64)) (empty_word (k / 64)) h)
-  where
-    empty_word : (i : ℕ) → get_or {A = ℕ} (replicate n 0) i 0 ≡ 0
-    empty_word i = elim (cases_lt i n) [
-      | inl low ↦ get_or-replicate n i 0 0 low
-      | inr past ↦ get_or_past (replicate n 0) i 0 (let e = length-replicate {A = ℕ} n 0 in omega (arith, past, e))
-    ]
+none_in_zeros n k h = grind (arith, no_bit_zero, replicate, cases_lt, get_or-replicate, get_or_past, length-replicate)
 
 pub cleared : (words : List ℕ) (place : ℕ) → place / 64 < length words
     → (k : ℕ) → HasBit (set words (place / 64) (bit_and (get_or words (place / 64) 0) (bit_not w64 (1 * 2 ^ (place % 64) % 2 ^ 64)))) k ↔

@@ -1,5 +1,5 @@
 -- How a row of words is read or written part by part, and the rows of a grid one after another.
-use Rattle.std.proofs.Common.{◌≡◌, ℕ, ◌+◌, ◌-◌, ◌*◌, ◌/◌, ◌%◌, ◌^◌, ◌<◌, ◌≤◌, List, [], length, get_or, refl, sym, ◌∙◌, ap, subst, inl, inr, arith}
+use Rattle.std.proofs.Common.{◌≡◌, ℕ, ◌+◌, ◌-◌, ◌*◌, ◌/◌, ◌%◌, ◌^◌, ◌<◌, ◌≤◌, List, [], length, get_or, refl, sym, ◌∙◌, ap, inl, inr, arith}
 use Rattle.std.specs.Prelude.{◌⊎◌, ◌↔◌, ◌||◌}
 use Rattle.std.specs.FinSet as finset
 use Rattle.std.specs.FinSet.{contains, contains-union}
@@ -39,24 +39,23 @@ loaded_more P n i row word within l is = record {
 
     there : (k : ℕ) → HasBit (set row i word) k → (k < 64 * (i + 1)) × P k
     there k h = wrote_cases row i word (k / 64) (k % 64) in_row h
-        (λ e b. let place : 64 * i + k % 64 ≡ k = omega arith in (omega arith, subst P place ((is (k % 64)).0 b).1))
+        (λ e b. let place : 64 * i + k % 64 ≡ k = omega arith in (omega arith, rw place at ((is (k % 64)).0 b).1))
         (λ _ old. let o = (l.bits k).0 old in let low = o.0 in (omega arith, o.1))
 
     back : (k : ℕ) → (k < 64 * (i + 1)) × P k → HasBit (set row i word) k
     back k (low, p) = elim (cases_eq (k / 64) i) [
-      | inl e ↦ let place : k ≡ 64 * i + k % 64 = omega arith in wrote_same row i word (k / 64) (k % 64) in_row e
-          ((is (k % 64)).1 (omega arith, subst P place p))
+      | inl e ↦ let place : k ≡ 64 * i + k % 64 = omega arith in wrote_same row i word (k / 64) (k % 64) in_row e ((is (k % 64)).1 (omega arith, rw place at p))
       | inr ne ↦ wrote_other row i word (k / 64) (k % 64) ne ((l.bits k).1 (omega arith, p))
     ]
 
 pub loaded_none : (P : ℕ → Type 0) (n : ℕ) → IsLoaded P n 0 (replicate n 0)
-loaded_none P n = record { long = length-replicate {A = ℕ} n 0; bits = λ k. (λ h. absurd (none_in_zeros n k h), λ (low, _). absurd (omega (arith, low))) }
+loaded_none P n = grind (arith, length-replicate, none_in_zeros)
 
 pub loaded_all : (P : ℕ → Type 0) (n i : ℕ) (row : List ℕ) → i ≡ n → IsLoaded P n i row → (k : ℕ) → HasBit row k ↔ ((k < 64 * n) × P k)
-loaded_all P n i row all l k = subst (λ (m : ℕ). HasBit row k ↔ ((k < 64 * m) × P k)) all (l.bits k)
+loaded_all P n i row all l k = grind arith
 
 pub loaded_whole : (P : ℕ → Type 0) (n i : ℕ) (row : List ℕ) → i ≡ n → ((k : ℕ) → P k → k < 64 * n) → IsLoaded P n i row → (k : ℕ) → HasBit row k ↔ P k
-loaded_whole P n i row all within l k = let bits = loaded_all P n i row all l k in ((λ h. (bits.0 h).1), (λ p. bits.1 (within k p, p)))
+loaded_whole P n i row all within l k = grind (arith, loaded_all)
 
 pub bit_within : (words : List ℕ) (n k : ℕ) → length words ≡ n → HasBit words k → k < 64 * n
 bit_within words n k long h = elim (cases_lt k (64 * n)) [ inl low ↦ low | inr past ↦ absurd (carries.none_past words n k long past h) ]
@@ -73,12 +72,10 @@ module _ (old new : Cells) (y i word : ℕ) (fits : word < 2 ^ 64) (union : new 
   now_contains c = ap (λ s. contains s c) union ∙ contains-union cells_total old (cells_of_row y i word) c
 
   pub row_kept : (c : Cell) → Has old c → Has new c
-  row_kept c h = now_contains c ∙ left_true (contains old c) (contains (cells_of_row y i word) c) h
+  row_kept c h = search (now_contains, left_true)
 
   pub row_added : (k : ℕ) → Bit word k → Has new (cell_at (64 * i + k) y)
-  row_added k b =
-      let here = cell_at (64 * i + k) y in
-      now_contains here ∙ right_true (contains old here) (contains (cells_of_row y i word) here) (row_has y i word 64 k (bit_below word 64 k fits b) b.is)
+  row_added k b = search (now_contains, right_true, row_has, bit_below)
 
   pub row_only : (c : Cell) → Has new c → Has old c ⊎ ((k : ℕ) × (c ≡ cell_at (64 * i + k) y) × Bit word k)
   row_only c h = or_cases (contains old c) (contains (cells_of_row y i word) c) (sym (now_contains c) ∙ h) (λ was. inl was)
@@ -90,32 +87,28 @@ pub record IsStored (start now : Cells) (row : List ℕ) (y i : ℕ) : Type 0 wh
   pub there : (c : Cell) → Has now c → Has start c ⊎ ((c.row ≡ y) × HasBit row c.column)
   pub done : (c : Cell) → c.row ≡ y → c.column < 64 * i → HasBit row c.column → Has now c
 
-pub stored_more : (start now next : Cells) (row : List ℕ) (y i word : ℕ) → word ≡ get_or row i 0 → word < 2 ^ 64
-    → ((c : Cell) → Has now c → Has next c)
-    → ((k : ℕ) → Bit word k → Has next (cell_at (64 * i + k) y))
-    → ((c : Cell) → Has next c → Has now c ⊎ ((k : ℕ) × (c ≡ cell_at (64 * i + k) y) × Bit word k))
+pub stored_more : (start now next : Cells) (row : List ℕ) (y i word : ℕ) → word ≡ get_or row i 0 → word < 2 ^ 64 → ((c : Cell) → Has now c → Has next c)
+    → ((k : ℕ) → Bit word k → Has next (cell_at (64 * i + k) y)) → ((c : Cell) → Has next c → Has now c ⊎ ((k : ℕ) × (c ≡ cell_at (64 * i + k) y) × Bit word k))
     → IsStored start now row y i → IsStored start next row y (i + 1)
 stored_more start now next row y i word word_is fits kept added only s = record {
   kept = λ c h. kept c (s.kept c h);
   there = λ c h. either (only c h) (λ old. s.there c old) (λ (k, e, b). inr (
     ap (λ (q : Cell). q.row) e,
-    subst (HasBit row) (sym (ap (λ (q : Cell). q.column) e))
-        (of_word row i k (64 * i + k) (bit_below word 64 k fits b) refl (subst (λ (w : ℕ). Bit w k) word_is b)),
+    rw (ap (λ (q : Cell). q.column) e) (of_word row i k (64 * i + k) (bit_below word 64 k fits b) refl (rw word_is at b)),
   ));
   done = λ c e low h. elim (cases_lt c.column (64 * i)) [
     | inl old ↦ kept c (s.done c e old h)
     | inr new ↦
         let place : c.column ≡ 64 * i + (c.column - 64 * i) = omega arith in
-        let here = added (c.column - 64 * i) (subst (λ (w : ℕ). Bit w (c.column - 64 * i)) (sym word_is)
-        (to_word row i (c.column - 64 * i) c.column (omega arith) place h)) in
+        let here = added (c.column - 64 * i) (rw word_is (to_word row i (c.column - 64 * i) c.column (omega arith) place h)) in
         let same : cell_at (64 * i + (c.column - 64 * i)) y ≡ c = λ j. record { row = sym e j; column = sym place j } in
-        subst (Has next) same here
+        rw same at here
   ];
 }
 
 -- ---- rows past the last have no cell
 pub none_past : (rows : List (List ℕ)) (c : Cell) → length rows ≤ c.row → InRows rows c → ⊥
-none_past rows c past h = no_bit_zero (c.column % 64) (subst (λ (row : List ℕ). HasBit row c.column) (get_or_past rows c.row [] past) h)
+none_past rows c past h = grind (arith, no_bit_zero, get_or_past)
 
 -- ---- rows that are written one after another
 -- the rows before y have the cells of Done, the other rows the cells of Rest
@@ -124,21 +117,21 @@ pub record AreDone (Done Rest : Cell → Type 0) (y : ℕ) (rows : List (List �
   pub rest : (c : Cell) → y ≤ c.row → InRows rows c ↔ Rest c
 
 pub done_none : (Done : Cell → Type 0) (rows : List (List ℕ)) → AreDone Done (InRows rows) 0 rows
-done_none Done rows = record { done = λ c low. absurd (omega (arith, low)); rest = λ c _. (λ h. h, λ h. h) }
+done_none Done rows = grind arith
 
 pub done_more : (Done Rest : Cell → Type 0) (y : ℕ) (rows : List (List ℕ)) (row : List ℕ) → y < length rows → AreDone Done Rest y rows
     → ((k : ℕ) → HasBit row k ↔ Done (cell_at k y)) → AreDone Done Rest (y + 1) (set rows y row)
 done_more Done Rest y rows row within before is = record {
   done = λ c low. (
-    (λ h. either (written.only c h) (λ (e, bit). subst Done (as_at c y e) ((is c.column).0 bit)) (λ (ne, old). (before.done c (omega (arith, low, ne))).0 old)),
+    (λ h. either (written.only c h) (λ (e, bit). rw (as_at c y e) at ((is c.column).0 bit)) (λ (ne, old). (before.done c (omega arith)).0 old)),
     (λ d. elim (cases_eq c.row y) [
-      | inl e ↦ written.same c e ((is c.column).1 (subst Done (sym (as_at c y e)) d))
-      | inr ne ↦ written.other c ne ((before.done c (omega (arith, low, ne))).1 d)
+      | inl e ↦ written.same c e ((is c.column).1 (rw (as_at c y e) d))
+      | inr ne ↦ written.other c ne ((before.done c (omega arith)).1 d)
     ]),
   );
   rest = λ c high. (
-    (λ h. either (written.only c h) (λ (e, _). absurd (omega (arith, high, e))) (λ (_, old). (before.rest c (omega (arith, high))).0 old)),
-    (λ r. written.other c (λ e. omega (arith, high, e)) ((before.rest c (omega (arith, high))).1 r)),
+    (λ h. either (written.only c h) (λ (e, _). absurd (omega arith)) (λ (_, old). (before.rest c (omega arith)).0 old)),
+    (λ r. written.other c (λ e. omega arith) ((before.rest c (omega arith)).1 r)),
   );
 }
   where
@@ -147,27 +140,14 @@ done_more Done Rest y rows row within before is = record {
 
 -- a row with a cell is one of the rows
 pub row_below : (rows : List (List ℕ)) (c : Cell) → InRows rows c → c.row < length rows
-row_below rows c h = elim (cases_lt c.row (length rows)) [ inl low ↦ low | inr past ↦ absurd (none_past rows c past h) ]
+row_below rows c h = grind (arith, cases_lt, none_past)
 
 pub done_all : (Done Rest : Cell → Type 0) (n : ℕ) (rows : List (List ℕ)) → length rows ≤ n → ((c : Cell) → Done c → c.row < n) → AreDone Done Rest n rows
     → (c : Cell) → InRows rows c ↔ Done c
-done_all Done Rest n rows whole within all c = (
-  (λ h. let low = row_below rows c h in (all.done c (omega (arith, whole, low))).0 h),
-  (λ d. (all.done c (within c d)).1 d),
-)
+done_all Done Rest n rows whole within all c = grind (arith, row_below)
 
 -- ---- rows that are stored one after another
 pub stored_row : (P Q R : Cell → Type 0) (rows : List (List ℕ)) (y : ℕ) (row : List ℕ) → row ≡ get_or rows y []
     → ((c : Cell) → Q c ↔ (P c ⊎ ((c.row < y) × InRows rows c))) → ((c : Cell) → R c ↔ (Q c ⊎ ((c.row ≡ y) × HasBit row c.column)))
     → (c : Cell) → R c ↔ (P c ⊎ ((c.row < y + 1) × InRows rows c))
-stored_row P Q R rows y row read before now c = (
-  (λ r. either ((now c).0 r)
-      (λ q. either ((before c).0 q) (λ p. inl p) (λ (low, h). inr (omega (arith, low), h)))
-      (λ (e, bit). inr (omega (arith, e), of_row rows y c e (subst (λ (bits : List ℕ). HasBit bits c.column) read bit)))),
-  (λ s. either s
-      (λ p. (now c).1 (inl ((before c).1 (inl p))))
-      (λ (low, h). elim (cases_eq c.row y) [
-        | inl e ↦ (now c).1 (inr (e, subst (λ (bits : List ℕ). HasBit bits c.column) (sym read) (to_row rows y c e h)))
-        | inr ne ↦ (now c).1 (inl ((before c).1 (inr (omega (arith, low, ne), h))))
-      ])),
-)
+stored_row P Q R rows y row read before now c = grind (arith, either, of_row, cases_eq, to_row)

@@ -13,7 +13,7 @@ use Rattle.reach.proofs.Words.{bit_and_l, bit_or_l, bit_set_cases, bit_set_same,
 
 -- what holds of a value holds at the index at which it was written
 pub at_same : {A : Type 0} (P : A → Type 0) (xs : List A) (i : ℕ) (v : A) (j : ℕ) (d : A) → i < length xs → j ≡ i → P v → P (get_or (set xs i v) j d)
-at_same {A} P xs i v j d within e h = subst P (sym (subst (λ (n : ℕ). get_or (set xs i v) n d ≡ v) (sym e) (get_or-set_same xs i v d within))) h
+at_same {A} P xs i v j d within e h = subst P (sym (rw e (get_or-set_same xs i v d within))) h
 
 pub at_other : {A : Type 0} (P : A → Type 0) (xs : List A) (i : ℕ) (v : A) (j : ℕ) (d : A) → (j ≡ i → ⊥) → P (get_or xs j d) → P (get_or (set xs i v) j d)
 at_other P xs i v j d ne h = subst P (sym (get_or-set_other xs i j v d ne)) h
@@ -21,8 +21,8 @@ at_other P xs i v j d ne h = subst P (sym (get_or-set_other xs i j v d ne)) h
 pub at_cases : {A G : Type 0} (P : A → Type 0) (xs : List A) (i : ℕ) (v : A) (j : ℕ) (d : A) → i < length xs → P (get_or (set xs i v) j d)
     → (j ≡ i → P v → G) → ((j ≡ i → ⊥) → P (get_or xs j d) → G) → G
 at_cases {A} P xs i v j d within h f g = elim (cases_eq j i) [
-  | inl e ↦ f e (subst P (subst (λ (n : ℕ). get_or (set xs i v) n d ≡ v) (sym e) (get_or-set_same xs i v d within)) h)
-  | inr ne ↦ g ne (subst P (get_or-set_other xs i j v d ne) h)
+  | inl e ↦ f e (rw (subst (λ (n : ℕ). get_or (set xs i v) n d ≡ v) (sym e) (get_or-set_same xs i v d within)) at h)
+  | inr ne ↦ g ne (rw (get_or-set_other xs i j v d ne) at h)
 ]
 
 -- a word that was written has its bits at its index
@@ -37,7 +37,7 @@ pub wrote_cases : {G : Type 0} (xs : List ℕ) (i v j k : ℕ) → i < length xs
 wrote_cases xs i v j k = at_cases (λ (w : ℕ). Bit w k) xs i v j 0
 
 pub moved : (xs : List ℕ) (i j k : ℕ) → j ≡ i → Bit (get_or xs i 0) k → Bit (get_or xs j 0) k
-moved xs i j k e h = subst (λ (n : ℕ). Bit (get_or xs n 0) k) (sym e) h
+moved xs i j k e h = search
 
 -- setting one bit of a word adds this bit to the bits of the words
 pub added : (words : List ℕ) (row : ℕ) → row / 64 < length words
@@ -86,12 +86,12 @@ taken_bit words i word bit within is in_word set_there = record {
     here k e h = subst (λ (w : ℕ). Bit w (k % 64)) (sym is) (moved words (k / 64) i (k % 64) (sym e) h)
 
     was : HasBit words (64 * i + bit)
-    was = moved words i _ _ at_word (subst (λ (w : ℕ). Bit w ((64 * i + bit) % 64)) is (subst (λ (n : ℕ). Bit word n) (sym at_bit) set_there))
+    was = moved words i _ _ at_word (rw (← at_bit, is) at set_there)
 
     others_there : (k : ℕ) → HasBit (set words i rest) k → HasBit words k × (k ≡ 64 * i + bit → ⊥)
     others_there k h = wrote_cases words i rest (k / 64) (k % 64) within h
         (λ e b. (
-          moved words i (k / 64) (k % 64) e (subst (λ (w : ℕ). Bit w (k % 64)) is (bit_and_l word _ (k % 64) b)),
+          moved words i (k / 64) (k % 64) e (rw is at (bit_and_l word _ (k % 64) b)),
           (λ same. bit_cleared word bit (k % 64) in_word b (ap (λ n. n % 64) same ∙ at_bit)),
         ))
         (λ ne old. (old, (λ same. ne (ap (λ n. n / 64) same ∙ at_word))))
@@ -105,7 +105,7 @@ taken_bit words i word bit within is in_word set_there = record {
 
     less : sum (set words i rest) < sum words
     less = let smaller = less_by_bit word rest bit (and_le_l word _) set_there (λ b. bit_cleared word bit bit in_word b refl) in
-        omega (arith, sum_by-set (λ x. x) words i rest 0 within, is)
+        omega (arith, sum_by-set (λ x. x) words i rest 0 within)
 
 -- clearing the lowest bit of a word takes this bit from the bits of the words
 pub taken : (words : List ℕ) (i word : ℕ) → i < length words → word ≡ get_or words i 0 → 0 < word → word < 2 ^ 64
@@ -116,8 +116,8 @@ pub weight_set : (words : List ℕ) (i word : ℕ) → i < length words → word
 weight_set words i word within fits = omega (arith, sum_by-set (λ x. x) words i word 0 within)
 
 pub with_bit_fits : (word s : ℕ) → word < 2 ^ 64 → bit_or word (1 * 2 ^ s % 2 ^ 64) < 2 ^ 64
-with_bit_fits word s fits = or_lt 64 word (1 * 2 ^ s % 2 ^ 64) fits (mod-lt (1 * 2 ^ s) (pow_pos 64))
+with_bit_fits word s fits = search (or_lt, mod-lt, pow_pos)
 
 -- a bit of the words is the one that is taken, or one of the rest
 pub taken_cases : (words : List ℕ) (bit : ℕ) (rest : List ℕ) → IsTaken words bit rest → (k : ℕ) → HasBit words k → (k ≡ bit) ⊎ HasBit rest k
-taken_cases words bit rest t k h = elim (cases_eq k bit) [ inl e ↦ inl e | inr ne ↦ inr ((t.others k).1 (h, ne)) ]
+taken_cases words bit rest t k h = grind (arith, cases_eq)

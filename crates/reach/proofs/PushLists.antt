@@ -10,7 +10,7 @@ use Rattle.std.specs.List.{AllByRecursion, Contains}
 use Rattle.std.proofs.lemmas.List.Elements.{Contains-append_cases, Contains-append_left, Contains-append_right}
 use Rattle.std.specs.List.Sorted.{IsStrictlySortedBy}
 use Rattle.std.specs.declared.cmp.Ordering.TheVariants.{Less}
-use Rattle.std.specs.Ordering.{nat_cmp, ordering_then}
+use Rattle.std.specs.Ordering.{nat_cmp}
 use Rattle.cellset.specs.Shape.{Extent}
 use Rattle.cellset.specs.Cell.{Before, IsOn, cell_cmp, neighbor}
 use Rattle.cellset.specs.CellSet.{Cells, Has}
@@ -28,17 +28,14 @@ use Rattle.reach.proofs.PushOrder.{player_before}
 
 -- ---- each of these cells with each direction
 dir_before : (c : Cell) (d e : Dir) → nat_cmp (dir_rank d) (dir_rank e) ≡ Less → PushBefore (push_by c d) (push_by c e)
-dir_before c d e h = ap (λ o. ordering_then o (nat_cmp (dir_rank d) (dir_rank e))) (tied_itself cells_total c) ∙ h
+dir_before c d e h = grind (arith, tied_itself, cells_total)
 
 here_sorted : (c : Cell) → IsStrictlySortedBy push_cmp (tries_from c L)
 unfolding IsStrictlySortedBy
-here_sorted c = (
-  (dir_before c L U refl, (dir_before c L R refl, (dir_before c L D refl, tt))),
-  ((dir_before c U R refl, (dir_before c U D refl, tt)), ((dir_before c R D refl, tt), (tt, tt))),
-)
+here_sorted c = search (dir_before)
 
 in_here : (c : Cell) (p : Push) → Contains (tries_from c L) p → p ≡ push_by c p.dir
-in_here c p h = of_all (λ q. q ≡ push_by c q.dir) (tries_from c L) p (refl, (refl, (refl, (refl, tt)))) h
+in_here c p h = grind (arith, of_all)
 
 here_has : (c : Cell) (d : Dir) → Contains (tries_from c L) (push_by c d)
 here_has c L = (0, omega arith, refl)
@@ -51,7 +48,7 @@ in_tries [] p (k, within, is) = absurd (omega arith)
 in_tries (c ∷ cells) p h = either (Contains-append_cases (tries_from c L) (tries_left None cells) p h)
     (λ here. let e = in_here c p here in
     let same = ap (λ (q : Push). q.player) e in
-    (e ∙ ap (λ (q : Cell). push_by q p.dir) (sym same), subst (Contains (c ∷ cells)) (sym same) (first_in c cells)))
+    (e ∙ ap (λ (q : Cell). push_by q p.dir) (sym same), rw same (first_in c cells)))
     (λ later. let rest = in_tries cells p later in (rest.0, later_in c cells p.player rest.1))
 
 tries_have : (cells : List Cell) (c : Cell) (d : Dir) → Contains cells c → Contains (tries_left None cells) (push_by c d)
@@ -65,8 +62,7 @@ tries_sorted : (cells : List Cell) → IsStrictlySortedBy cell_cmp cells → IsS
 unfolding IsStrictlySortedBy
 tries_sorted [] s = tt
 tries_sorted (c ∷ cells) s = sorted_append push_cmp (tries_from c L) (tries_left None cells) (here_sorted c) (tries_sorted cells s.1)
-    (λ a b in_a in_b. player_before a b (subst (λ (q : Cell). Before q b.player) (sym (ap (λ (q : Push). q.player) (in_here c a in_a)))
-    (of_all (λ y. Before c y) cells b.player s.0 (in_tries cells b in_b).1)))
+    (λ a b in_a in_b. player_before a b (rw (ap (λ (q : Push). q.player) (in_here c a in_a)) (of_all (λ y. Before c y) cells b.player s.0 (in_tries cells b in_b).1)))
 
 -- the cells that are tried are on the grid
 pub tries_on : {shape : Extent} {region : Cells} {players : List Cell} → AreMembersOf shape region players
@@ -85,8 +81,7 @@ module _ {shape : Extent} {walls boxes region : Cells} {players : List Cell} (me
   }
 
   try_of_out : (p : Push) → IsPushOut shape walls boxes (Has region) p → Contains (tries_left None players) p
-  try_of_out p out = subst (Contains (tries_left None players)) (same p.player p.dir p.from p.to out.next_cell out.cell_behind)
-      (tries_have players p.player p.dir ((members.exact p.player).1 out.standing))
+  try_of_out p out = rw (same p.player p.dir p.from p.to out.next_cell out.cell_behind) at (tries_have players p.player p.dir ((members.exact p.player).1 out.standing))
     where
       same : (c : Cell) (d : Dir) (from to : Cell) → from ≡ neighbor c d → to ≡ neighbor from d
           → ◌≡◌ {A = Push} (push_by c d) (record { player = c; dir = d; from = from; to = to })

@@ -9,7 +9,7 @@ use Rattle.std.proofs.lemmas.Cmp.{ranked, on_total, then_total, nat_cmp_total, t
 use Rattle.std.specs.Cmp.{IsTotalOrder}
 use Rattle.std.specs.declared.cmp.Ordering.{Ordering}
 use Rattle.std.specs.declared.cmp.Ordering.TheVariants.{Less, Equal, Greater}
-use Rattle.std.specs.Ordering.{nat_cmp, ordering_then, ordering_reverse, is_eq}
+use Rattle.std.specs.Ordering.{nat_cmp, ordering_then, ordering_reverse}
 use Rattle.cellset.specs.Cell.{Before, cell_cmp}
 use Rattle.cellset.specs.declared.dir.Dir.{Dir}
 use Rattle.cellset.specs.declared.dir.Dir.TheVariants.{L, U, R, D}
@@ -21,7 +21,7 @@ pub pushes_total : IsTotalOrder push_cmp
 pushes_total = then_total (on_total (λ p. p.player) cells_total) (on_total (λ p. dir_rank p.dir) nat_cmp_total)
 
 pub push_before_itself : {G : Type 0} (p : Push) → PushBefore p p → G
-push_before_itself p h = absurd (false≢true (ap is_eq (sym h) ∙ ap is_eq (tied_itself pushes_total p)))
+push_before_itself p h = grind (arith, false≢true, tied_itself, pushes_total)
 
 pub push_before_trans : (a b c : Push) → PushBefore a b → PushBefore b c → PushBefore a c
 push_before_trans a b c h k = pushes_total.trans a b c h k
@@ -29,24 +29,24 @@ push_before_trans a b c h k = pushes_total.trans a b c h k
 -- directions of the same rank are equal
 pub same_dir : (a b : Dir) → dir_rank a ≡ dir_rank b → a ≡ b
 same_dir L L h = refl
-same_dir L U h = absurd (omega (arith, h))
-same_dir L R h = absurd (omega (arith, h))
-same_dir L D h = absurd (omega (arith, h))
-same_dir U L h = absurd (omega (arith, h))
+same_dir L U h = absurd (omega arith)
+same_dir L R h = absurd (omega arith)
+same_dir L D h = absurd (omega arith)
+same_dir U L h = absurd (omega arith)
 same_dir U U h = refl
-same_dir U R h = absurd (omega (arith, h))
-same_dir U D h = absurd (omega (arith, h))
-same_dir R L h = absurd (omega (arith, h))
-same_dir R U h = absurd (omega (arith, h))
+same_dir U R h = absurd (omega arith)
+same_dir U D h = absurd (omega arith)
+same_dir R L h = absurd (omega arith)
+same_dir R U h = absurd (omega arith)
 same_dir R R h = refl
-same_dir R D h = absurd (omega (arith, h))
-same_dir D L h = absurd (omega (arith, h))
-same_dir D U h = absurd (omega (arith, h))
-same_dir D R h = absurd (omega (arith, h))
+same_dir R D h = absurd (omega arith)
+same_dir D L h = absurd (omega arith)
+same_dir D U h = absurd (omega arith)
+same_dir D R h = absurd (omega arith)
 same_dir D D h = refl
 
 pub player_before : (a b : Push) → Before a.player b.player → PushBefore a b
-player_before a b h = ap (λ o. ordering_then o (nat_cmp (dir_rank a.dir) (dir_rank b.dir))) h
+player_before a b h = search
 
 -- of two pushes, one is before the other, or they have the same player's cell and direction
 pub push_before_or_after : {G : Type 0} (a b : Push) → (PushBefore a b → G) → (a.player ≡ b.player → a.dir ≡ b.dir → G) → (PushBefore b a → G) → G

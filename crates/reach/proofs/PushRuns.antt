@@ -3,10 +3,9 @@
 -- so far and those that are left make up the whole list.
 -- That list holds exactly the pushes out of the region, in their order: so each one that came is a push out, those
 -- that are before the next one all came, and once none is left every push out has come.
-use Rattle.std.proofs.Common.{◌≡◌, List, [], ◌∷◌, ◌++◌, Some, None, sym, ◌∙◌, ap, subst}
+use Rattle.std.proofs.Common.{◌≡◌, List, [], ◌∷◌, ◌++◌, Some, None, sym, ◌∙◌, ap}
 use Rattle.std.proofs.lemmas.List.{append-nil}
 use Rattle.std.specs.List.{Contains}
-use Rattle.std.specs.List.Sorted.{IsStrictlySortedBy}
 use Rattle.std.specs.Iterator.{Yields, YieldsFirst}
 use Rattle.cellset.specs.Shape.{Extent}
 use Rattle.cellset.specs.CellSet.{Cells}
@@ -27,18 +26,15 @@ module _ {shape : Extent} {walls boxes : Cells} {InRegion : Cell → Type 0} {pu
   -- the next push is a push out of the region
   pub next_is_out : (p : Push) (rest : List Push) → YieldsFirst (λ s. s) left (Some p) rest → IsPushOut shape walls boxes InRegion p
   next_is_out p rest next =
-      (all.exact p).0 (subst (λ ps. Contains ps p) (sym (came_and_left pushes came left run ∙ ap (λ r. came ++ r) next))
-      (Contains-append_right came (p ∷ rest) p (first_in p rest)))
+      (all.exact p).0 (rw (sym (came_and_left pushes came left run ∙ ap (λ r. came ++ r) next)) at (Contains-append_right came (p ∷ rest) p (first_in p rest)))
 
   -- the pushes out before the next one came already
   pub came_before : (p : Push) (rest : List Push) → YieldsFirst (λ s. s) left (Some p) rest → (q : Push) → IsPushOut shape walls boxes InRegion q
       → PushBefore q p → Contains came q
   came_before p rest next q out early =
       let whole = came_and_left pushes came left run ∙ ap (λ r. came ++ r) next in
-      in_front push_cmp (push_before_itself {G = ⊥}) push_before_trans came rest p q (subst (IsStrictlySortedBy push_cmp) whole all.in_order)
-      (subst (λ ps. Contains ps q) whole ((all.exact q).1 out)) early
+      in_front push_cmp (push_before_itself {G = ⊥}) push_before_trans came rest p q (rw whole at all.in_order) (rw whole at ((all.exact q).1 out)) early
 
   -- at the end every push out has come
   pub all_came : (rest : List Push) → YieldsFirst (λ s. s) left None rest → (q : Push) → IsPushOut shape walls boxes InRegion q → Contains came q
-  all_came rest none q out = subst (λ ps. Contains ps q) (came_and_left pushes came left run ∙ ap (λ r. came ++ r) none.0 ∙ append-nil came)
-      ((all.exact q).1 out)
+  all_came rest none q out = rw (came_and_left pushes came left run ∙ ap (λ r. came ++ r) none.0 ∙ append-nil came) at ((all.exact q).1 out)

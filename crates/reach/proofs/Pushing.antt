@@ -50,7 +50,7 @@ module _ (n : ℕ) (free row mids moved right left once twice : List ℕ) (free_
   pub slid_added : (k : ℕ) → HasBit twice k → HasBit row k ⊎ IsMoved (HasBit free) (HasBit row) k
   slid_added k h = either ((is_twice k).0 h)
       (λ first. either ((is_once k).0 first) (λ old. inl old)
-      (λ (b, _). let (_, (some, at)) = (is_right k).0 b in inr (beside (k - 1) k at (inl (omega (arith, some))))))
+      (λ (b, _). let (_, (some, at)) = (is_right k).0 b in inr (beside (k - 1) k at (inl (omega arith)))))
       (λ (b, _). inr (beside (k + 1) k ((is_left k).0 b).1 (inr (omega arith))))
 
   is_filled : (k : ℕ) → HasBit twice k → HasBit mids k → IsFilled (HasBit mids) (HasBit row) k
@@ -59,13 +59,11 @@ module _ (n : ℕ) (free row mids moved right left once twice : List ℕ) (free_
       (λ old. filled_seed (HasBit mids) (HasBit row) k old mid)
       (λ (b, _).
       let (_, (some, at)) = (is_right k).0 b in
-      let e : k ≡ k - 1 + 1 = omega (arith, some) in
-      subst (IsFilled (HasBit mids) (HasBit row)) (sym e)
-      (filled_right (HasBit mids) (HasBit row) (k - 1) ((is_moved (k - 1)).0 at) (subst (HasBit mids) e mid))))
+      let e : k ≡ k - 1 + 1 = omega arith in
+      rw e (filled_right (HasBit mids) (HasBit row) (k - 1) ((is_moved (k - 1)).0 at) (rw e at mid))))
       (λ (b, _).
       let e : k ≡ k + 1 - 1 = omega arith in
-      subst (IsFilled (HasBit mids) (HasBit row)) (sym e)
-      (filled_left (HasBit mids) (HasBit row) (k + 1) ((is_moved (k + 1)).0 ((is_left k).0 b).1) (subst (HasBit mids) e mid)))
+      rw e (filled_left (HasBit mids) (HasBit row) (k + 1) ((is_moved (k + 1)).0 ((is_left k).0 b).1) (rw e at mid)))
 
   pub slid_settled : (k : ℕ) → HasBit twice k → IsBetween (HasBit free) k → HasBit twice (k - 1) × HasBit twice (k + 1)
   slid_settled k h mid =
@@ -73,9 +71,9 @@ module _ (n : ℕ) (free row mids moved right left once twice : List ℕ) (free_
       let end = below_end k after in
       let here : HasBit moved k = (is_moved k).1 (is_filled k h (to_mid k mid)) in
       let e : k ≡ k + 1 - 1 = omega arith in
-      let f : k ≡ k - 1 + 1 = omega (arith, some) in
-      let on : HasBit right (k + 1) = (is_right (k + 1)).1 (end, (omega arith, subst (HasBit moved) e here)) in
-      let back : HasBit left (k - 1) = (is_left (k - 1)).1 (omega (arith, end), subst (HasBit moved) f here) in
+      let f : k ≡ k - 1 + 1 = omega arith in
+      let on : HasBit right (k + 1) = (is_right (k + 1)).1 (end, (omega arith, rw e at here)) in
+      let back : HasBit left (k - 1) = (is_left (k - 1)).1 (omega arith, rw f at here) in
       ((is_twice (k - 1)).1 (inr (back, back)), (is_twice (k + 1)).1 (inl ((is_once (k + 1)).1 (inr (on, on)))))
 
 -- ---- steps
@@ -94,7 +92,7 @@ module _ (free : List (List ℕ)) (y : ℕ) (S : ℕ → Type 0) where
         dir = R;
         next = ap (λ (n : ℕ). cell_at n y) e;
         behind = before.is;
-        ahead = (subst (λ (n : ℕ). InRows free (cell_at n y)) (sym e) after).is;
+        ahead = (rw (← e) at after).is;
       })
   next j k (inr e) (some, before, after) here =
       let p : j - 1 ≡ k = omega arith in
@@ -102,7 +100,7 @@ module _ (free : List (List ℕ)) (y : ℕ) (S : ℕ → Type 0) where
         dir = L;
         next = ap (λ (n : ℕ). cell_at n y) (sym p);
         behind = after.is;
-        ahead = (subst (λ (n : ℕ). InRows free (cell_at n y)) p before).is;
+        ahead = (rw p at before).is;
       })
 
   pub moved_here : (k : ℕ) → S k ⊎ IsMoved (HasBit (get_or free y [])) S k → IsHere k
@@ -113,50 +111,35 @@ module _ (free : List (List ℕ)) (y : ℕ) (S : ℕ → Type 0) where
 module _ (free : List (List ℕ)) (y : ℕ) (New : ℕ → Type 0) (inside : AreInside free)
     (closed : (k : ℕ) → New k → IsBetween (HasBit (get_or free y [])) k → New (k - 1) × New (k + 1)) (j k : ℕ) where
   closed_by : (d : Dir) → cell_at k y ≡ neighbor (cell_at j y) d → InRows free (neighbor (cell_at j y) (opposite d)) → InRows free (cell_at k y) → New j → New k
-  closed_by L e behind ahead h =
-      let column : k ≡ j - 1 = ap (λ (q : Cell). q.column) e in
-      let some : 1 ≤ k = (inside (cell_at k y) ahead).1 in
-      subst New (sym column) (closed j h (omega arith, subst (λ (n : ℕ). InRows free (cell_at n y)) column ahead, behind)).0
-  closed_by U e behind ahead h = subst New (sym (ap (λ (q : Cell). q.column) e)) h
+  closed_by L e behind ahead h = grind arith
+  closed_by U e behind ahead h = grind arith
   closed_by R e behind ahead h =
       let column : k ≡ j + 1 = ap (λ (q : Cell). q.column) e in
       let some : 1 ≤ j - 1 = (inside (cell_at (j - 1) y) behind).1 in
-      subst New (sym column) (closed j h (omega arith, behind, subst (λ (n : ℕ). InRows free (cell_at n y)) column ahead)).1
-  closed_by D e behind ahead h = subst New (sym (ap (λ (q : Cell). q.column) e)) h
+      subst New (sym column) (closed j h (omega arith, behind, rw column at ahead)).1
+  closed_by D e behind ahead h = grind arith
 
   pub pushes_closed : PushesTo (Passes (in_rows free)) (cell_at j y) (cell_at k y) → New j → New k
-  pushes_closed p h = closed_by p.dir p.next (of_test free (neighbor (cell_at j y) (opposite p.dir)) p.behind) (of_test free (cell_at k y) p.ahead) h
+  pushes_closed p h = search (closed_by, of_test)
 
 -- pushes to the row above or below
 module _ (free : List (List ℕ)) (from to k : ℕ) where
   there : (to + 1 ≡ from) ⊎ (to ≡ from + 1) → InRows free (cell_at k (from - 1)) × InRows free (cell_at k (from + 1))
       → PushesTo (Passes (in_rows free)) (cell_at k from) (cell_at k to)
-  there (inl e) (above, below) =
-      let p : from - 1 ≡ to = omega arith in
-      record { dir = U; next = ap (λ (n : ℕ). cell_at k n) (sym p); behind = below.is; ahead = (subst (λ (n : ℕ). InRows free (cell_at k n)) p above).is }
-  there (inr e) (above, below) = record {
-    dir = D;
-    next = ap (λ (n : ℕ). cell_at k n) e;
-    behind = above.is;
-    ahead = (subst (λ (n : ℕ). InRows free (cell_at k n)) (sym e) below).is;
-  }
+  there (inl e) (above, below) = grind (arith, next)
+  there (inr e) (above, below) = grind (arith, next)
 
   apart : (to + 1 ≡ from) ⊎ (to ≡ from + 1) → to ≡ from → ⊥
-  apart (inl a) row = omega (arith, a, row)
-  apart (inr b) row = omega (arith, b, row)
+  apart (inl a) row = omega arith
+  apart (inr b) row = omega arith
 
   back : (d : Dir) → (to + 1 ≡ from) ⊎ (to ≡ from + 1) → cell_at k to ≡ neighbor (cell_at k from) d → InRows free (neighbor (cell_at k from) (opposite d))
-      → InRows free (cell_at k to)
-      → InRows free (cell_at k (from - 1)) × InRows free (cell_at k (from + 1))
-  back L side e behind ahead = absurd (apart side (ap (λ (q : Cell). q.row) e))
-  back U side e behind ahead = (subst (λ (n : ℕ). InRows free (cell_at k n)) (ap (λ (q : Cell). q.row) e) ahead, behind)
-  back R side e behind ahead = absurd (apart side (ap (λ (q : Cell). q.row) e))
-  back D side e behind ahead = (behind, subst (λ (n : ℕ). InRows free (cell_at k n)) (ap (λ (q : Cell). q.row) e) ahead)
+      → InRows free (cell_at k to) → InRows free (cell_at k (from - 1)) × InRows free (cell_at k (from + 1))
+  back L side e behind ahead = grind (arith, apart)
+  back U side e behind ahead = grind arith
+  back R side e behind ahead = grind (arith, apart)
+  back D side e behind ahead = grind arith
 
   pub pushes_across : (to + 1 ≡ from) ⊎ (to ≡ from + 1) → (InRows free (cell_at k (from - 1)) × InRows free (cell_at k (from + 1))) ↔ PushesTo
       (Passes (in_rows free)) (cell_at k from) (cell_at k to)
-  pushes_across side = (
-    there side,
-    λ p. back p.dir side p.next (of_test free (neighbor (cell_at k from) (opposite p.dir)) p.behind)
-        (of_test free (cell_at k to) p.ahead),
-  )
+  pushes_across side = grind (arith, there, back, of_test)

@@ -3,7 +3,7 @@
 -- begins at a bit ends right before the bit `step` places on, so what is near that bit is near this one at twice the
 -- step, and two such runs make one of twice the length. If every free bit right below a seed is a seed itself, no run leaves
 -- the seeds.
-use Rattle.std.proofs.Common.{◌≡◌, ℕ, ◌+◌, ◌-◌, ◌*◌, ◌/◌, ◌^◌, ◌<◌, ◌≤◌, zero, suc, sym, subst, inl, inr, arith}
+use Rattle.std.proofs.Common.{◌≡◌, ℕ, ◌+◌, ◌-◌, ◌*◌, ◌/◌, ◌^◌, ◌<◌, ◌≤◌, zero, suc, subst, inl, inr, arith}
 use Rattle.std.specs.Prelude.{◌⊎◌, ◌↔◌, bit_and, bit_or}
 use Rattle.std.specs.Int.{bit_not, w64}
 use Rattle.std.proofs.lemmas.Bool.{cases_lt}
@@ -13,13 +13,13 @@ use Rattle.reach.proofs.Words.{no_bit_zero, bit_cases, bit_and_l, bit_and_r, bit
 use Rattle.reach.proofs.Words.{bit_shr_from, bit_below}
 
 pub run_within : (f : ℕ → Type 0) (i j a b : ℕ) → i ≤ a → b ≤ j → Run f i j → Run f a b
-run_within f i j a b low high r = record { all = λ k from to. r.all k (omega arith) (omega arith) }
+run_within f i j a b low high r = grind arith
 
 pub run_one : (f : ℕ → Type 0) (k : ℕ) → f k → Run f k k
-run_one f k h = record { all = λ m from to. let e : k ≡ m = omega arith in subst f e h }
+run_one f k h = grind arith
 
 pub run_then : (f : ℕ → Type 0) (i j k : ℕ) → Run f i j → Run f (j + 1) k → Run f i k
-run_then f i j k r s = record { all = λ m from to. elim (cases_lt j m) [ inl h ↦ s.all m (omega arith) to | inr h ↦ r.all m from h ] }
+run_then f i j k r s = grind (arith, cases_lt)
 
 -- ---- a word filled downward by doubling
 -- a run of free bits goes down to bit k from a seed less than `step` above it
@@ -52,8 +52,8 @@ down_start free seeds = record {
     near = omega arith;
   };
   near_got = λ k n. let above = n.from.above in let near = n.near in let e : n.from.seed ≡ k = omega arith in
-      bit_and_from seeds free k (subst (Bit seeds) e n.from.is_seed) (n.from.run.all k (omega arith) above);
-  run_begins = λ k h. let e : k ≡ k + 1 - 1 = omega arith in subst (λ j. Run (Bit free) k j) e (run_one (Bit free) k h);
+      bit_and_from seeds free k (rw e at n.from.is_seed) (n.from.run.all k (omega arith) above);
+  run_begins = λ k h. let e : k ≡ k + 1 - 1 = omega arith in rw (← e) (run_one (Bit free) k h);
   begins_run = λ k r. r.all k (omega arith) (omega arith);
 }
 
@@ -73,7 +73,7 @@ down_twice free seeds got run step d = record {
           seed = n.from.seed;
           above = omega arith;
           is_seed = n.from.is_seed;
-          run = run_then (Bit free) k (k + step - 1) n.from.seed r (subst (λ i. Run (Bit free) i n.from.seed) next n.from.run);
+          run = run_then (Bit free) k (k + step - 1) n.from.seed r (rw (← next) n.from.run);
         };
         near = omega arith;
       });
@@ -101,12 +101,11 @@ down_twice free seeds got run step d = record {
       let some = d.some in
       let next : step + k ≡ k + step - 1 + 1 = omega arith in
       let last : step + k + step - 1 ≡ k + step * 2 - 1 = omega arith in
-      subst (λ j. Run (Bit free) k j) last (run_then (Bit free) k (k + step - 1) (step + k + step - 1) r
-      (subst (λ i. Run (Bit free) i (step + k + step - 1)) next s));
+      rw last at (run_then (Bit free) k (k + step - 1) (step + k + step - 1) r
+      (rw (← next) s));
   begins_run = λ k r.
       let some = d.some in
-      bit_and_from run _ k
-      (d.begins_run k (run_within (Bit free) k (k + step * 2 - 1) k (k + step - 1) (omega arith) (omega arith) r))
+      bit_and_from run _ k (d.begins_run k (run_within (Bit free) k (k + step * 2 - 1) k (k + step - 1) (omega arith) (omega arith) r))
       (bit_shr_from run step k (d.begins_run (step + k) (run_within (Bit free) k (k + step * 2 - 1) (step + k) (step + k + step - 1) (omega arith)
       (omega arith) r)));
 }
@@ -121,8 +120,7 @@ down_end free seeds got run step fits long d k = (
 -- if every free bit right below a seed is a seed, no run leaves the seeds
 module _ (free seeds : ℕ) (fits : free < 2 ^ 64) (closed : bit_and (bit_and free (bit_not w64 (bit_and seeds free))) (bit_and seeds free / 2 ^ 1) ≡ 0) where
   stays : (n k last : ℕ) → last ≡ n + k → Bit seeds last → Run (Bit free) k last → Bit (bit_and seeds free) k
-  stays zero k last e seed r = let same : last ≡ k = omega arith in bit_and_from seeds free k (subst (Bit seeds) same seed)
-      (r.all k (omega arith) (omega arith))
+  stays zero k last e seed r = grind (arith, bit_and_from)
   stays (suc n) k last e seed r =
       let here = r.all k (omega arith) (omega arith) in
       let above = stays n (1 + k) last (omega arith) seed (run_within (Bit free) k last (1 + k) last (omega arith) (omega arith) r) in
@@ -130,7 +128,7 @@ module _ (free seeds : ℕ) (fits : free < 2 ^ 64) (closed : bit_and (bit_and fr
       (λ none.
       let missing = bit_not_from (bit_and seeds free) k (let le = and_le_r seeds free in omega arith) (bit_below free 64 k fits here) none in
       let new = bit_and_from _ _ k (bit_and_from free _ k here missing) (bit_shr_from (bit_and seeds free) 1 k above) in
-      absurd (no_bit_zero k (subst (λ w. Bit w k) closed new)))
+      absurd (no_bit_zero k (rw closed at new)))
 
   pub down_at_once : (k : ℕ) → Bit (bit_and seeds free) k ↔ FromAbove (Bit free) (Bit seeds) k
   down_at_once k = (
@@ -168,81 +166,26 @@ filled free seeds up down is_up is_down k = (there, back)
 
 -- ---- what is filled is closed under free neighbours
 pub filled_seed : (free seeds : ℕ → Type 0) (k : ℕ) → seeds k → free k → IsFilled free seeds k
-filled_seed free seeds k seed here = inl (record { seed = k; below = omega arith; is_seed = seed; run = run_one free k here })
+filled_seed free seeds k seed here = grind (arith, run_one)
 
 pub filled_right : (free seeds : ℕ → Type 0) (k : ℕ) → IsFilled free seeds k → free (k + 1) → IsFilled free seeds (k + 1)
-filled_right free seeds k (inl b) next =
-    inl (record {
-      seed = b.seed;
-      below = let below = b.below in omega arith;
-      is_seed = b.is_seed;
-      run =
-          run_then free b.seed k (k + 1) b.run (run_one free (k + 1) next);
-    })
-filled_right free seeds k (inr a) next =
-    let above = a.above in
-    elim (cases_lt k a.seed) [
-      | inl h ↦ inr (record {
-        seed = a.seed;
-        above = omega arith;
-        is_seed = a.is_seed;
-        run =
-            run_within free k a.seed (k + 1) a.seed (omega arith) (omega arith) a.run;
-      })
-      | inr h ↦
-          let e : a.seed ≡ k = omega arith in
-          inl (record {
-            seed = k;
-            below = omega arith;
-            is_seed = subst seeds e a.is_seed;
-            run =
-                run_then free k k (k + 1) (run_one free k (a.run.all k (omega arith) (omega arith))) (run_one free (k + 1) next);
-          })
-    ]
+filled_right free seeds k (inl b) next = grind (arith, run_then, run_one)
+filled_right free seeds k (inr a) next = grind (arith, cases_lt, run_within, run_then, run_one)
 
 pub filled_left : (free seeds : ℕ → Type 0) (k : ℕ) → IsFilled free seeds k → free (k - 1) → IsFilled free seeds (k - 1)
-filled_left free seeds k filled before = elim (cases_lt 0 k) [
-  | inr none ↦ let e : k ≡ k - 1 = omega arith in subst (IsFilled free seeds) e filled
-  | inl some ↦ let e : k ≡ k - 1 + 1 = omega arith in down (k - 1) e filled before
-]
-  where
-    down : (j : ℕ) → k ≡ j + 1 → IsFilled free seeds k → free j → IsFilled free seeds j
-    down j e (inr a) here =
-        let above = a.above in
-        inr (record {
-          seed = a.seed;
-          above = omega arith;
-          is_seed = a.is_seed;
-          run =
-              run_then free j j a.seed (run_one free j here) (subst (λ i. Run free i a.seed) e a.run);
-        })
-    down j e (inl b) here =
-        let below = b.below in
-        elim (cases_lt j b.seed) [
-          | inr h ↦ inl (record { seed = b.seed; below = h; is_seed = b.is_seed; run = run_within free b.seed k b.seed j (omega arith) (omega arith) b.run })
-          | inl h ↦
-              let same : j + 1 ≡ b.seed = omega arith in
-              let last : k ≡ b.seed = omega arith in
-              inr (record {
-                seed = b.seed;
-                above = omega arith;
-                is_seed = b.is_seed;
-                run = run_then free j j b.seed (run_one free j here)
-                    (subst (λ i. Run free i b.seed) (sym same) (run_one free b.seed (b.run.all b.seed (omega arith) below)));
-              })
-        ]
+filled_left free seeds k filled before = grind (arith, cases_lt, filled, run_then, run_one, run_within)
 
 -- ---- what holds at the seeds, and at each free place beside a free one at which it holds, holds where it is filled
 module _ (free seeds Holds : ℕ → Type 0) (start : (k : ℕ) → seeds k → Holds k)
     (next : (j k : ℕ) → (k ≡ j + 1) ⊎ (k + 1 ≡ j) → free j → free k → Holds j → Holds k) where
   upward : (j n : ℕ) → ((k : ℕ) → j ≤ k → k ≤ j + n → free k) → Holds j → Holds (j + n)
-  upward j zero run from = let e : j ≡ j + 0 = omega arith in subst Holds e from
+  upward j zero run from = grind arith
   upward j (suc n) run from =
       next (j + n) (j + suc n) (inl (omega arith)) (run (j + n) (omega arith) (omega arith)) (run (j + suc n) (omega arith) (omega arith))
       (upward j n (λ k low high. run k low (omega arith)) from)
 
   downward : (j n : ℕ) → ((k : ℕ) → j ≤ k → k ≤ j + n → free k) → Holds (j + n) → Holds j
-  downward j zero run from = let e : j + 0 ≡ j = omega arith in subst Holds e from
+  downward j zero run from = grind arith
   downward j (suc n) run from =
       downward j n (λ k low high. run k low (omega arith))
       (next (j + suc n) (j + n) (inr (omega arith)) (run (j + suc n) (omega arith) (omega arith)) (run (j + n) (omega arith) (omega arith)) from)
@@ -255,4 +198,4 @@ module _ (free seeds Holds : ℕ → Type 0) (start : (k : ℕ) → seeds k → 
   filled_along k (inr a) =
       let above = a.above in
       let e : a.seed ≡ k + (a.seed - k) = omega arith in
-      downward k (a.seed - k) (λ m low high. a.run.all m low (omega arith)) (subst Holds e (start a.seed a.is_seed))
+      downward k (a.seed - k) (λ m low high. a.run.all m low (omega arith)) (rw e at (start a.seed a.is_seed))

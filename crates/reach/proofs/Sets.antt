@@ -1,8 +1,7 @@
 -- The rows of a grid as a finite set of cells.
-use Rattle.std.proofs.Common.{◌≡◌, ℕ, ◌+◌, ◌*◌, ◌<◌, ◌≤◌, Bool, true, false, ◌||◌, List, [], ◌++◌, take, drop, length, refl, sym, ◌∙◌, ap, subst, inl}
+use Rattle.std.proofs.Common.{◌≡◌, ℕ, ◌+◌, ◌*◌, ◌<◌, ◌≤◌, Bool, true, false, ◌||◌, List, ◌++◌, take, drop, length, refl, sym, ◌∙◌, ap, inl}
 use Rattle.std.proofs.Common.{inr, arith}
 use Rattle.std.specs.Prelude.{◌⊎◌, ◌↔◌}
-use Rattle.std.specs.Cmp.Derive.{one_truth}
 use Rattle.std.proofs.Math.ListN.{replicate, length-set}
 use Rattle.std.proofs.Math.ListN as lists
 use Rattle.std.proofs.lemmas.Bool.{false≢true, cases_lt}
@@ -26,52 +25,44 @@ use Rattle.reach.proofs.Lines.{none_in_zeros}
 module _ (shape : Extent) (rows : List (List ℕ)) (on : (c : Cell) → InRows rows c → IsOn shape c) where
   -- the set of the rows has the cells whose bits are set
   pub has_is : (q : Cell) → Has (members_in shape rows) q ↔ InRows rows q
-  has_is q = ((λ h. record { is = (in_where shape (in_rows rows) q h).1 }), (λ h. has_where shape (in_rows rows) q (on q h) h.is))
+  has_is q = grind (arith, in_where, has_where)
 
   -- the test of the set and the test of the rows are equal
   pub contains_is : (q : Cell) → contains (members_in shape rows) q ≡ in_rows rows q
-  contains_is q = one_truth _ _ (λ h. ((has_is q).0 h).is) (λ h. (has_is q).1 (record { is = h }))
+  contains_is q = grind (arith, has_is)
 
   pub tests_are : contains (members_in shape rows) ≡ in_rows rows
   tests_are = λ j q. contains_is q j
 
   -- a set with the same members is the set of the rows
   pub set_is : (s : Cells) → ((q : Cell) → InRows rows q ↔ Has s q) → members_in shape rows ≡ s
-  set_is s same = same_members _ s (λ q h. (same q).0 ((has_is q).0 h)) (λ q h. (has_is q).1 ((same q).1 h))
+  set_is s same = grind (arith, same_members, has_is)
 
 -- ---- empty rows
 pub none_in : (n m : ℕ) (c : Cell) → InRows (replicate {A = List ℕ} n (replicate {A = ℕ} m 0)) c → ⊥
-none_in n m c h = elim (cases_lt c.row n) [
-  | inl low ↦ none_in_zeros m c.column (subst (λ (r : List ℕ). HasBit r c.column) (get_or-replicate {A = List ℕ} n c.row (replicate m 0) [] low) h)
-  | inr past ↦ none_past (replicate {A = List ℕ} n (replicate m 0)) c (let e = length-replicate {A = List ℕ} n (replicate m 0) in omega (arith, past, e)) h
-]
+none_in n m c h = grind (arith, cases_lt, none_in_zeros, get_or-replicate, replicate, none_past, length-replicate)
 
 -- the rows of a vector whose slice was changed
 pub put_back : (n : ℕ) (old new : List (List ℕ)) → n ≡ length old → length new ≡ length old → take n (new ++ drop (length new) old) ≡ new
-put_back n old new same_len kept =
-    ap (λ r. take n (new ++ r)) (drop_all (length new) old (omega (arith, kept))) ∙ ap (take n) (append-nil new)
-    ∙ take_all n new (omega (arith, same_len, kept))
+put_back n old new same_len kept = grind (arith, drop_all, append-nil, take_all)
 
 pub rows_put_back : (n : ℕ) (shape : Extent) (len : ℕ) (old new : List (List ℕ)) → len ≡ length old → AreRowsOf n shape old → length new ≡ length old
     → ((c : Cell) → InRows new c → IsOn shape c) → AreRowsOf n shape (take len (new ++ drop (length new) old))
-rows_put_back n shape len old new same_len were kept on =
-    subst (AreRowsOf n shape) (sym (put_back len old new same_len kept))
-    (record { few = were.few; wide = were.wide; sides = were.sides; long = kept ∙ were.long; on = on })
+rows_put_back n shape len old new same_len were kept on = grind (arith, put_back)
 
 pub rows_written : (n : ℕ) (shape : Extent) (y : ℕ) (row : List ℕ) (rows : List (List ℕ)) → AreRowsOf n shape rows
-    → ((c : Cell) → InRows (lists.set rows y row) c → IsOn shape c)
-    → AreRowsOf n shape (lists.set rows y row)
-rows_written n shape y row rows were on = record { few = were.few; wide = were.wide; sides = were.sides; long = length-set rows y row ∙ were.long; on = on }
+    → ((c : Cell) → InRows (lists.set rows y row) c → IsOn shape c) → AreRowsOf n shape (lists.set rows y row)
+rows_written n shape y row rows were on = search (length-set)
 
 -- rows of the same grid are equally many
 pub rows_alike : (n : ℕ) (a b : Extent) (xs ys : List (List ℕ)) → a ≡ b → AreRowsOf n a xs → AreRowsOf n b ys → length xs ≡ length ys
-rows_alike n a b xs ys same x y = x.long ∙ ap (λ (e : Extent). e.height + 1) same ∙ sym y.long
+rows_alike n a b xs ys same x y = search
 
 pub rows_few : (n : ℕ) (shape : Extent) (rows : List (List ℕ)) → AreRowsOf n shape rows → length rows ≤ 256
-rows_few n shape rows r = omega (arith, r.sides.not_too_high, r.long)
+rows_few n shape rows r = omega arith
 
 pub rows_inside : (n : ℕ) (shape : Extent) (rows : List (List ℕ)) → AreRowsOf n shape rows → AreInside rows
-rows_inside n shape rows r = λ q h. ((r.on q h).top, (r.on q h).left)
+rows_inside n shape rows r = grind arith
 
 -- a set with the members of two sets is their union
 pub union_is : (s t u : Cells) → ((q : Cell) → Has u q ↔ (Has s q ⊎ Has t q)) → u ≡ set.union s t
@@ -86,10 +77,7 @@ union_is s t u each = same_cells u (set.union s t) (λ q. pointwise (contains u 
 -- rows that were read from a set on the grid have its members
 pub loaded_same : (shape : Extent) (rows : List (List ℕ)) (s : Cells) (n : ℕ) → shape.width < 64 * n → ((q : Cell) → Has s q → IsOn shape q)
     → ((q : Cell) → InRows rows q ↔ ((q.row < shape.height + 1) × (q.column < 64 * n) × Has s q)) → (q : Cell) → InRows rows q ↔ Has s q
-loaded_same shape rows s n wide on cells q = (
-  (λ h. let (_, _, has) = (cells q).0 h in has),
-  (λ has. let right = (on q has).right in let bottom = (on q has).bottom in (cells q).1 (omega (arith, bottom), omega (arith, right, wide), has)),
-)
+loaded_same shape rows s n wide on cells q = grind arith
 
 -- rows with no cell are the empty set
 pub none_empty : (shape : Extent) (rows : List (List ℕ)) → ((q : Cell) → InRows rows q → ⊥) → members_in shape rows ≡ set.empty
@@ -117,16 +105,11 @@ pub complement_is : (shape : Extent) (on : List ℕ) (old rows : List (List ℕ)
     → ((k : ℕ) → HasBit on k ↔ ((1 ≤ k) × (k ≤ shape.width)))
     → ((q : Cell) → InRows rows q ↔ ((1 ≤ q.row) × (q.row < length old) × HasBit on q.column × (InRows old q → ⊥))) → (q : Cell)
     → InRows rows q ↔ (IsOn shape q × (InRows old q → ⊥))
-complement_is shape on old rows long columns cells q = (
-  (λ h. let (top, low, bit, gone) = (cells q).0 h in
-      let sides = (columns q.column).0 bit in
-      (record { top = top; bottom = omega (arith, low, long); left = sides.0; right = sides.1 }, gone)),
-  (λ (is_on, gone). let bottom = is_on.bottom in (cells q).1 (is_on.top, omega (arith, bottom, long), (columns q.column).1 (is_on.left, is_on.right), gone)),
-)
+complement_is shape on old rows long columns cells q = grind arith
 
 -- an empty worklist has the rows of the empty set
 pub none_queued : (cells : CellsOn) (words : List ℕ) → cells.members ≡ set.empty → ((k : ℕ) → HasBit words k → ⊥) → AreRowsQueued cells words
 none_queued cells words none clear = record {
-  all = λ q h. absurd (has_empty q (subst (λ (s : Cells). Has s q) none h));
+  all = λ q h. absurd (has_empty q (rw none at h));
   within = λ k h. absurd (clear k h);
 }

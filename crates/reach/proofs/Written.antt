@@ -1,5 +1,5 @@
 -- What writing one row of a region does to the region's cells.
-use Rattle.std.proofs.Common.{◌≡◌, ℕ, ◌<◌, List, [], length, get_or, sym, ◌∙◌, ap, subst, inl, inr}
+use Rattle.std.proofs.Common.{◌≡◌, ℕ, ◌<◌, List, [], length, get_or, sym, ◌∙◌, ap, inl, inr}
 use Rattle.std.specs.Prelude.{◌⊎◌, ◌↔◌}
 use Rattle.std.proofs.Math.ListN.{set}
 use Rattle.std.proofs.lemmas.Bool.{cases_eq}
@@ -18,10 +18,10 @@ pub record IsWritten (Region : Cell → Type 0) (row : ℕ) (Here : ℕ → Type
 
 -- a cell of a row is a bit of the row
 pub to_row : (rows : List (List ℕ)) (y : ℕ) (c : Cell) → c.row ≡ y → InRows rows c → HasBit (get_or rows y []) c.column
-to_row rows y c e h = subst (λ (n : ℕ). HasBit (get_or rows n []) c.column) e h
+to_row rows y c e h = search
 
 pub of_row : (rows : List (List ℕ)) (y : ℕ) (c : Cell) → c.row ≡ y → HasBit (get_or rows y []) c.column → InRows rows c
-of_row rows y c e h = subst (λ (n : ℕ). HasBit (get_or rows n []) c.column) (sym e) h
+of_row rows y c e h = search
 
 -- a cell is the cell of its column and its row
 pub as_at : (c : Cell) (y : ℕ) → c.row ≡ y → cell_at c.column y ≡ c

@@ -2,7 +2,7 @@
 //!
 //! With four words always, audits of narrow boards take 1.2 to 1.8 times the instructions, and `make` twice as many. A board of more than
 //! 63 columns gains nothing.
-ghost use Rattle.std.specs.Prelude.{◌≡◌, ◌↔◌, ◌⊎◌, ◌*◌, ◌<◌, ◌≤◌, IfOk, OnOk, OnErr, IsTrue, MatchBool};
+ghost use Rattle.std.specs.Prelude.{◌≡◌, ◌↔◌, ◌⊎◌, ◌*◌, ◌<◌, ◌≤◌, IfOk, OnOk, OnErr, IsTrue, MatchBool, true, false};
 ghost use Rattle.std.specs.FinSet as set;
 ghost use Rattle.cellset.specs.Cell.{IsOn};
 ghost use Rattle.cellset.specs.CellSet.{Has, Lacks};
@@ -68,7 +68,7 @@ impl Rows {
         ensures { IfOk result (λ r. (r.extent ≡ shape) × (r.members ≡ set.empty)) }
     {
         let occupied = Some(Worklist::none());
-        if shape.width() < 64 {
+        if is_narrow(shape) {
             let rows = ByWidth::Narrow(RowsOf::new(alloc, shape)?);
             return Ok(Rows { rows, occupied });
         }
@@ -81,7 +81,7 @@ impl Rows {
         ensures renewed { OnOk result ((self.new.extent ≡ shape) × (self.new.members ≡ set.empty)) }
         ensures same { OnErr result (self.new ≡ self.old) }
     {
-        let is_narrow = shape.width() < 64;
+        let is_narrow = is_narrow(shape);
         match &mut self.rows {
             ByWidth::Narrow(rows) if is_narrow => rows.renew(shape)?,
             ByWidth::Wide(rows) if !is_narrow => rows.renew(shape)?,
@@ -308,4 +308,12 @@ impl Rows {
             ByWidth::Wide(rows) => rows,
         }
     }
+}
+
+// Returns whether the rows of a grid have one word.
+fn is_narrow(shape: Shape) -> bool
+    ensures narrow { result ≡ true → shape.width < 64 }
+    ensures wide { result ≡ false → 64 ≤ shape.width }
+{
+    shape.width() < 64
 }

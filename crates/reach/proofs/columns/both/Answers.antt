@@ -16,4 +16,4 @@ pub loop-i-init : goal.loop-i-init
 loop-i-init g c = loaded_none _ _
 
 pub returns : goal.returns
-returns g c = loaded_whole _ _ c.loop-i.i c.loop-i.row (omega arith) (λ k p. bit_within c.args.a.now _ k c.told-a p.0) c.loop-i.invariant
+returns g c = grind (arith, loaded_whole, bit_within)

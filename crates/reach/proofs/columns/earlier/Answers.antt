@@ -15,4 +15,4 @@ pub loop-i-init : goal.loop-i-init
 loop-i-init g c = loaded_none _ _
 
 pub returns : goal.returns
-returns g c = loaded_all _ _ c.loop-i.i c.loop-i.row (omega arith) c.loop-i.invariant
+returns g c = grind (arith, loaded_all)

@@ -1,4 +1,4 @@
-use Rattle.std.proofs.Common.{inl, arith}
+use Rattle.std.proofs.Common.{arith}
 use Rattle.reach.proofs.Joins.{room_joined}
 use Rattle.reach.proofs.Pushing.{slid_added, slid_settled}
 use Rattle.reach.proofs.columns.slide.Goals as goal
@@ -16,10 +16,7 @@ returns-clause-closed g c =
     c.told-free c.between-mids.ensures c.fill.ensures.filled c.later-right.ensures c.earlier-left.ensures c.join.ensures.bits c.join-2.ensures.bits
 
 pub returns-clause-kept : goal.returns-clause-kept
-returns-clause-kept g c = λ k h. (c.join-2.ensures.bits k).1 (inl ((c.join.ensures.bits k).1 (inl h)))
+returns-clause-kept g c = grind arith
 
 pub returns-clause-room : goal.returns-clause-room
-returns-clause-room g c =
-    let first = room_joined c.join.result c.args.row.now c.join.new.row c.join.ensures.none c.join.ensures.some in
-    let second = room_joined c.join-2.result c.join.new.row c.join-2.new.row c.join-2.ensures.none c.join-2.ensures.some in
-    omega (arith, first, second)
+returns-clause-room g c = grind (arith, room_joined)

@@ -9,8 +9,7 @@ pub loop-step-preserved : goal.loop-step-preserved
 loop-step-preserved c = down_twice c.args.free c.args.seeds c.loop-step.got c.loop-step.run c.loop-step.step c.loop-step.invariant
 
 pub returns : goal.returns
-returns c = down_end c.args.free c.args.seeds c.loop-step.got c.loop-step.run c.loop-step.step (omega (arith, c.ranges.free))
-    (omega arith) c.loop-step.invariant
+returns c = down_end c.args.free c.args.seeds c.loop-step.got c.loop-step.run c.loop-step.step (omega arith) (omega arith) c.loop-step.invariant
 
 pub returns-then-free-got-eq0 : goal.returns-then-free-got-eq0
-returns-then-free-got-eq0 c = down_at_once c.args.free c.args.seeds (omega (arith, c.ranges.free)) c.if-free-got-eq0.true
+returns-then-free-got-eq0 c = down_at_once c.args.free c.args.seeds (omega arith) c.if-free-got-eq0.true

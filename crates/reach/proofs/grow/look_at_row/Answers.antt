@@ -2,7 +2,7 @@
 -- so it is closed again, and a step reaches each cell that was added (`look`).
 use Rattle.reach.specs.RowsOf.{InRows}
 use Rattle.reach.specs.Grown.{in_rows}
-use Rattle.std.proofs.Common.{length, refl, ◌∙◌, inr, arith, rules}
+use Rattle.std.proofs.Common.{length, arith, rules}
 use Rattle.std.proofs.Math.ListN.{length-set}
 use Rattle.reach.proofs.Chains.{look, row_filled, reached_on, work_written}
 use Rattle.reach.proofs.grow.look_at_row.Goals as goal
@@ -11,7 +11,7 @@ pub returns-clause-looked : goal.returns-clause-looked
 returns-clause-looked g c =
     let leads = g.T.StepKind.leads (in_rows c.args.free.now) in
     look leads c.args.row _ (length c.args.free.now) _ _ _ _ _ _ _ c.along.ensures.beside c.along.ensures.ends c.requires.row
-    (λ y e. omega (arith, e)) (λ e. omega (arith, e))
+    (λ y e. omega arith) (λ e. omega arith)
     (row_filled leads c.args.region.now c.args.row c.along.new.row (omega arith) c.along.ensures.kept c.along.ensures.sound c.along.ensures.closed)
     c.offer.ensures.offered c.offer-2.ensures.offered
 
@@ -21,24 +21,7 @@ returns-clause-on g c = λ shape free region q h.
     ((returns-clause-looked g c).sound q h)
 
 pub offer-requires-2 : goal.offer-requires-2
-offer-requires-2 g c = (
-  search rules,
-  (
-    search rules,
-    (
-      c.requires.inside,
-      (
-        c.offer.ensures.rows ∙ length-set c.args.region.now c.args.row c.along.new.row ∙ c.requires.rows,
-        (c.requires.few, (λ _. inr refl, (c.requires.row, c.offer.ensures.within))),
-      ),
-    ),
-  ),
-)
+offer-requires-2 g c = search (rules, length-set)
 
 pub returns-clause-falls : goal.returns-clause-falls
-returns-clause-falls g c =
-    let region = c.args.region.now in
-    let words = c.args.waiting.now.words in
-    let room = c.along.ensures.room in
-    let along = work_written region c.args.row c.along.new.row words words (omega arith) (omega (arith, room)) in
-    omega (arith, c.offer-2.ensures.falls, c.offer.ensures.falls, along)
+returns-clause-falls g c = search (rules, work_written)

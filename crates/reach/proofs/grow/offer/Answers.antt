@@ -3,11 +3,10 @@
 -- cells that it gained outweigh its place there (`work_grown`). If it didn't, region and worklist are the same, and so is the work that is
 -- left (`work_written`).
 use Rattle.reach.specs.Grown.{in_rows}
-use Rattle.std.proofs.Common.{◌≡◌, ℕ, ◌<◌, List, [], length, get_or, sym, ap, subst, arith}
-use Rattle.std.specs.Prelude.{◌⊎◌, ◌↔◌}
+use Rattle.std.proofs.Common.{◌≡◌, [], length, get_or, arith}
 use Rattle.std.proofs.lemmas.List.{get_or_read}
 use Rattle.cellset.proofs.Truth.{either}
-use Rattle.reach.specs.Bits.{HasBit, room_left}
+use Rattle.reach.specs.Bits.{HasBit}
 use Rattle.reach.proofs.Chains.{offered_more, offered_same, work_written, work_grown}
 use Rattle.reach.proofs.grow.offer.Goals as goal
 
@@ -17,9 +16,7 @@ returns-then-join-clause-offered g c =
     let row = c.join.new.row in
     let here_is : c.index-region-from.result ≡ get_or region c.args.from [] = get_or_read region c.args.from _ (omega arith) c.index-region-from.is [] in
     offered_more (g.T.StepKind.leads (in_rows c.args.free.now)) region c.args.from c.args.to c.across-way.result row (omega arith) c.across-way.ensures
-    (subst (λ (h : List ℕ). (k : ℕ) → HasBit row k ↔ (HasBit (get_or region c.args.to []) k ⊎
-    (HasBit h k × HasBit c.across-way.result k))) here_is c.join.ensures.bits)
-    (length c.args.free.now) (HasBit c.args.waiting.now.words) (HasBit c.add.new.self.words) c.add.ensures.added
+    (rw here_is at c.join.ensures.bits) (length c.args.free.now) (HasBit c.args.waiting.now.words) (HasBit c.add.new.self.words) c.add.ensures.added
 
 pub returns-else-join-clause-offered : goal.returns-else-join-clause-offered
 returns-else-join-clause-offered g c =
@@ -27,20 +24,13 @@ returns-else-join-clause-offered g c =
     let row = c.join.new.row in
     let here_is : c.index-region-from.result ≡ get_or region c.args.from [] = get_or_read region c.args.from _ (omega arith) c.index-region-from.is [] in
     offered_same (g.T.StepKind.leads (in_rows c.args.free.now)) region c.args.from c.args.to c.across-way.result row (omega arith) c.across-way.ensures
-    (subst (λ (h : List ℕ). (k : ℕ) → HasBit row k ↔ (HasBit (get_or region c.args.to []) k ⊎
-    (HasBit h k × HasBit c.across-way.result k))) here_is c.join.ensures.bits)
-    (length c.args.free.now) (HasBit c.args.waiting.now.words) (c.join.ensures.none c.if-join.false)
+    (rw here_is at c.join.ensures.bits) (length c.args.free.now) (HasBit c.args.waiting.now.words) (c.join.ensures.none c.if-join.false)
 
 pub returns-then-join-clause-within : goal.returns-then-join-clause-within
-returns-then-join-clause-within g c = λ k h.
-    either ((c.add.ensures.added k).0 h) (c.requires.within k) (λ e. subst (λ (n : ℕ). n < length c.args.free.now) (sym e) c.if-to-free.false)
+returns-then-join-clause-within g c = grind (arith, either)
 
 pub returns-then-join-clause-falls : goal.returns-then-join-clause-falls
-returns-then-join-clause-falls g c =
-    work_grown c.args.region.now c.args.to c.join.new.row c.args.waiting.now.words c.add.new.self.words (omega arith)
-    (c.join.ensures.some c.if-join.true) c.add.ensures.weight
+returns-then-join-clause-falls g c = grind (arith, work_grown)
 
 pub returns-else-join-clause-falls : goal.returns-else-join-clause-falls
-returns-else-join-clause-falls g c =
-    let same = ap room_left (c.join.ensures.none c.if-join.false) in
-    work_written c.args.region.now c.args.to c.join.new.row c.args.waiting.now.words c.args.waiting.now.words (omega arith) (omega (arith, same))
+returns-else-join-clause-falls g c = grind (arith, work_written)

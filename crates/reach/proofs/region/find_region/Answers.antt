@@ -1,9 +1,7 @@
-use Rattle.std.proofs.Common.{sym, subst}
 use Rattle.std.specs.Prelude.{◌↔◌}
 use Rattle.std.specs.FinSet as set
 use Rattle.std.specs.FinSet.{contains-empty}
-use Rattle.cellset.specs.Shape.{Extent}
-use Rattle.cellset.specs.Cell.{IsOn, cell_cmp}
+use Rattle.cellset.specs.Cell.{cell_cmp}
 use Rattle.cellset.specs.CellSet.{Has}
 use Rattle.cellset.specs.declared.cell.Cell.{Cell}
 use Rattle.cellset.proofs.Members.{lacks_where, not_both}
@@ -21,8 +19,8 @@ returns-clause-exact c =
     let start = c.subtract.new.self.members in
     let free : (p : Cell) → Has clear p ↔ Free p = λ p. (
       (λ h. let (on, gone) = (c.complement.ensures.members p).0 h in
-          record { on = subst (λ (e : Extent). IsOn e p) (sym c.requires.extent) on; no_wall = lacks_where walls p gone; no_bar = contains-empty cell_cmp p }),
-      (λ f. (c.complement.ensures.members p).1 (subst (λ (e : Extent). IsOn e p) c.requires.extent f.on, λ wall. not_both walls p wall f.no_wall)),
+          record { on = rw c.requires.extent on; no_wall = lacks_where walls p gone; no_bar = contains-empty cell_cmp p }),
+      (λ f. (c.complement.ensures.members p).1 (rw c.requires.extent at f.on, λ wall. not_both walls p wall f.no_wall)),
     ) in
     let seeded : (p : Cell) → Has start p ↔ (Has seeds p × Free p) = λ p. (
       (λ h. let (has, gone) = (c.subtract.ensures.members p).0 h in

@@ -1,18 +1,11 @@
-use Rattle.std.proofs.Common.{refl, ◌∙◌, arith}
+use Rattle.std.proofs.Common.{◌∙◌, arith}
 use Rattle.std.proofs.Math.ListN.{length-set}
 use Rattle.cellset.specs.Cell.{cell_at}
 use Rattle.reach.proofs.Loads.{done_more, done_all}
 use Rattle.reach.proofs.rows.complement.Goals as goal
 
 pub loop-y-init : goal.loop-y-init
-loop-y-init g c = record {
-  rows = refl;
-  cells = record {
-    done = λ q low. (λ h. absurd (c.requires q (omega arith) h), λ (some, _, _, _). absurd (omega (arith, low, some)));
-    rest =
-        λ q _. (λ h. h, λ h. h);
-  };
-}
+loop-y-init g c = grind arith
 
 pub loop-y-preserved : goal.loop-y-preserved
 loop-y-preserved g c =
@@ -28,4 +21,4 @@ loop-y-preserved g c =
     }
 
 pub returns-clause-cells : goal.returns-clause-cells
-returns-clause-cells g c = done_all _ _ c.loop-y.y c.loop-y.rows (omega arith) (λ q h. let low = h.1 in omega arith) c.loop-y.invariant.cells
+returns-clause-cells g c = grind (arith, done_all)

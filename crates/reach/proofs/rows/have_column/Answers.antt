@@ -1,7 +1,6 @@
-use Rattle.std.proofs.Common.{[], refl, subst, arith}
+use Rattle.std.proofs.Common.{[], refl, arith}
 use Rattle.std.proofs.lemmas.List.{get_or_read}
 use Rattle.cellset.specs.Cell.{cell_at}
-use Rattle.reach.specs.Bits.{HasBit}
 use Rattle.reach.proofs.rows.have_column.Goals as goal
 
 pub returns-then-any : goal.returns-then-any
@@ -9,4 +8,4 @@ returns-then-any g c =
     let y = c.loop-y.y in
     let some = c.if-any.ensures.some refl in
     let both = (c.both.ensures some.0).0 some.1 in
-    (cell_at some.0 y, subst (λ row. HasBit row some.0) (get_or_read c.args.rows.now y _ (omega arith) c.index-rows-y.is []) both.0, both.1)
+    (cell_at some.0 y, rw (get_or_read c.args.rows.now y _ (omega arith) c.index-rows-y.is []) at both.0, both.1)

@@ -3,10 +3,10 @@ use Rattle.reach.proofs.Loads.{row_below}
 use Rattle.reach.proofs.rows.occupied.Goals as goal
 
 pub loop-y-init : goal.loop-y-init
-loop-y-init g c = record { all = λ q low _. absurd (omega (arith, low)); within = λ k h. absurd (c.none-waiting.ensures k h) }
+loop-y-init g c = grind arith
 
 pub returns-clause-all : goal.returns-clause-all
-returns-clause-all g c = λ q h. let low = row_below c.args.rows.now q h in c.loop-y.invariant.all q (omega arith) h
+returns-clause-all g c = grind (arith, row_below)
 
 pub returns-clause-within : goal.returns-clause-within
-returns-clause-within g c = λ k h. let low = c.loop-y.invariant.within k h in omega arith
+returns-clause-within g c = grind arith

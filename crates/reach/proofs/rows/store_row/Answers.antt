@@ -1,4 +1,4 @@
-use Rattle.std.proofs.Common.{◌+◌, ◌*◌, ◌^◌, ◌<◌, get_or, refl, sym, ◌∙◌, subst, arith}
+use Rattle.std.proofs.Common.{◌+◌, ◌*◌, refl, sym, subst, arith}
 use Rattle.cellset.specs.Shape.{Extent}
 use Rattle.cellset.specs.Cell.{IsOn, cell_at}
 use Rattle.reach.proofs.Carries.{of_word}
@@ -11,17 +11,4 @@ insert_row-requires g c = λ k small is_set.
     (c.requires.on (64 * c.loop-part.part + k) (of_word c.args.row.now c.loop-part.part k (64 * c.loop-part.part + k) small refl (record { is = is_set })))
 
 pub loop-part-preserved : goal.loop-part-preserved
-loop-part-preserved g c =
-    let members = g.S.CellSet.members in
-    let word = get_or c.args.row.now c.loop-part.part 0 in
-    let fits : word < 2 ^ 64 = omega arith in
-    let was = members c.loop-part.into in
-    let now = members c.insert_row.new.self in
-    let union = c.insert_row.ensures.members in
-    record {
-      extent = c.insert_row.ensures.extent ∙ c.loop-part.invariant.extent;
-      stored = stored_more (members c.args.into.now) was now c.args.row.now c.args.y c.loop-part.part word refl fits
-          (row_kept was now c.args.y c.loop-part.part word fits union) (row_added was now c.args.y c.loop-part.part word fits union)
-          (row_only was now c.args.y c.loop-part.part word fits union)
-          c.loop-part.invariant.stored;
-    }
+loop-part-preserved g c = grind (arith, stored_more, row_kept, row_added, row_only)

@@ -1,4 +1,4 @@
-use Rattle.std.proofs.Common.{◌≡◌, [], get_or, refl, ◌∙◌, arith}
+use Rattle.std.proofs.Common.{◌≡◌, [], get_or, ◌∙◌, arith}
 use Rattle.std.proofs.Math.ListN.{length-set}
 use Rattle.std.proofs.lemmas.List.{get_or_read}
 use Rattle.cellset.specs.Cell.{cell_at}
@@ -6,7 +6,7 @@ use Rattle.reach.proofs.Loads.{done_none, done_more, done_all, row_below}
 use Rattle.reach.proofs.rows.subtract.Goals as goal
 
 pub loop-y-init : goal.loop-y-init
-loop-y-init g c = record { rows = refl; cells = done_none _ _ }
+loop-y-init g c = grind (arith, done_none)
 
 pub loop-y-preserved : goal.loop-y-preserved
 loop-y-preserved g c =
@@ -22,5 +22,4 @@ loop-y-preserved g c =
     }
 
 pub returns-clause-cells : goal.returns-clause-cells
-returns-clause-cells g c = done_all _ _ c.loop-y.y c.loop-y.rows (omega arith)
-    (λ q h. let low = row_below c.args.rows.now q h.0 in omega arith) c.loop-y.invariant.cells
+returns-clause-cells g c = grind (arith, done_all, row_below)

@@ -2,15 +2,12 @@
 -- bits from 1 to the width, and row 0 is left out, so the new rows have just the cells of the grid that the old ones lack
 -- (`complement_is`). They are as many as before, and on the grid, which is the invariant of the type. A cell is a member exactly if it is
 -- in the rows (`has_is`), before and after.
-use Rattle.std.proofs.Common.{◌≡◌, ℕ, ◌<◌, ◌≤◌, length, sym, ◌∙◌, ap, subst}
+use Rattle.std.proofs.Common.{◌≡◌, ℕ, ◌<◌, ◌≤◌, length, ◌∙◌, ap, subst}
 use Rattle.std.specs.Prelude.{◌↔◌}
-use Rattle.cellset.specs.Shape.{Extent}
-use Rattle.cellset.specs.Cell.{IsOn}
 use Rattle.cellset.specs.CellSet.{CellsOn, Has}
 use Rattle.cellset.specs.declared.cell.Cell.{Cell}
 use Rattle.reach.specs.Bits.{HasBit}
 use Rattle.reach.specs.RowsOf.{InRows}
-use Rattle.reach.specs.RowSet.{members_in}
 use Rattle.reach.proofs.Sets.{put_back, rows_put_back, has_is, complement_is}
 use Rattle.reach.proofs.rows.RowsOf.complement.Goals as goal
 
@@ -40,8 +37,7 @@ returns-clause-members g c = λ q.
     let is = has_is shape rows (λ p h. ((told p).0 h).0) q in
     let was = subst (λ (v : CellsOn). Has v.members q ↔ InRows old q) c.self.view_is (has_is shape old c.self.invariant.on q) in
     let extent = ap (λ (v : CellsOn). v.extent) c.self.view_is in (
-      (λ h. let (on, gone) = (told q).0 (is.0 (subst (λ r. Has (members_in shape r) q) whole h)) in
-          (subst (λ (e : Extent). IsOn e q) extent on, λ has. gone (was.0 has))),
-      (λ (on, gone). subst (λ r. Has (members_in shape r) q) (sym whole)
-          (is.1 ((told q).1 (subst (λ (e : Extent). IsOn e q) (sym extent) on, λ h. gone (was.1 h))))),
+      (λ h. let (on, gone) = (told q).0 (is.0 (rw whole at h)) in
+          (rw extent at on, λ has. gone (was.0 has))),
+      (λ (on, gone). rw whole (is.1 ((told q).1 (rw extent on, λ h. gone (was.1 h))))),
     )

@@ -1,6 +1,5 @@
-use Rattle.std.proofs.Common.{◌≡◌, ℕ, ◌+◌, ◌*◌, ◌<◌, length, sym, ◌∙◌, ap, subst}
+use Rattle.std.proofs.Common.{◌≡◌, ◌+◌, ◌*◌, ◌<◌, length, sym, ◌∙◌, ap}
 use Rattle.std.specs.Prelude.{◌↔◌}
-use Rattle.cellset.specs.Shape.{Extent}
 use Rattle.cellset.specs.Cell.{IsOn}
 use Rattle.cellset.specs.CellSet.{Has}
 use Rattle.cellset.specs.declared.cell.Cell.{Cell}
@@ -15,7 +14,7 @@ invariant_of-self g c =
     let kept : length rows ≡ length c.self.inside.rows.items = c.load.ensures.rows ∙ ap length c.deref_mut.ensures.value in
     let same_shape = c.requires.extent ∙ sym (ap (λ v. v.extent) c.self.view_is) in
     rows_put_back _ _ _ c.self.inside.rows.items rows c.self.inside.rows.ok.0 c.self.invariant kept
-    (λ q h. let (_, _, has) = (c.load.ensures.cells q).0 h in subst (λ (e : Extent). IsOn e q) same_shape (c.shape-shape.ensures.on q has))
+    (λ q h. let (_, _, has) = (c.load.ensures.cells q).0 h in rw same_shape at (c.shape-shape.ensures.on q has))
 
 pub returns-clause-members : goal.returns-clause-members
 returns-clause-members g c =
@@ -25,9 +24,9 @@ returns-clause-members g c =
     let kept : length rows ≡ length c.self.inside.rows.items = c.load.ensures.rows ∙ ap length c.deref_mut.ensures.value in
     let whole = put_back c.self.inside.rows.len c.self.inside.rows.items rows c.self.inside.rows.ok.0 kept in
     let same_shape = c.requires.extent ∙ sym (ap (λ v. v.extent) c.self.view_is) in
-    let on : (q : Cell) → Has s q → IsOn shape q = λ q has. subst (λ (e : Extent). IsOn e q) same_shape (c.shape-shape.ensures.on q has) in
+    let on : (q : Cell) → Has s q → IsOn shape q = λ q has. rw same_shape at (c.shape-shape.ensures.on q has) in
     let before : length c.deref_mut.result.now ≡ shape.height + 1 = ap length c.deref_mut.ensures.value ∙ c.self.invariant.long in
     let cells : (q : Cell) → InRows rows q ↔ ((q.row < shape.height + 1) × (q.column < 64 * g.row.N) × Has s q) =
-    subst (λ (n : ℕ). (q : Cell) → InRows rows q ↔ ((q.row < n) × (q.column < 64 * g.row.N) × Has s q)) before c.load.ensures.cells in
+    rw before at c.load.ensures.cells in
     let same = loaded_same shape rows s g.row.N c.self.invariant.wide on cells in
     ap (members_in shape) whole ∙ set_is shape rows (λ q h. on q ((same q).0 h)) s same

@@ -1,11 +1,10 @@
 -- The cell is on the grid, so its row is one of the rows. That row loses the cell's bit, and no other row changes, so the bits of all rows
 -- are the old ones without the cell's (`cell_removed` in `Written.antt`). They are still on the grid, which is the invariant of the type.
 -- The members are the cells of the bits (`Sets.antt`), so they are the old ones without the cell.
-use Rattle.std.proofs.Common.{◌≡◌, ℕ, ◌<◌, List, [], length, get_or, sym, ap, subst, arith}
+use Rattle.std.proofs.Common.{◌≡◌, ℕ, ◌<◌, [], length, get_or, ap, subst, arith}
 use Rattle.std.specs.Prelude.{◌↔◌}
 use Rattle.std.proofs.Math.ListN.{set}
 use Rattle.std.proofs.lemmas.List.{get_or_read}
-use Rattle.cellset.specs.Shape.{Extent}
 use Rattle.cellset.specs.Cell.{IsOn}
 use Rattle.cellset.specs.CellSet.{CellsOn, Has}
 use Rattle.cellset.specs.declared.cell.Cell.{Cell}
@@ -22,14 +21,14 @@ invariant_of-self g c =
     let cell = c.args.cell in
     let y = c.row.result in
     let row = c.remove.new.row in
-    let on : IsOn shape cell = subst (λ (e : Extent). IsOn e cell) (sym (ap (λ (v : CellsOn). v.extent) c.self.view_is)) c.requires in
+    let on : IsOn shape cell = rw (← (ap (λ (v : CellsOn). v.extent) c.self.view_is)) at c.requires in
     let bottom = on.bottom in
     let long = c.self.invariant.long in
     let at = c.row.ensures in
-    let within : y < length items = omega (arith, bottom, long, at) in
+    let within : y < length items = omega arith in
     let read : c.index_mut.result.now ≡ get_or items y [] = get_or_read items y _ within c.index_mut.ensures.value [] in
     let bits : (k : ℕ) → HasBit row k ↔ (HasBit (get_or items y []) k × (k ≡ cell.column → ⊥)) =
-    subst (λ (r : List ℕ). (k : ℕ) → HasBit row k ↔ (HasBit r k × (k ≡ cell.column → ⊥))) read (rw (← c.column.ensures) c.remove.ensures) in
+    rw (← read, ← c.column.ensures) c.remove.ensures in
     let told : (p : Cell) → InRows (set items y row) p ↔ (InRows items p × (p ≡ cell → ⊥)) = cell_removed items y row cell within at bits in
     rows_written _ shape y row items c.self.invariant (λ p h. c.self.invariant.on p ((told p).0 h).0)
 
@@ -40,14 +39,14 @@ returns-clause-members g c = λ q.
     let cell = c.args.cell in
     let y = c.row.result in
     let row = c.remove.new.row in
-    let on : IsOn shape cell = subst (λ (e : Extent). IsOn e cell) (sym (ap (λ (v : CellsOn). v.extent) c.self.view_is)) c.requires in
+    let on : IsOn shape cell = rw (← (ap (λ (v : CellsOn). v.extent) c.self.view_is)) at c.requires in
     let bottom = on.bottom in
     let long = c.self.invariant.long in
     let at = c.row.ensures in
-    let within : y < length items = omega (arith, bottom, long, at) in
+    let within : y < length items = omega arith in
     let read : c.index_mut.result.now ≡ get_or items y [] = get_or_read items y _ within c.index_mut.ensures.value [] in
     let bits : (k : ℕ) → HasBit row k ↔ (HasBit (get_or items y []) k × (k ≡ cell.column → ⊥)) =
-    subst (λ (r : List ℕ). (k : ℕ) → HasBit row k ↔ (HasBit r k × (k ≡ cell.column → ⊥))) read (rw (← c.column.ensures) c.remove.ensures) in
+    rw (← read, ← c.column.ensures) c.remove.ensures in
     let told : (p : Cell) → InRows (set items y row) p ↔ (InRows items p × (p ≡ cell → ⊥)) = cell_removed items y row cell within at bits in
     let is = has_is shape (set items y row) (λ p h. c.self.invariant.on p ((told p).0 h).0) q in
     let was = subst (λ (v : CellsOn). Has v.members q ↔ InRows items q) c.self.view_is (has_is shape items c.self.invariant.on q) in (

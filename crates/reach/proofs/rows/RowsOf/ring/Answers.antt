@@ -1,7 +1,6 @@
-use Rattle.std.proofs.Common.{subst}
 use Rattle.std.specs.Prelude.{◌↔◌}
 use Rattle.cellset.specs.Cell.{cell_at}
-use Rattle.cellset.specs.CellSet.{CellsOn, Has}
+use Rattle.cellset.specs.CellSet.{Has}
 use Rattle.cellset.specs.declared.cell.Cell.{Cell}
 use Rattle.reach.specs.Rings.{IsRing}
 use Rattle.reach.specs.RowsOf.{InRows}
@@ -33,4 +32,4 @@ returns g c =
     rw (← c.deref.ensures.value, ← c.row.ensures, ← c.column.ensures) c.read_ring.ensures in
     ring_by (InRows rows) (Has c.args.self.now.members) (λ q.
     let is = has_is c.self.inside.shape rows c.self.invariant.on q in
-    subst (λ (v : CellsOn). InRows rows q ↔ Has v.members q) c.self.view_is (is.1, is.0)) c.args.cell c.read_ring.result told
+    rw (← c.self.view_is) (is.1, is.0)) c.args.cell c.read_ring.result told

@@ -1,7 +1,6 @@
-use Rattle.std.proofs.Common.{◌≡◌, subst, inl, inr}
+use Rattle.std.proofs.Common.{inl, inr}
 use Rattle.std.specs.Prelude.{◌⊎◌, ◌↔◌}
-use Rattle.std.specs.FinSet as set
-use Rattle.cellset.specs.CellSet.{CellsOn, Has}
+use Rattle.cellset.specs.CellSet.{Has}
 use Rattle.cellset.specs.declared.cell.Cell.{Cell}
 use Rattle.cellset.proofs.Truth.{either}
 use Rattle.reach.specs.RowsOf.{InRows}
@@ -14,7 +13,7 @@ returns-clause-members g c =
     let new = g.S.CellSet.members c.store.new.into in
     let rows = c.self.inside.rows.items in
     let told : (q : Cell) → Has new q ↔ (Has old q ⊎ InRows rows q) = rw (← c.deref.ensures.value) c.store.ensures.members in
-    subst (λ (v : CellsOn). new ≡ set.union old v.members) c.self.view_is (union_is old _ new (λ q.
+    rw (← c.self.view_is) (union_is old _ new (λ q.
     let is = has_is c.self.inside.shape rows c.self.invariant.on q in (
       (λ h. either ((told q).0 h) (λ o. inl o) (λ r. inr (is.1 r))),
       (λ h. either h (λ o. (told q).1 (inl o)) (λ m. (told q).1 (inr (is.0 m)))),

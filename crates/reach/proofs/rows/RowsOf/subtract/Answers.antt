@@ -1,9 +1,8 @@
-use Rattle.std.proofs.Common.{◌≡◌, ℕ, List, length, sym, ◌∙◌, ap, subst}
+use Rattle.std.proofs.Common.{◌≡◌, length, ◌∙◌, ap, subst}
 use Rattle.std.specs.Prelude.{◌↔◌}
 use Rattle.cellset.specs.CellSet.{CellsOn, Has}
 use Rattle.cellset.specs.declared.cell.Cell.{Cell}
 use Rattle.reach.specs.RowsOf.{InRows}
-use Rattle.reach.specs.RowSet.{members_in}
 use Rattle.reach.proofs.Sets.{put_back, rows_put_back, has_is}
 use Rattle.reach.proofs.rows.RowsOf.subtract.Goals as goal
 
@@ -12,7 +11,7 @@ invariant_of-self g c =
     let rows = c.subtract.new.rows in
     let kept : length rows ≡ length c.self.inside.rows.items = c.subtract.ensures.rows ∙ ap length c.deref_mut.ensures.value in
     rows_put_back _ _ _ c.self.inside.rows.items rows c.self.inside.rows.ok.0 c.self.invariant kept
-    (λ q h. c.self.invariant.on q (subst (λ (r : List (List ℕ)). InRows r q) c.deref_mut.ensures.value ((c.subtract.ensures.cells q).0 h).0))
+    (λ q h. c.self.invariant.on q (rw c.deref_mut.ensures.value at ((c.subtract.ensures.cells q).0 h).0))
 
 pub returns-clause-members : goal.returns-clause-members
 returns-clause-members g c = λ q.
@@ -27,6 +26,6 @@ returns-clause-members g c = λ q.
     let is = has_is shape rows (λ p h. c.self.invariant.on p ((told p).0 h).0) q in
     let was = subst (λ (v : CellsOn). Has v.members q ↔ InRows old q) c.self.view_is (has_is shape old c.self.invariant.on q) in
     let other = subst (λ (v : CellsOn). Has v.members q ↔ InRows gone q) c.other.view_is (has_is c.other.inside.shape gone c.other.invariant.on q) in (
-      (λ h. let (here, not) = (told q).0 (is.0 (subst (λ r. Has (members_in shape r) q) whole h)) in (was.1 here, λ there. not (other.0 there))),
-      (λ (here, not). subst (λ r. Has (members_in shape r) q) (sym whole) (is.1 ((told q).1 (was.0 here, λ there. not (other.1 there))))),
+      (λ h. let (here, not) = (told q).0 (is.0 (rw whole at h)) in (was.1 here, λ there. not (other.0 there))),
+      (λ (here, not). rw whole (is.1 ((told q).1 (was.0 here, λ there. not (other.1 there))))),
     )

@@ -1,15 +1,10 @@
-use Rattle.std.proofs.Common.{ℕ, subst}
-use Rattle.std.specs.Prelude.{◌↔◌}
-use Rattle.cellset.specs.Cell.{cell_at}
-use Rattle.reach.specs.Bits.{HasBit}
-use Rattle.reach.specs.RowsOf.{InRows}
 use Rattle.reach.proofs.Pulling.{pulls_across}
 use Rattle.reach.proofs.step.ByPullStepBy.across.Goals as goal
 
 pub returns : goal.returns
 returns g c = λ k.
     let free = c.args.free.now in
-    let before = subst (λ (n : ℕ). HasBit c.row_at.result k ↔ InRows free (cell_at k n)) c.saturating_sub.ensures (c.row_at.ensures k) in
+    let before = rw c.saturating_sub.ensures at (c.row_at.ensures k) in
     let after = c.row_at-2.ensures k in
     let steps = pulls_across free c.args._from c.args.to k c.requires.beside in (
       (λ h. let (a, b) = (c.both.ensures k).0 h in steps.0 (before.0 a, after.0 b)),

@@ -1,4 +1,4 @@
-use Rattle.std.proofs.Common.{◌≡◌, ℕ, ◌+◌, ◌-◌, List, [], get_or, subst}
+use Rattle.std.proofs.Common.{◌≡◌, ℕ, ◌+◌, ◌-◌, [], get_or}
 use Rattle.std.specs.Prelude.{◌⊎◌}
 use Rattle.std.proofs.lemmas.List.{get_or_read}
 use Rattle.reach.specs.Bits.{HasBit}
@@ -15,7 +15,7 @@ returns-clause-sound g c = λ k h.
     let row = c.args.row.now in
     let free_is : c.index-free-y.result ≡ get_or free y [] = get_or_read free y _ c.requires.within c.index-free-y.is [] in
     let added : HasBit row k ⊎ IsMoved (HasBit (get_or free y [])) (HasBit row) k =
-    subst (λ (f : List ℕ). HasBit row k ⊎ IsMoved (HasBit f) (HasBit row) k) free_is (c.slide.ensures.added k h) in
+    rw free_is at (c.slide.ensures.added k h) in
     moved_here free y (HasBit row) k added
 
 pub returns-clause-closed : goal.returns-clause-closed
@@ -25,7 +25,7 @@ returns-clause-closed g c = λ j k h step.
     let new = c.slide.new.row in
     let free_is : c.index-free-y.result ≡ get_or free y [] = get_or_read free y _ c.requires.within c.index-free-y.is [] in
     let closed : (i : ℕ) → HasBit new i → IsBetween (HasBit (get_or free y [])) i → HasBit new (i - 1) × HasBit new (i + 1) =
-    subst (λ (f : List ℕ). (i : ℕ) → HasBit new i → IsBetween (HasBit f) i → HasBit new (i - 1) × HasBit new (i + 1)) free_is c.slide.ensures.closed in
+    rw free_is at c.slide.ensures.closed in
     pushes_closed free y (HasBit new) c.requires.inside closed j k step h
 
 pub returns-clause-beside : goal.returns-clause-beside

@@ -1,4 +1,4 @@
-use Rattle.std.proofs.Common.{◌≡◌, ℕ, List, [], get_or, subst}
+use Rattle.std.proofs.Common.{◌≡◌, ℕ, [], get_or}
 use Rattle.std.specs.Prelude.{◌⊎◌, ◌↔◌}
 use Rattle.std.proofs.lemmas.List.{get_or_read}
 use Rattle.reach.specs.Bits.{HasBit, IsFilled}
@@ -15,7 +15,7 @@ returns-clause-sound g c = λ k h.
     let y = c.args.y in
     let free_is : c.index-free-y.result ≡ get_or free y [] = get_or_read free y _ c.requires.within c.index-free-y.is [] in
     filled_reached (WalksTo (Passes (in_rows free))) y (HasBit c.args.row.now) (HasBit (get_or free y [])) (walks_enter free y) k
-    (subst (λ (f : List ℕ). IsFilled (λ j. HasBit c.args.row.now j ⊎ HasBit f j) (HasBit c.args.row.now) k) free_is ((c.fill_over.ensures.filled k).0 h))
+    (rw free_is at ((c.fill_over.ensures.filled k).0 h))
 
 pub returns-clause-closed : goal.returns-clause-closed
 returns-clause-closed g c = λ j k h step.
@@ -24,8 +24,7 @@ returns-clause-closed g c = λ j k h step.
     let row = c.args.row.now in
     let free_is : c.index-free-y.result ≡ get_or free y [] = get_or_read free y _ c.requires.within c.index-free-y.is [] in
     let filled : (i : ℕ) → HasBit c.fill_over.new.row i ↔ IsFilled (λ n. HasBit row n ⊎ HasBit (get_or free y []) n) (HasBit row) i =
-    subst (λ (f : List ℕ). (i : ℕ) → HasBit c.fill_over.new.row i ↔ IsFilled (λ n. HasBit row n ⊎ HasBit f n)
-    (HasBit row) i) free_is c.fill_over.ensures.filled in
+    rw free_is at c.fill_over.ensures.filled in
     (filled k).1 (walks_closed free y (HasBit row) j k step ((filled j).0 h))
 
 pub returns-clause-beside : goal.returns-clause-beside

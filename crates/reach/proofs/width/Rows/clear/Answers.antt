@@ -1,5 +1,3 @@
-use Rattle.std.proofs.Common.{subst}
-use Rattle.reach.specs.Rows.{IsByWidth}
 use Rattle.reach.proofs.Sets.{none_queued}
 use Rattle.reach.proofs.width.Rows.clear.Goals as goal
 use Rattle.reach.proofs.width.Rows.clear.Goals.{in-Narrow, in-Wide}
@@ -7,11 +5,11 @@ use Rattle.reach.proofs.width.Rows.clear.Goals.{in-Narrow, in-Wide}
 pub invariant_of-self : goal.invariant_of-self
 invariant_of-self c = elim c.match-self.branch [
   | in-Narrow w ↦ rw w.self-inside-is (
-    rw w.clear.ensures.extent (subst IsByWidth w.in-Narrow.is c.self.invariant.0),
+    rw w.clear.ensures.extent (rw w.in-Narrow.is at c.self.invariant.0),
     none_queued _ _ w.clear.ensures.members c.none.ensures,
   )
   | in-Wide w ↦ rw w.self-inside-is (
-    rw w.clear-in-Wide.ensures.extent (subst IsByWidth w.in-Wide.is c.self.invariant.0),
+    rw w.clear-in-Wide.ensures.extent (rw w.in-Wide.is at c.self.invariant.0),
     none_queued _ _ w.clear-in-Wide.ensures.members c.none.ensures,
   )
 ]

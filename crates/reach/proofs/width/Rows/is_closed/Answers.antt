@@ -1,9 +1,9 @@
-use Rattle.std.proofs.Common.{◌≡◌, true, false, refl, subst}
+use Rattle.std.proofs.Common.{◌≡◌, true, false, refl}
 use Rattle.std.specs.Prelude.{◌↔◌, IsTrue, MatchBool}
 use Rattle.std.proofs.lemmas.Bool.{false≢true}
 use Rattle.std.specs.FinSet as set
 use Rattle.std.specs.FinSet.{contains}
-use Rattle.cellset.specs.CellSet.{Cells, Has}
+use Rattle.cellset.specs.CellSet.{Has}
 use Rattle.cellset.specs.declared.cell.Cell.{Cell}
 use Rattle.cellset.proofs.Members.{has_or_lacks, has_empty, not_both}
 use Rattle.reach.specs.Reached.{Reached, at_seed, by_step, IsClosedUnder}
@@ -19,8 +19,7 @@ returns g c =
     elim c.is_empty.result as (λ b. MatchBool b (more ≡ set.empty) ((q : Cell) × Has more q) → IsTrue b ↔ IsClosedUnder leads (Has cells)) [
       | true ↦ λ none. (
         (λ _ p q here step. has_or_lacks cells q (λ has. has) (λ lacks.
-            has_empty q (subst (λ (s : Cells). Has s q) none
-            ((c.subtract.ensures.members q).1 ((grown q).1 (by_step p (at_seed here) step), λ has. not_both cells q has lacks))))),
+            has_empty q (rw none at ((c.subtract.ensures.members q).1 ((grown q).1 (by_step p (at_seed here) step), λ has. not_both cells q has lacks))))),
         (λ _. refl),
       )
       | false ↦ λ (q, has). (

@@ -1,9 +1,8 @@
 -- The invariant says that the rows have none of the cells seen so far. If they have the next cell, it is in both. Otherwise the invariant
 -- holds with it. At the end every cell of the set has been seen (`MemberLists.antt` of `cellset`).
-use Rattle.std.proofs.Common.{sym, ◌∙◌, subst}
+use Rattle.std.proofs.Common.{sym, ◌∙◌}
 use Rattle.std.proofs.lemmas.Bool.{true≢false}
 use Rattle.std.proofs.lemmas.List.Elements.{Contains-push_cases}
-use Rattle.cellset.specs.CellSet.{Lacks}
 use Rattle.cellset.proofs.Members.{lacks_where}
 use Rattle.cellset.proofs.MemberLists.{goes_on, next_has, next_came, all_came}
 use Rattle.cellset.proofs.Truth.{either}
@@ -26,7 +25,7 @@ loop-cell-preserved g c =
       all = next_came l.yielded c.next.new.self c.in-Some.cell whole;
       passed = λ q came. either (Contains-push_cases l.yielded c.in-Some.cell q came)
           (λ old. l.invariant.passed q old)
-          (λ here. subst (Lacks others) here (lacks_where others _ (λ has. true≢false (sym (c.has.ensures.1 has) ∙ c.if-has.false))));
+          (λ here. rw here at (lacks_where others _ (λ has. true≢false (sym (c.has.ensures.1 has) ∙ c.if-has.false))));
     }
 
 pub returns : goal.returns
