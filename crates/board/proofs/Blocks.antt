@@ -53,12 +53,12 @@ pub of_kind : (lane : ℕ → ℕ) (is_kind : ℕ → Bool) (n : ℕ) (block lan
     → (k : ℕ) → k < n → bit (mask_l (map (top 7) lanes) % 2 ^ 64) k ≡ is_kind (get_or block k 0)
 of_kind lane is_kind n block lanes most fits are agree k small =
     let long = fits.0 in
-    let within : k < length block = omega (arith, long, small) in
+    let within : k < length block = omega arith in
     let tops = map (top 7) (map lane block) in
-    let few : length tops ≤ 64 = omega (arith, long, most, length-map block lane, length-map (map lane block) (top 7)) in
+    let few : length tops ≤ 64 = omega (arith, length-map block lane, length-map (map lane block) (top 7)) in
     ap (λ l. bit (mask_l (map (top 7) l) % 2 ^ 64) k) are
     ∙ ap (λ n. bit n k) (mask_l-mod tops 64 few) ∙ bit_of_lanes tops k
-    ∙ get_or-map (top 7) (map lane block) k 0 false (omega (arith, within, length-map block lane)) ∙ ap (top 7) (get_or-map lane block k 0 0 within)
+    ∙ get_or-map (top 7) (map lane block) k 0 false (omega (arith, length-map block lane)) ∙ ap (top 7) (get_or-map lane block k 0 0 within)
     ∙ agree_below_at (λ b. top 7 (lane b)) is_kind 256 (get_or block k 0) agree (Each1-get_or (Fits w8) block k 0 within fits.1).fits
 
 -- ---- a table of 16 lanes
@@ -76,10 +76,10 @@ looked_up table v long =
     let places = zip2_splat bit_and v 16 15 long in
     ap (swz_l w8 16 table 0) places
     ∙ ext_get_or 0 _ _ (length-swz_l w8 16 table 0 (map low v) ∙ length-map v low ∙ sym (length-map v (λ b. get_or table (low b) 0))) (λ i h.
-    let within : i < length v = omega (arith, h, length-swz_l w8 16 table 0 (map low v), length-map v low) in
+    let within : i < length v = omega (arith, length-swz_l w8 16 table 0 (map low v), length-map v low) in
     let is = get_or-map low v i 0 0 within in
-    get_or-swz_l_below w8 16 table 0 (map low v) i (omega (arith, within, length-map v low)) (omega (arith, is, and_le_r (get_or v i 0) 15))
-    ∙ ap (λ k. get_or table k 0) (let row : 16 * ((0 + i) / 16) ≡ 0 = omega (arith, within, long) in omega (arith, row, is))
+    get_or-swz_l_below w8 16 table 0 (map low v) i (omega (arith, length-map v low)) (omega (arith, and_le_r (get_or v i 0) 15))
+    ∙ ap (λ k. get_or table k 0) (let row : 16 * ((0 + i) / 16) ≡ 0 = omega arith in omega arith)
     ∙ sym (get_or-map (λ b. get_or table (low b) 0) v i 0 0 within))
 
 -- ---- the columns of a row
@@ -92,22 +92,22 @@ pub columns_word : (is_kind : ℕ → Bool) → is_kind space ≡ false → (tex
     → IsWordOf is_kind (take len text) part word
 columns_word is_kind no_floor text len part from count bits word from_is count_is within long is lead inside past k small = elim (cases_lt k (1 - part)) [
   | inl before ↦
-      let column : 64 * part + k ≡ 0 = omega (arith, before) in
+      let column : 64 * part + k ≡ 0 = omega arith in
       lead k before ∙ sym (ap (λ c. is_kind (nth (take len text) c space)) column ∙ no_floor)
   | inr at ↦
       let j = k - (1 - part) in
-      let place : j + (1 - part) ≡ k = omega (arith, at) in
-      let column : 64 * part + k ≡ suc (from + j) = omega (arith, at, from_is) in
-      let low : j + (1 - part) < 64 = omega (arith, place, small) in
+      let place : j + (1 - part) ≡ k = omega arith in
+      let column : 64 * part + k ≡ suc (from + j) = omega arith in
+      let low : j + (1 - part) < 64 = omega arith in
       let here : (b : Bool) → b ≡ is_kind (get_or (take len text) (from + j) space) → b ≡ is_kind (nth (take len text) (64 * part + k) space) = λ b e. e
       ∙ sym (ap (λ c. is_kind (nth (take len text) c space)) column) in
       ap (bit word) (sym place) ∙ here (bit word (j + (1 - part))) (elim (cases_lt j count) [
         | inl has ↦
-            inside j has low ∙ is j (omega (arith, has, low))
-            ∙ ap is_kind (get_or_default text (from + j) 0 space (omega (arith, has, count_is, long))
-            ∙ sym (get_or-take len text (from + j) space (omega (arith, has, count_is))))
+            inside j has low ∙ is j (omega arith)
+            ∙ ap is_kind (get_or_default text (from + j) 0 space (omega arith)
+            ∙ sym (get_or-take len text (from + j) space (omega arith)))
         | inr lacks ↦
             past j lacks low ∙ sym (ap is_kind (get_or_past (take len text) (from + j) space
-            (let size = length-take-le len text long in omega (arith, size, lacks, count_is, within))) ∙ no_floor)
+            (let size = length-take-le len text long in omega arith)) ∙ no_floor)
       ])
 ]

@@ -22,11 +22,11 @@ use Rattle.board.specs.Levels.{is_board_line}
 module _ (is_kind : ℕ → Bool) where
   pub no_byte : (line : List ℕ) → ((i : ℕ) → i < length line → is_kind (get_or line i 0) ≡ false) → list_any is_kind line ≡ false
   no_byte [] none = refl
-  no_byte (b ∷ line) none = (λ k. none 0 (omega arith) k || no_byte line (λ i lt. none (suc i) (omega (arith, lt))) k)
+  no_byte (b ∷ line) none = (λ k. none 0 (omega arith) k || no_byte line (λ i lt. none (suc i) (omega arith)) k)
 
   pub each_byte : (line : List ℕ) → ((i : ℕ) → i < length line → is_kind (get_or line i 0) ≡ true) → list_all is_kind line ≡ true
   each_byte [] all = refl
-  each_byte (b ∷ line) all = (λ k. all 0 (omega arith) k && each_byte line (λ i lt. all (suc i) (omega (arith, lt))) k)
+  each_byte (b ∷ line) all = (λ k. all 0 (omega arith) k && each_byte line (λ i lt. all (suc i) (omega arith)) k)
 
 -- ---- the first 16 bits of a word
 first_true : (k : ℕ) → k < 16 → bit 65535 k ≡ true
@@ -41,9 +41,9 @@ first_only k is = elim (cases_lt k 16) [
 set_bit : (word : ℕ) → bit_and word 65535 ≢ 0 → (k : ℕ) × (k < 16) × (bit word k ≡ true)
 set_bit word some =
     let few = bit_and word 65535 in
-    let fits : few < 2 ^ 64 = let low = and_mask word 16 in omega (arith, low) in
+    let fits : few < 2 ^ 64 = let low = and_mask word 16 in omega arith in
     let k = trailing_zeros w64 few in
-    let lowest = bit_at-trailing_zeros w64 few (omega (arith, some)) fits in
+    let lowest = bit_at-trailing_zeros w64 few (omega arith) fits in
     let both = and_parts (bit word k) (bit 65535 k) (sym (bit-and word 65535 k) ∙ ap (λ b. nat_eq b 1) lowest.1) in
     (k, first_only k both.1, both.0)
 
@@ -75,8 +75,8 @@ of_block is_kind line n from word b near is bits before i low = elim (cases_lt i
   | inl old ↦ before i old
   | inr new ↦
       let k = i - from in
-      let place : from + k ≡ i = omega (arith, near, new) in
-      let small : k < 16 = omega (arith, near, new, low) in
+      let place : from + k ≡ i = omega arith in
+      let small : k < 16 = omega arith in
       ap (λ j. is_kind (get_or line j 0)) (sym place) ∙ sym (is k small) ∙ bits k small
 ]
 
@@ -87,8 +87,8 @@ module _ (line : List ℕ) (from word : ℕ) (inside : from + 16 ≤ length line
       let at = set_bit (bit_not w64 word) some in
       let small = at.1 in
       let foreign : is_board_character (get_or line (from + at.0) 0) ≡ false = sym (is at.0 small)
-      ∙ not_true (bit word at.0) (sym (bit-not word at.0 fits (omega (arith, small))) ∙ at.2) in
-      ap (λ v. list_any is_wall line && v) (list_all_at is_board_character line (from + at.0) 0 (omega (arith, small, inside)) foreign)
+      ∙ not_true (bit word at.0) (sym (bit-not word at.0 fits (omega arith)) ∙ at.2) in
+      ap (λ v. list_any is_wall line && v) (list_all_at is_board_character line (from + at.0) 0 (omega arith) foreign)
       ∙ and-false (list_any is_wall line)
 
   -- a line with a wall in one of its blocks has a wall
@@ -96,13 +96,13 @@ module _ (line : List ℕ) (from word : ℕ) (inside : from + 16 ≤ length line
   wall_block is some =
       let at = set_bit word some in
       let small = at.1 in
-      list_any_at is_wall line (from + at.0) 0 (omega (arith, small, inside)) (sym (is at.0 small) ∙ at.2)
+      list_any_at is_wall line (from + at.0) 0 (omega arith) (sym (is at.0 small) ∙ at.2)
 
 module _ (line : List ℕ) (n from word : ℕ) (has_wall : Bool) (inside : from + 16 ≤ length line) (near : from ≤ n) (fits : word < 2 ^ 64)
     (is : IsBlockOf is_board_character line from word) (none : bit_and (bit_not w64 word) 65535 ≡ 0) (so_far : IsTested line n has_wall) where
   all_characters : (i : ℕ) → i < from + 16 → is_board_character (get_or line i 0) ≡ true
   all_characters = of_block is_board_character line n from word true near is
-      (λ k small. not_false (bit word k) (sym (bit-not word k fits (omega (arith, small))) ∙ no_bit (bit_not w64 word) none k small)) so_far.all
+      (λ k small. not_false (bit word k) (sym (bit-not word k fits (omega arith)) ∙ no_bit (bit_not w64 word) none k small)) so_far.all
 
   pub tested_wall : list_any is_wall line ≡ true → IsTested line (from + 16) true
   tested_wall wall = record {
@@ -122,9 +122,9 @@ module _ (line : List ℕ) (n from word : ℕ) (has_wall : Bool) (inside : from 
 
 pub tested_all : (line : List ℕ) (n : ℕ) (has_wall : Bool) → length line ≤ n → IsTested line n has_wall → has_wall ≡ is_board_line line
 tested_all line n has_wall long tested =
-    let all : list_all is_board_character line ≡ true = each_byte is_board_character line (λ i lt. tested.all i (omega (arith, lt, long))) in
+    let all : list_all is_board_character line ≡ true = each_byte is_board_character line (λ i lt. tested.all i (omega arith)) in
     by has_wall refl ∙ sym (and-true (list_any is_wall line)) ∙ ap (λ v. list_any is_wall line && v) (sym all)
   where
     by : (b : Bool) → has_wall ≡ b → has_wall ≡ list_any is_wall line
     by true is = is ∙ sym (tested.wall is)
-    by false is = is ∙ sym (no_byte is_wall line (λ i lt. tested.no_wall is i (omega (arith, lt, long))))
+    by false is = is ∙ sym (no_byte is_wall line (λ i lt. tested.no_wall is i (omega arith)))

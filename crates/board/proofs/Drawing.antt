@@ -43,9 +43,9 @@ nth_push_other xs x d (suc k) other = ⊎_elim
     (λ inside. get_or_append_left xs (x ∷ []) d k inside)
     (λ past.
     let beyond : length xs < k = ⊎_elim (λ is. absurd (other (let one : suc (length xs) ≡ length xs + 1 = omega arith in ap suc is ∙ one)))
-    (λ apart. omega (arith, past, apart)) (cases_eq k (length xs)) in
+    (λ apart. omega arith) (cases_eq k (length xs)) in
     let long = length_push xs x in
-    get_or_past (xs ++ x ∷ []) k d (omega (arith, long, beyond)) ∙ sym (get_or_past xs k d past))
+    get_or_past (xs ++ x ∷ []) k d (omega arith) ∙ sym (get_or_past xs k d past))
     (cases_lt k (length xs))
 
 -- ---- characters
@@ -96,14 +96,14 @@ same_truth false false there back = refl
 module _ (is_kind : ℕ → Bool) (no_floor : is_kind space ≡ false) where
   drawn_none : (cells : Cells) → cells ≡ set.empty → IsDrawn is_kind [] cells
   drawn_none cells e = record {
-    shows = λ q. ap (λ (s : Cells). contains s q) e ∙ contains-empty cell_cmp q ∙ sym (ap is_kind (no_rows q) ∙ no_floor);
+    shows = λ q. ap (λ s. contains s q) e ∙ contains-empty cell_cmp q ∙ sym (ap is_kind (no_rows q) ∙ no_floor);
     count = ap set.len e ∙ len-empty cell_cmp;
   }
 
   drawn_row : (done : List (List ℕ)) (cells : Cells) → IsDrawn is_kind done cells → IsDrawn is_kind (done ++ [] ∷ []) cells
   drawn_row done cells d = record {
     shows = λ q. d.shows q ∙ ap is_kind (sym (empty_row done q));
-    count = let more = sum_by_push (count_by is_kind) done [] in let same_count = d.count in omega (arith, more, same_count);
+    count = let more = sum_by_push (count_by is_kind) done [] in let same_count = d.count in omega arith;
   }
 
   drawn_shows : (done : List (List ℕ)) (part : List ℕ) (b : ℕ) (cells : Cells) → ShowsKind is_kind (done ++ part ∷ []) cells
@@ -136,11 +136,11 @@ module _ (is_kind : ℕ → Bool) (no_floor : is_kind space ≡ false) where
       let size = ap set.len (cond-true (is_kind b) (set.insert cells k) cells yes) ∙ len-insert cells_total cells k
       ∙ ap (λ v. cond v (set.len cells) (set.len cells + 1)) absent in
       let one = cond-true {A = ℕ} (is_kind b) 1 0 yes in
-      omega (arith, size, one, whole, before, row, so_far))
+      omega arith)
       (λ no.
       let size = ap set.len (cond-false (is_kind b) (set.insert cells k) cells no) in
       let none = cond-false {A = ℕ} (is_kind b) 1 0 no in
-      omega (arith, size, none, whole, before, row, so_far))
+      omega arith)
       (cases_Bool (is_kind b))
 
   drawn_more : (done : List (List ℕ)) (part : List ℕ) (b : ℕ) (cells : Cells) → IsDrawn is_kind (done ++ part ∷ []) cells
@@ -149,17 +149,17 @@ module _ (is_kind : ℕ → Bool) (no_floor : is_kind space ≡ false) where
 
   more_columns : (done : List (List ℕ)) (part rest : List ℕ) (cells : Cells) → IsDrawn is_kind (done ++ part ∷ []) cells
       → (all : Cells) × IsDrawn is_kind (done ++ (part ++ rest) ∷ []) all
-  more_columns done part [] cells d = (cells, subst (λ (row : List ℕ). IsDrawn is_kind (done ++ row ∷ []) cells) (sym (append-nil part)) d)
+  more_columns done part [] cells d = (cells, rw (append-nil part) d)
   more_columns done part (b ∷ rest) cells d =
       let more = more_columns done (part ++ b ∷ []) rest _ (drawn_more done part b cells d) in
-      (more.0, subst (λ (row : List ℕ). IsDrawn is_kind (done ++ row ∷ []) more.0) (append_assoc part (b ∷ []) rest) more.1)
+      (more.0, rw (append_assoc part (b ∷ []) rest) at more.1)
 
   more_rows : (done rest : List (List ℕ)) (cells : Cells) → IsDrawn is_kind done cells → (all : Cells) × IsDrawn is_kind (done ++ rest) all
-  more_rows done [] cells d = (cells, subst (λ (rows : List (List ℕ)). IsDrawn is_kind rows cells) (sym (append-nil done)) d)
+  more_rows done [] cells d = (cells, rw (append-nil done) d)
   more_rows done (row ∷ rest) cells d =
       let here = more_columns done [] row cells (drawn_row done cells d) in
       let more = more_rows (done ++ row ∷ []) rest here.0 here.1 in
-      (more.0, subst (λ (rows : List (List ℕ)). IsDrawn is_kind rows more.0) (append_assoc done (row ∷ []) rest) more.1)
+      (more.0, rw (append_assoc done (row ∷ []) rest) at more.1)
 
   -- a set that shows the kind is the one whose cells were put in one by one
   counted : (rows : List (List ℕ)) (cells : Cells) → ShowsKind is_kind rows cells → IsDrawn is_kind rows cells
@@ -174,8 +174,8 @@ module _ (is_kind : ℕ → Bool) (no_floor : is_kind space ≡ false) where
   of_row line (suc k) is = (
     omega arith,
     ⊎_elim
-        (λ inside. omega (arith, inside))
-        (λ past. absurd (false≢true (sym no_floor ∙ ap is_kind (sym (nth_past line (suc k) space (omega (arith, past)))) ∙ is)))
+        (λ inside. omega arith)
+        (λ past. absurd (false≢true (sym no_floor ∙ ap is_kind (sym (nth_past line (suc k) space (omega arith))) ∙ is)))
         (cases_lt k (length line)),
   )
 
@@ -184,8 +184,8 @@ module _ (is_kind : ℕ → Bool) (no_floor : is_kind space ≡ false) where
       → IsWordOf is_kind line part word → IsRowOn on row part word
   word_on line row part word shape on same high wide is k small one =
       let in_line = of_row line (64 * part + k) (sym (is k small) ∙ one) in
-      subst (λ (e : Extent). IsOn e (row_cell row part k)) (sym same)
-      (record { top = high.0; bottom = high.1; left = in_line.0; right = omega (arith, in_line.1, wide) })
+      subst (λ e. IsOn e (row_cell row part k)) (sym same)
+      (record { top = high.0; bottom = high.1; left = in_line.0; right = omega arith })
 
   pub part_added : (line : List ℕ) (row part word : ℕ) (old now next : Cells) → IsWordOf is_kind line part word
       → next ≡ set.union now (cells_of_row row part word)
@@ -196,21 +196,20 @@ module _ (is_kind : ℕ → Bool) (no_floor : is_kind space ≡ false) where
         (λ before. kept q (so_far.added q here before shows))
         (λ from.
         let k = q.column - 64 * part in
-        let column : q.column ≡ 64 * part + k = omega (arith, from) in
+        let column : q.column ≡ 64 * part + k = omega arith in
         let place : q ≡ row_cell row part k = ap (λ n. cell_at n q.row) column ∙ ap (cell_at (64 * part + k)) here in
-        let small : k < 64 = omega (arith, low, from) in
+        let small : k < 64 = omega arith in
         now_has q ∙ right_true (contains now q) (contains (cells_of_row row part word) q)
-        (subst (Has (cells_of_row row part word)) (sym place)
-        (row_has row part word 64 k small (is k small ∙ ap (λ n. is_kind (nth line n space)) (sym column) ∙ shows))))
+        (rw place (row_has row part word 64 k small (is k small ∙ ap (λ n. is_kind (nth line n space)) (sym column) ∙ shows))))
         (cases_lt q.column (64 * part));
     only = λ q h. or_cases (contains now q) (contains (cells_of_row row part word) q) (sym (now_has q) ∙ h)
         (λ was. so_far.only q was)
         (λ here. let i = has_in_row row part word 64 q here in inr
-        (ap (λ (c : Cell). c.row) i.here, ap (λ (c : Cell). is_kind (nth line c.column space)) i.here ∙ sym (is i.k i.below) ∙ i.is_set));
+        (ap (λ c. c.row) i.here, ap (λ c. is_kind (nth line c.column space)) i.here ∙ sym (is i.k i.below) ∙ i.is_set));
   }
     where
       now_has : (q : Cell) → contains next q ≡ (contains now q || contains (cells_of_row row part word) q)
-      now_has q = ap (λ (s : Cells). contains s q) union ∙ contains-union cells_total now (cells_of_row row part word) q
+      now_has q = ap (λ s. contains s q) union ∙ contains-union cells_total now (cells_of_row row part word) q
 
       kept : (q : Cell) → Has now q → Has next q
       kept q h = now_has q ∙ left_true (contains now q) (contains (cells_of_row row part word) q) h
@@ -229,7 +228,7 @@ module _ (is_kind : ℕ → Bool) (no_floor : is_kind space ≡ false) where
       (λ here.
       let kind = ap is_kind (sym (in_line q here)) ∙ is in
       let right = (of_row line q.column kind).1 in
-      drawn.added q (here ∙ at) (omega (arith, right, long)) kind)
+      drawn.added q (here ∙ at) (omega arith) kind)
       (λ other. drawn.kept q (shows q ∙ ap is_kind (sym (elsewhere q other)) ∙ is))
       (cases_eq q.row (length done + 1)))
     where

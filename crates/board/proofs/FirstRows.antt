@@ -22,7 +22,7 @@ pub row_taken : (text row rest : List ℕ) → IsFirstLine text row rest → (ta
 row_taken text row rest first =
     let more = row_and_more text row rest first in
     let size = ap length more.1 ∙ length-append row more.0 in
-    (ap (take (length row)) more.1 ∙ take-append_seam row more.0, omega (arith, size))
+    (ap (take (length row)) more.1 ∙ take-append_seam row more.0, omega arith)
 
 -- the rows of the text are its first row and the rows of the rest
 pub row_split : (text row rest : List ℕ) → IsFirstLine text row rest → lines_in text ≡ take (length row) text ∷ lines_in rest

@@ -32,7 +32,7 @@ pub run_none : (text : List ℕ) → IsRunSoFar text text 0 0
 run_none text = record {
   run = [];
   cut = cut_none text;
-  board = subst (All IsBoardLine) (sym lines_in-nil) (All-nil IsBoardLine);
+  board = rw lines_in-nil (All-nil IsBoardLine);
   width_is = sym (ap width_of lines_in-nil);
   height_is = sym (ap length lines_in-nil);
   few = omega arith;
@@ -40,7 +40,7 @@ run_none text = record {
 
 width_push : (rows : List (List ℕ)) (row : List ℕ) → width_of (rows ++ row ∷ []) ≡ max (length row) (width_of rows)
 width_push [] row = refl
-width_push (r ∷ rows) row = let inner = width_push rows row in omega (arith, inner)
+width_push (r ∷ rows) row = let inner = width_push rows row in omega arith
 
 -- One more board line makes the run so far longer.
 pub run_more : (text rest row after : List ℕ) (width height : ℕ) → IsRunSoFar text rest width height → IsFirstLine rest row after → IsBoardLine row
@@ -54,10 +54,10 @@ run_more text rest row after width height so_far first is =
     record {
       run = run ++ first.ended;
       cut = cut_more text run rest first.ended after so_far.cut first.cut;
-      board = subst (All IsBoardLine) (sym rows) (All-push IsBoardLine (lines_in run) row so_far.board is);
+      board = rw rows (All-push IsBoardLine (lines_in run) row so_far.board is);
       width_is = ap (max (length row)) so_far.width_is ∙ sym (width_push (lines_in run) row) ∙ ap width_of (sym rows);
       height_is = ap (λ n. n + 1) so_far.height_is ∙ sym (length-append (lines_in run) (row ∷ [])) ∙ ap length (sym rows);
-      few = let few = so_far.few in omega (arith, few, first_some rest row after first, length-append run first.ended);
+      few = let few = so_far.few in omega (arith, first_some rest row after first, length-append run first.ended);
     }
 
 module _ (text rest : List ℕ) (width height : ℕ) (so_far : IsRunSoFar text rest width height) where
@@ -66,7 +66,7 @@ module _ (text rest : List ℕ) (width height : ℕ) (so_far : IsRunSoFar text r
 
   -- The text has room for one more line of the run.
   pub height_within : 0 < length rest → height + 1 ≤ length text
-  height_within some = let few = so_far.few in omega (arith, some, few, ap length so_far.cut.parts, length-append so_far.run rest)
+  height_within some = let few = so_far.few in omega (arith, ap length so_far.cut.parts, length-append so_far.run rest)
 
   pub run_is : so_far.run ≡ take (length text - length rest) text
   run_is =
@@ -80,7 +80,7 @@ module _ (text rest : List ℕ) (width height : ℕ) (so_far : IsRunSoFar text r
     whole = cut_lines_in text so_far.run rest so_far.cut ∙ ap (λ l. lines_in so_far.run ++ l) (first_lines rest row after first);
     board = so_far.board;
     text_between = All-cons IsText row [] is (All-nil IsText);
-    ends = λ none. absurd (omega (arith, none));
+    ends = λ none. absurd (omega arith);
     shorter = λ _. omega (arith, run_within, first_shorter rest row after first);
   }
 
@@ -95,7 +95,7 @@ module _ (text rest : List ℕ) (width height : ℕ) (so_far : IsRunSoFar text r
     board = so_far.board;
     text_between = All-nil IsText;
     ends = λ _. none;
-    shorter = λ some. omega (arith, none, some);
+    shorter = λ some. omega arith;
   }
 
 -- ---- the levels of what is cut
@@ -123,7 +123,7 @@ after_run rows lines levels run ends are = (lines, record { before = []; whole =
 -- lines of text, or nothing at all, end a run
 ends_run : (between after : List (List ℕ)) → All IsText between → (length between ≡ 0 → length after ≡ 0) → EndsRun (between ++ after)
 ends_run [] [] text none = tt
-ends_run [] (line ∷ after) text none = let no = none refl in absurd (omega (arith, no))
+ends_run [] (line ∷ after) text none = let no = none refl in absurd (omega arith)
 ends_run (line ∷ between) after text none = All-head IsText line between text
 
 nothing_after : (between : List (List ℕ)) (after : List ℕ) → (length between ≡ 0 → length after ≡ 0) → length between ≡ 0 → length (lines_in after) ≡ 0
@@ -180,7 +180,7 @@ with_board_line line lines (rows ∷ levels) board (after, first, others) = by_b
     )
     by_before (t ∷ before) whole text = (
       (line ∷ []) ∷ rows ∷ levels,
-      after_run (line ∷ []) lines (rows ∷ levels) (one_run line board) (subst EndsRun (sym whole) (All-head IsText t before text)) (after, first, others),
+      after_run (line ∷ []) lines (rows ∷ levels) (one_run line board) (rw whole (All-head IsText t before text)) (after, first, others),
     )
 
 with_line : (line : List ℕ) (lines : List (List ℕ)) (levels : List (List (List ℕ))) → AreLevelsOf levels lines
@@ -201,8 +201,8 @@ clash line board text = absurd (false≢true (sym text ∙ board))
 same_run : (rows rows' after after' : List (List ℕ)) → rows ++ after ≡ rows' ++ after' → All IsBoardLine rows → All IsBoardLine rows' → EndsRun after
     → EndsRun after' → (rows ≡ rows') × (after ≡ after')
 same_run [] [] after after' e board board' ends ends' = (refl, e)
-same_run [] (r ∷ rows') after after' e board board' ends ends' = clash r (All-head IsBoardLine r rows' board') (subst EndsRun e ends)
-same_run (r ∷ rows) [] after after' e board board' ends ends' = clash r (All-head IsBoardLine r rows board) (subst EndsRun (sym e) ends')
+same_run [] (r ∷ rows') after after' e board board' ends ends' = clash r (All-head IsBoardLine r rows' board') (rw e at ends)
+same_run (r ∷ rows) [] after after' e board board' ends ends' = clash r (All-head IsBoardLine r rows board) (rw (← e) at ends')
 same_run (r ∷ rows) (r' ∷ rows') after after' e board board' ends ends' =
     let heads : r ≡ r' = cc in
     let tails : rows ++ after ≡ rows' ++ after' = cc in
@@ -213,33 +213,33 @@ same_run (r ∷ rows) (r' ∷ rows') after after' e board board' ends ends' =
 same_first : (before before' rows rows' after after' : List (List ℕ)) → before ++ (rows ++ after) ≡ before' ++ (rows' ++ after') → All IsText before
     → All IsText before' → IsRun rows → IsRun rows' → EndsRun after → EndsRun after' → (rows ≡ rows') × (after ≡ after')
 same_first [] [] rows rows' after after' e text text' run run' ends ends' = same_run rows rows' after after' e run.board run'.board ends ends'
-same_first [] (t ∷ before') [] rows' after after' e text text' run run' ends ends' = absurd (let some = run.some in omega (arith, some))
+same_first [] (t ∷ before') [] rows' after after' e text text' run run' ends ends' = absurd (let some = run.some in omega arith)
 same_first [] (t ∷ before') (r ∷ rows) rows' after after' e text text' run run' ends ends' =
     let heads : r ≡ t = cc in
-    clash r (All-head IsBoardLine r rows run.board) (subst IsText (sym heads) (All-head IsText t before' text'))
-same_first (t ∷ before) [] rows [] after after' e text text' run run' ends ends' = absurd (let some = run'.some in omega (arith, some))
+    clash r (All-head IsBoardLine r rows run.board) (rw heads (All-head IsText t before' text'))
+same_first (t ∷ before) [] rows [] after after' e text text' run run' ends ends' = absurd (let some = run'.some in omega arith)
 same_first (t ∷ before) [] rows (r ∷ rows') after after' e text text' run run' ends ends' =
     let heads : t ≡ r = cc in
-    clash r (All-head IsBoardLine r rows' run'.board) (subst IsText heads (All-head IsText t before text))
+    clash r (All-head IsBoardLine r rows' run'.board) (rw heads at (All-head IsText t before text))
 same_first (t ∷ before) (t' ∷ before') rows rows' after after' e text text' run run' ends ends' =
     let tails : before ++ (rows ++ after) ≡ before' ++ (rows' ++ after') = cc in
     same_first before before' rows rows' after after' tails (All-tail IsText t before text) (All-tail IsText t' before' text') run run' ends ends'
 
 -- text alone has no run
 no_run : {G : Type 0} (before rows after : List (List ℕ)) → All IsText (before ++ (rows ++ after)) → IsRun rows → G
-no_run [] [] after text run = absurd (let some = run.some in omega (arith, some))
+no_run [] [] after text run = absurd (let some = run.some in omega arith)
 no_run [] (r ∷ rows) after text run = clash r (All-head IsBoardLine r rows run.board) (All-head IsText r (rows ++ after) text)
 no_run (t ∷ before) rows after text run = no_run before rows after (All-tail IsText t (before ++ (rows ++ after)) text) run
 
 -- two lists of the levels of some lines are equal
 pub one_list : (levels others : List (List (List ℕ))) (lines : List (List ℕ)) → AreLevelsOf levels lines → AreLevelsOf others lines → levels ≡ others
 one_list [] [] lines are are' = refl
-one_list [] (rows ∷ others) lines text (after, first, rest) = no_run first.before rows after (subst (All IsText) first.whole text) first.run
-one_list (rows ∷ levels) [] lines (after, first, rest) text = no_run first.before rows after (subst (All IsText) first.whole text) first.run
+one_list [] (rows ∷ others) lines text (after, first, rest) = no_run first.before rows after (rw first.whole at text) first.run
+one_list (rows ∷ levels) [] lines (after, first, rest) text = no_run first.before rows after (rw first.whole at text) first.run
 one_list (rows ∷ levels) (rows' ∷ others) lines (after, first, rest) (after', first', rest') =
     let same = same_first first.before first'.before rows rows' after after'
     (sym first.whole ∙ first'.whole) first.text first'.text first.run first'.run first.longest first'.longest in
-    let tails = one_list levels others after rest (subst (AreLevelsOf others) (sym same.1) rest') in
+    let tails = one_list levels others after rest (rw same.1 rest') in
     let heads = same.0 in
     cc
 

@@ -21,8 +21,8 @@ module _ (rows : List (List ℕ)) where
 
   floor_kept : (a b : Level) → ArePartsOf rows a → ArePartsOf rows b → (c : Cell) → IsFloor a c → IsFloor b c
   floor_kept a b p q c floor = (
-    subst (λ (e : Extent). IsOn e c) (p.drawn.shape ∙ sym q.drawn.shape) floor.0,
-    subst (λ (s : Cells). Lacks s c) (walls_same a b p q) floor.1,
+    rw (p.drawn.shape ∙ sym q.drawn.shape) at floor.0,
+    rw (walls_same a b p q) at floor.1,
   )
 
   room_kept : (a b : Level) → ArePartsOf rows a → ArePartsOf rows b → (c : Cell) → Has a.room c → Has b.room c

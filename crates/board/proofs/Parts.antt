@@ -40,8 +40,8 @@ has_bytes [] board = absurd (false≢true board)
 has_bytes (b ∷ line) board = omega arith
 
 pub run_sides : (rows : List (List ℕ)) → IsRun rows → (1 ≤ width_of rows) × (1 ≤ length rows)
-run_sides [] run = absurd (let some = run.some in omega (arith, some))
-run_sides (row ∷ rows) run = let first = has_bytes row (All-head IsBoardLine row rows run.board) in (omega (arith, first), omega arith)
+run_sides [] run = absurd (let some = run.some in omega arith)
+run_sides (row ∷ rows) run = let first = has_bytes row (All-head IsBoardLine row rows run.board) in (omega arith, omega arith)
 
 -- off the rows there are only spaces
 on_rows : (rows : List (List ℕ)) (row column : ℕ) → nth (nth rows row []) column space ≢ space → IsOn (extent_of rows) (cell_at column row)
@@ -52,15 +52,15 @@ on_rows rows (suc k) (suc j) some = record {
   bottom = below;
   left = omega arith;
   right = ⊎_elim
-      (λ inside. let wide = All-get_or (λ r. length r ≤ width_of rows) rows k [] (omega (arith, below)) (all_within_width rows) in omega (arith, inside, wide))
-      (λ past. absurd (some (nth_past (nth rows (suc k) []) (suc j) space (omega (arith, past)))))
+      (λ inside. let wide = All-get_or (λ r. length r ≤ width_of rows) rows k [] (omega (arith, below)) (all_within_width rows) in omega arith)
+      (λ past. absurd (some (nth_past (nth rows (suc k) []) (suc j) space (omega arith))))
       (cases_lt j (length (nth rows (suc k) [])));
 }
   where
     below : suc k ≤ length rows
     below = ⊎_elim
         (λ inside. omega arith)
-        (λ past. absurd (some (ap (λ r. nth r (suc j) space) (nth_past rows (suc k) [] (omega (arith, past))))))
+        (λ past. absurd (some (ap (λ r. nth r (suc j) space) (nth_past rows (suc k) [] (omega arith)))))
         (cases_lt k (length rows))
 
 pub on_grid : (rows : List (List ℕ)) (c : Cell) → character_at rows c ≢ space → IsOn (extent_of rows) c
@@ -70,8 +70,8 @@ on_grid rows c some = on_rows rows c.row c.column some
 -- what holds of two characters holds of a byte that is one of them
 one_of_two : (x y b : ℕ) (P : ℕ → Type 0) → is_one_of (x ∷ y ∷ []) b ≡ true → P x → P y → P b
 one_of_two x y b P is at_x at_y = or_cases (b == x) ((b == y) || false) is
-    (λ e. subst P (sym (eqb-true b x e)) at_x)
-    (λ later. or_cases (b == y) false later (λ e. subst P (sym (eqb-true b y e)) at_y) (λ no. absurd (false≢true no)))
+    (λ e. rw (eqb-true b x e) at_x)
+    (λ later. or_cases (b == y) false later (λ e. rw (eqb-true b y e) at_y) (λ no. absurd (false≢true no)))
 
 -- the byte is no wall and no space
 pub record IsApart (b : ℕ) : Type 0 where
@@ -97,8 +97,8 @@ player_no_box b is = one_of_two 64 43 b (λ x. is_box x ≡ false) is refl refl
 other_member : (s : Cells) (m q : Cell) → set.len s ≡ 1 → Has s m → Has s q → q ≢ m → ⊥
 other_member s m q one has_m has_q other =
     let fewer = len-remove cells_total s m ∙ ap (λ v. cond v (set.len s - 1) (set.len s)) has_m in
-    let none : set.len (set.remove s m) ≡ 0 = omega (arith, one, fewer) in
-    has_empty q (subst (λ (t : Cells). Has t q) (empty_of_len (set.remove s m) none) (kept_by_remove s m q other has_q))
+    let none : set.len (set.remove s m) ≡ 0 = omega arith in
+    has_empty q (rw (empty_of_len (set.remove s m) none) at (kept_by_remove s m q other has_q))
 
 pub is_only : (s : Cells) (m : Cell) → set.len s ≡ 1 → Has s m → s ≡ only m
 is_only s m one has = same_cells s (only m) (λ q. same_or_other q m
@@ -115,7 +115,7 @@ first_is_only shape s from None one on corner at first =
     absurd (let none : s ≡ set.empty = same_cells s set.empty
     (λ q. has_or_lacks s q (λ has. absurd (none_past shape (Some from) (corner, at) q (on q has) (first q has)))
     (λ lacks. lacks ∙ sym (contains-empty cell_cmp q))) in
-    let zero_len = ap set.len none ∙ len-empty cell_cmp in omega (arith, zero_len, one))
+    let zero_len = ap set.len none ∙ len-empty cell_cmp in omega arith)
 first_is_only shape s from (Some m) one on corner at first = (one, is_only s m one first.0, on m first.0)
 
 -- ---- the room
@@ -127,10 +127,10 @@ room_is : (level : Level) (players : Cells) → players ≡ only level.player �
     → Has level.room c ↔ Joined (IsFloor level) (λ seed. seed ≡ level.player) c
 room_is level players one region c = (
   λ has. joined_map (IsFree level.shape level.walls set.empty) (IsFloor level) (Has players) (λ seed. seed ≡ level.player)
-      (λ q free. (free.on, free.no_wall)) (λ q seed. has_only level.player q (subst (λ (s : Cells). Has s q) one seed)) c ((region c).0 has),
+      (λ q free. (free.on, free.no_wall)) (λ q seed. has_only level.player q (rw one at seed)) c ((region c).0 has),
   λ chain. (region c).1 (joined_map (IsFloor level) (IsFree level.shape level.walls set.empty) (λ seed. seed ≡ level.player) (Has players)
       (λ q free. record { on = free.0; no_wall = free.1; no_bar = contains-empty cell_cmp q })
-      (λ q here. subst (λ (s : Cells). Has s q) (sym one) (subst (Has (only level.player)) (sym here) (inserted set.empty level.player))) c chain),
+      (λ q here. rw (one, here) (inserted set.empty level.player)) c chain),
 )
 
 -- ---- the parts, and what holds of them
@@ -144,15 +144,15 @@ parts rows level players shape walls goals boxes shown one region = record {
     goals = goals;
     boxes = boxes;
     player = λ c. (
-      (λ is. has_only level.player c (subst (λ (s : Cells). Has s c) one (shown c ∙ is))),
-      (λ here. sym (shown c) ∙ subst (λ (s : Cells). Has s c) (sym one) (subst (Has (only level.player)) (sym here) (inserted set.empty level.player))),
+      (λ is. has_only level.player c (rw one at (shown c ∙ is))),
+      (λ here. sym (shown c) ∙ rw (one, here) (inserted set.empty level.player)),
     );
   };
   room = room_is level players one region;
 }
 
 floor_from : (rows : List (List ℕ)) (level : Level) → Draws rows level → (c : Cell) → IsApart (character_at rows c) → IsFloor level c
-floor_from rows level p c apart = (subst (λ (e : Extent). IsOn e c) (sym p.shape) (on_grid rows c apart.no_floor), p.walls c ∙ apart.no_wall)
+floor_from rows level p c apart = (rw p.shape (on_grid rows c apart.no_floor), p.walls c ∙ apart.no_wall)
 
 pub formed : (rows : List (List ℕ)) (level : Level) → HasSides level.shape.width level.shape.height → ArePartsOf rows level → IsWellFormed level
 formed rows level sides p =

@@ -50,6 +50,6 @@ cut_further text run after rest cut p = record {
       ∙ ap (λ l. lines_in run ++ l) (sym (append_assoc cut.between p.between (lines_in rest)));
   board = cut.board;
   text_between = All-append IsText cut.between p.between cut.text_between p.text_between;
-  ends = λ none. let fewer = p.no_longer in let all = cut.ends (omega (arith, none, length-append cut.between p.between)) in omega (arith, fewer, all);
-  shorter = λ some. let fewer = p.no_longer in let less = cut.shorter some in omega (arith, fewer, less);
+  ends = λ none. let fewer = p.no_longer in let all = cut.ends (omega (arith, length-append cut.between p.between)) in omega arith;
+  shorter = λ some. let fewer = p.no_longer in let less = cut.shorter some in omega arith;
 }

@@ -36,11 +36,11 @@ pub too_large : (rows : List (List ℕ)) (width height : ℕ) → IsRun rows →
 too_large rows width height run wide high none fits =
     let some = run_sides rows run in
     none (record {
-      wide = omega (arith, some, wide);
-      not_too_wide = omega (arith, fits, wide);
-      high = omega (arith, some, high);
+      wide = omega arith;
+      not_too_wide = omega arith;
+      high = omega arith;
       not_too_high =
-          omega (arith, fits, high);
+          omega arith;
     })
 
 pub extent_is : (rows : List (List ℕ)) (width height : ℕ) (shape : Extent) → width ≡ width_of rows → height ≡ length rows
@@ -51,29 +51,29 @@ extent_is rows width height shape wide high e =
 
 pub sides_of : (width height : ℕ) (shape : Extent) → HasSides width height → shape ≡ record { width = width; height = height }
     → HasSides shape.width shape.height
-sides_of width height shape sides e = subst (λ (x : Extent). HasSides x.width x.height) (sym e) sides
+sides_of width height shape sides e = subst (λ x. HasSides x.width x.height) (sym e) sides
 
 -- the region of the one player is the region of the set of players
 pub region_of : (shape extent : Extent) (walls players room : Cells) (player : Cell) → extent ≡ shape → players ≡ only player
     → IsRegion extent walls set.empty (only player) room
     → IsRegion shape walls set.empty players room
 region_of shape extent walls players room player same one region =
-    subst (λ (s : Cells). IsRegion shape walls set.empty s room) (sym one) (subst (λ (e : Extent). IsRegion e walls set.empty (only player) room) same region)
+    rw one (rw same at region)
 
 module _ (rows : List (List ℕ)) (shape : Extent) (walls goals boxes players room : Cells) (player : Cell)
     (r : PassesTests rows shape walls goals boxes players room player) where
   fits : FitsGrid rows
-  fits = subst (λ (e : Extent). (e.width ≤ 255) × (e.height ≤ 255)) r.shape_is (r.sides.not_too_wide, r.sides.not_too_high)
+  fits = subst (λ e. (e.width ≤ 255) × (e.height ≤ 255)) r.shape_is (r.sides.not_too_wide, r.sides.not_too_high)
 
   one_player : HasOnePlayer rows
   one_player = sym r.players_drawn.count ∙ r.one
 
   has_box : HasBox rows
-  has_box = let count = r.boxes_drawn.count in let some = r.some in omega (arith, count, some)
+  has_box = let count = r.boxes_drawn.count in let some = r.some in omega arith
 
   enough_goals : HasEnoughGoals rows
   enough_goals = let boxes_count = r.boxes_drawn.count in let goals_count = r.goals_drawn.count in let enough =
-      r.enough in omega (arith, boxes_count, goals_count, enough)
+      r.enough in omega arith
 
   parts_of : ArePartsOf rows (level_of shape walls goals boxes player room)
   parts_of =

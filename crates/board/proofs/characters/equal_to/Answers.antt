@@ -9,4 +9,4 @@ pub returns : goal.returns
 returns g c k h =
     let is_byte = λ (x : ℕ). eqb x c.args.byte in
     ap (λ n. bit n k) (bitmask_splat w8 eqb c.args.block g.row.N c.args.byte c.fits-block.0 (omega arith)) ∙ bit_of_lanes (map is_byte c.args.block) k
-    ∙ get_or-map is_byte c.args.block k 0 false (omega (arith, c.fits-block.0))
+    ∙ get_or-map is_byte c.args.block k 0 false (omega arith)

@@ -18,9 +18,9 @@ returns-then-not-is_board_line-clause-cut c =
     let so_far = c.loop-row.invariant in
     let run = c.split_at.ensures.front ∙ sym (run_is _ _ _ _ so_far) in
     let cut = cut_at_text _ _ _ _ so_far _ _ c.first_line.ensures (sym c.is_board_line.ensures ∙ c.if-not-is_board_line.true) in
-    cut_further _ _ _ _ (subst (λ l. IsCut c.args.text.now l c.first_line.result.1.now) (sym run) cut) c.past_text.ensures
+    cut_further _ _ _ _ (rw run cut) c.past_text.ensures
 
 pub returns-clause-cut : goal.returns-clause-cut
 returns-clause-cut c =
     let none = no_bytes _ (sym c.is_empty.ensures ∙ c.loop-row-test.false) in
-    subst (λ l. IsCut c.args.text.now l c.loop-row.rest.now) (run_whole _ _ _ _ c.loop-row.invariant none) (cut_at_end _ _ _ _ c.loop-row.invariant none)
+    rw (run_whole _ _ _ _ c.loop-row.invariant none) at (cut_at_end _ _ _ _ c.loop-row.invariant none)

@@ -33,7 +33,7 @@ lanes-preserved c =
     ]
 
 pub returns : goal.returns
-returns c = tested_all c.args.line.now c.lanes.at c.lanes.has_wall (omega (arith, c.lanes-test.false)) c.lanes.invariant
+returns c = tested_all c.args.line.now c.lanes.at c.lanes.has_wall (omega arith) c.lanes.invariant
 
 pub returns-then-line-lt16 : goal.returns-then-line-lt16
-returns-then-line-lt16 c = tested_all c.args.line.now c.loop-byte.byte-index c.loop-byte.has_wall (omega (arith, c.loop-byte-test.false)) c.loop-byte.invariant
+returns-then-line-lt16 c = tested_all c.args.line.now c.loop-byte.byte-index c.loop-byte.has_wall (omega arith) c.loop-byte.invariant

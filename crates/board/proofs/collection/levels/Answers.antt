@@ -13,8 +13,8 @@ use Rattle.board.proofs.collection.levels.Goals as goal
 
 pub loop-rest-init : goal.loop-rest-init
 loop-rest-init c = record {
-  few = omega (arith, c.new-found.ensures.len);
-  so_far = λ more are. rw c.new-found.ensures.items (subst (λ (text : List ℕ). AreLevelsOf more (lines_in text)) c.after_mark-rest.ensures are);
+  few = omega arith;
+  so_far = λ more are. rw c.new-found.ensures.items (rw c.after_mark-rest.ensures at are);
 }
 
 pub invariant_of-level : goal.invariant_of-level
@@ -33,7 +33,7 @@ loop-rest-preserved-else-is_err c =
     let items = c.push.ensures.items ∙ ap (λ b. cond b (c.loop-rest.found.items ++ lines_in run ∷ []) c.loop-rest.found.items) pushed in
     let len = c.push.ensures.len ∙ ap (λ b. cond b (vec_len c.loop-rest.found + 1) (vec_len c.loop-rest.found)) pushed in
     record {
-      few = omega (arith, len, c.len.ensures, c.if-len-eq-MAX_LEVELS.false, c.loop-rest.invariant.few);
+      few = omega arith;
       so_far = λ more are. rw (items, append_assoc) (c.loop-rest.invariant.so_far (lines_in run ∷ more)
           (levels_with_run _ _ _ more c.cut_after_run-width.ensures.cut some are));
     }
@@ -54,7 +54,7 @@ returns-then-len-eq-MAX_LEVELS-clause-too_many c = λ _.
     let all = found ++ (lines_in run ∷ rest.0) in (
       all,
       c.loop-rest.invariant.so_far (lines_in run ∷ rest.0) (levels_with_run _ _ _ rest.0 c.cut_after_run-width.ensures.cut some rest.1),
-      omega (arith, length-append found (lines_in run ∷ rest.0), c.loop-rest.found.ok.0, c.len.ensures, c.if-len-eq-MAX_LEVELS.true),
+      omega (arith, length-append found (lines_in run ∷ rest.0), c.len.ensures, c.if-len-eq-MAX_LEVELS.true),
     )
 
 pub returns-clause-ok : goal.returns-clause-ok
@@ -62,5 +62,4 @@ returns-clause-ok c =
     let found = c.loop-rest.found.items in
     let rest = nil_from_length _ (no_bytes _ (sym c.is_empty.ensures ∙ c.loop-rest-test.false)) in
     let none = ap lines_in rest ∙ lines_in-nil in
-    subst (λ (l : List (List (List ℕ))). AreLevelsOf l (lines_in (without_mark c.args.text.now))) (append-nil found)
-    (c.loop-rest.invariant.so_far [] (rw none (All-nil IsText)))
+    rw (append-nil found) at (c.loop-rest.invariant.so_far [] (rw none (All-nil IsText)))

@@ -25,8 +25,8 @@ room_of s t u empty union = let stored = stored_is s t u empty union in same_mem
 pub draw-requires-clause-wide : goal.draw-requires-clause-wide
 draw-requires-clause-wide g c =
     let rows = lines_in c.args.text.now in
-    let width = ap (λ (e : Extent). e.width) c.requires.shape in
-    All-weaker (λ row. length row ≤ width_of rows) (λ row. length row ≤ c.args.sketch.now.shape.width) (λ row h. omega (arith, h, width)) rows
+    let width = ap (λ e. e.width) c.requires.shape in
+    All-weaker (λ row. length row ≤ width_of rows) (λ row. length row ≤ c.args.sketch.now.shape.width) (λ row h. omega arith) rows
     (all_within_width rows)
 
 passed : (g : given.Over) (c : goal.After-store g) → let members = g.S.CellSet.members in let sketch = c.draw.new.sketch in
@@ -36,7 +36,7 @@ passed g c =
     let drawn = c.draw.ensures.drawn in
     let same = room_of _ _ _ c.clear.ensures.members c.store.ensures.members in
     record {
-      sides = subst (λ (e : Extent). HasSides e.width e.height) (sym c.draw.ensures.shape) c.requires.sides;
+      sides = rw c.draw.ensures.shape c.requires.sides;
       shape_is = c.draw.ensures.shape ∙ c.requires.shape;
       walls_drawn = drawn.wall;
       goals_drawn = drawn.goal;
@@ -45,7 +45,7 @@ passed g c =
       one = c.in-Some.ensures.0;
       is_player = c.in-Some.ensures.1;
       some = λ none. c.if-boxes-eq0.false (c.len-boxes.ensures ∙ none);
-      enough = omega (arith, c.if-boxes-len.false, c.len-boxes.ensures, c.len.ensures);
+      enough = omega arith;
       region = region_of _ _ _ _ _ _ c.draw.ensures.extent.wall c.in-Some.ensures.1 (rw same at c.in_ok-flood.ensures.exact);
     }
 
@@ -62,7 +62,7 @@ returns-clause-room g c =
     record {
       sets = record { wall = on.wall; goal = on.goal; box = on.box; player = c.store.ensures.extent ∙ c.clear.ensures.extent ∙ on.player };
       floor_extent = c.in_ok-flood.ensures.extent.0 ∙ on.wall;
-      floor = subst (λ (e : Extent). (q : Cell) → Has c.flood.new.self.free.members q ↔ (IsOn e q × Lacks walls q)) on.wall c.in_ok-flood.ensures.free;
+      floor = rw on.wall at c.in_ok-flood.ensures.free;
       room_extent = c.in_ok-flood.ensures.extent.1 ∙ on.wall;
       room = room_of _ _ _ c.clear.ensures.members c.store.ensures.members;
     }

@@ -12,14 +12,13 @@ use Rattle.board.proofs.Verdict.{too_large}
 use Rattle.board.proofs.reading.read_next_board.Goals as goal
 
 pub returns-in_default-clause-err : goal.returns-in_default-clause-err
-returns-in_default-clause-err g c = inr (subst (λ (rows : List (List ℕ)). FitsGrid rows → ⊥) c.text.view_is
-    (too_large _ _ _ c.text.invariant.0 c.text.invariant.1 c.text.invariant.2 c.in_default.ensures))
+returns-in_default-clause-err g c = inr (rw c.text.view_is at (too_large _ _ _ c.text.invariant.0 c.text.invariant.1 c.text.invariant.2 c.in_default.ensures))
 
 pub returns-in_err-player-clause-err : goal.returns-in_err-player-clause-err
 returns-in_err-player-clause-err g c =
     let why = c.in_err-player.field-0.0 in
     let p = err_from_is_err_and c.from_residual-in_err-player.result c.from_residual-in_err-player.ensures.1 in
-    rw (p.1, p.2) (subst (λ (rows : List (List ℕ)). (why ≡ Memory) ⊎ IsRefusal rows why) c.text.view_is c.in_err-player.ensures.err)
+    rw (p.1, p.2) (rw c.text.view_is at c.in_err-player.ensures.err)
 
 pub returns-then-is_at_edge-clause-err : goal.returns-then-is_at_edge-clause-err
 returns-then-is_at_edge-clause-err g c =
@@ -27,11 +26,9 @@ returns-then-is_at_edge-clause-err g c =
     let found = c.in_ok-player.ensures.room in
     let level = level_in g.S.CellSet.members c.fill.new.sketch c.in_ok-player.player in
     let (at, has, edge) = c.if-is_at_edge.ensures in
-    let in_room = subst (λ (r : Cells). Has r at) found.room (subst (λ (s : Sketch g.row.S.Denot). Has s.flooded.region.members at) c.deref.ensures has) in
-    let on_edge = subst (λ (e : Extent). IsAtEdge e at) found.room_extent
-    (subst (λ (s : Sketch g.row.S.Denot). IsAtEdge s.flooded.region.extent at) c.deref.ensures edge) in
-    inr (subst (λ (rows : List (List ℕ)). IsRefusal rows Open) c.text.view_is
-    (legal.size, legal.player, legal.box, legal.goals, (level, legal.parts, (at, in_room, on_edge))))
+    let in_room = rw (c.deref.ensures, found.room) at has in
+    let on_edge = rw (c.deref.ensures, found.room_extent) at edge in
+    inr (rw (← c.text.view_is) (legal.size, legal.player, legal.box, legal.goals, (level, legal.parts, (at, in_room, on_edge))))
 
 pub returns-clause-ok : goal.returns-clause-ok
 returns-clause-ok g c =
@@ -40,8 +37,6 @@ returns-clause-ok g c =
     let level = level_in g.S.CellSet.members c.fill.new.sketch c.in_ok-player.player in
     let closed = λ (o : IsOpen level).
     c.if-is_at_edge.ensures o.0
-    (subst (λ (s : Sketch g.row.S.Denot). Has s.flooded.region.members o.0) (sym c.deref.ensures) (subst (λ (r : Cells). Has r o.0) (sym found.room) o.1))
-    (subst (λ (s : Sketch g.row.S.Denot). IsAtEdge s.flooded.region.extent o.0) (sym c.deref.ensures)
-    (subst (λ (e : Extent). IsAtEdge e o.0) (sym found.room_extent) o.2)) in
-    subst (λ (rows : List (List ℕ)). IsBoardOf rows level) c.text.view_is
-    (record { size = legal.size; player = legal.player; box = legal.box; goals = legal.goals; parts = legal.parts; closed = closed })
+    (rw (← found.room, ← c.deref.ensures) at o.1)
+    (rw (← found.room_extent, ← c.deref.ensures) at o.2) in
+    rw (← c.text.view_is) (record { size = legal.size; player = legal.player; box = legal.box; goals = legal.goals; parts = legal.parts; closed = closed })

@@ -20,7 +20,7 @@ pub draw_row-requires-clause-high : goal.draw_row-requires-clause-high
 draw_row-requires-clause-high g c =
     let was = c.rows.invariant in
     let next = next_row (lines_in c.args.text.now) c.rows.row _ _ (sym was.left ∙ (row_split _ _ _ c.first_line.ensures)) in
-    rw was.shape (omega arith, omega (arith, next.0, c.requires.high))
+    rw was.shape (omega arith, omega arith)
 
 pub draw_row-requires-clause-wide : goal.draw_row-requires-clause-wide
 draw_row-requires-clause-wide g c =
@@ -28,15 +28,14 @@ draw_row-requires-clause-wide g c =
     let rows = lines_in c.args.text.now in
     let row = take (length c.first_line.result.0.now) c.rows.rest.now in
     let fits = All-head (λ r. length r ≤ c.args.sketch.now.shape.width) row _
-    (subst (All (λ r. length r ≤ c.args.sketch.now.shape.width)) (sym was.left ∙ (row_split _ _ _ c.first_line.ensures))
-    (All-drop (λ r. length r ≤ c.args.sketch.now.shape.width) c.rows.row rows c.requires.wide)) in
+    (rw (sym was.left ∙ (row_split _ _ _ c.first_line.ensures)) at (All-drop (λ r. length r ≤ c.args.sketch.now.shape.width) c.rows.row rows c.requires.wide)) in
     let long = length-take-le (length c.first_line.result.0.now) c.rows.rest.now (row_taken _ _ _ c.first_line.ensures).1 in
-    rw was.shape (omega (arith, fits, long))
+    rw was.shape (omega arith)
 
 pub overflow_add-row : goal.overflow_add-row
 overflow_add-row g c =
     let next = next_row (lines_in c.args.text.now) c.rows.row _ _ (sym c.rows.invariant.left ∙ (row_split _ _ _ c.first_line.ensures)) in
-    omega (arith, next.0, c.requires.high, c.requires.sides.not_too_high)
+    omega arith
 
 pub rows-preserved : goal.rows-preserved
 rows-preserved g c =
@@ -45,11 +44,11 @@ rows-preserved g c =
     let next = next_row rows c.rows.row _ _ (sym was.left ∙ (row_split _ _ _ c.first_line.ensures)) in
     record {
       left = sym next.2;
-      within = omega (arith, next.0);
+      within = omega arith;
       shape = c.draw_row.ensures.shape ∙ was.shape;
       extent = c.draw_row.ensures.extent;
       drawn = rw next.1 (c.draw_row.ensures.drawn (take c.rows.row rows)
-          (let long = length-take-le c.rows.row rows was.within in omega (arith, long)) was.drawn);
+          (let long = length-take-le c.rows.row rows was.within in omega arith) was.drawn);
     }
 
 pub returns-clause-drawn : goal.returns-clause-drawn
@@ -59,4 +58,4 @@ returns-clause-drawn g c =
     let none = ap length (sym was.left ∙ ap (map without_terminator)
     (lines-empty c.rows.rest.now (eqb-true _ 0 (sym c.is_empty.ensures ∙ c.rows-test.false)))) in
     let left = length-drop c.rows.row rows in
-    subst (λ (r : List (List ℕ)). IsSketchOf r g.S.CellSet.members c.rows.sketch) (take_all c.rows.row rows (omega (arith, none, left))) was.drawn
+    rw (take_all c.rows.row rows (omega arith)) at was.drawn

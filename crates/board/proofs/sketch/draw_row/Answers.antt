@@ -10,26 +10,26 @@ pub insert_row-requires : goal.insert_row-requires
 insert_row-requires g c =
     let long = length-take-le c.args.len c.args.text.now c.requires.within in
     word_on is_wall refl (take c.args.len c.args.text.now) c.args.row c.loop-part.part _ _ _ (c.loop-part.invariant.extent.wall ∙ c.loop-part.invariant.shape)
-    c.requires.high (omega (arith, long, c.requires.wide)) c.columns_of-columns.ensures.wall
+    c.requires.high (omega arith) c.columns_of-columns.ensures.wall
 
 pub insert_row-requires-in-loop-part : goal.insert_row-requires-in-loop-part
 insert_row-requires-in-loop-part g c =
     let long = length-take-le c.args.len c.args.text.now c.requires.within in
     word_on is_goal refl (take c.args.len c.args.text.now) c.args.row c.loop-part.part _ _ _ (c.loop-part.invariant.extent.goal ∙ c.loop-part.invariant.shape)
-    c.requires.high (omega (arith, long, c.requires.wide)) c.columns_of-columns.ensures.goal
+    c.requires.high (omega arith) c.columns_of-columns.ensures.goal
 
 pub insert_row-requires-in-loop-part-2 : goal.insert_row-requires-in-loop-part-2
 insert_row-requires-in-loop-part-2 g c =
     let long = length-take-le c.args.len c.args.text.now c.requires.within in
     word_on is_box refl (take c.args.len c.args.text.now) c.args.row c.loop-part.part _ _ _ (c.loop-part.invariant.extent.box ∙ c.loop-part.invariant.shape)
-    c.requires.high (omega (arith, long, c.requires.wide)) c.columns_of-columns.ensures.box
+    c.requires.high (omega arith) c.columns_of-columns.ensures.box
 
 pub insert_row-requires-in-loop-part-3 : goal.insert_row-requires-in-loop-part-3
 insert_row-requires-in-loop-part-3 g c =
     let long = length-take-le c.args.len c.args.text.now c.requires.within in
     word_on is_player refl (take c.args.len c.args.text.now) c.args.row c.loop-part.part _ _ _
     (c.loop-part.invariant.extent.player ∙ c.loop-part.invariant.shape)
-    c.requires.high (omega (arith, long, c.requires.wide)) c.columns_of-columns.ensures.player
+    c.requires.high (omega arith) c.columns_of-columns.ensures.player
 
 pub loop-part-preserved : goal.loop-part-preserved
 loop-part-preserved g c =
@@ -56,7 +56,7 @@ returns-clause-drawn g c = λ done at s.
     let line = take c.args.len c.args.text.now in
     let size = length-take-le c.args.len c.args.text.now c.requires.within in
     let parts = c.loop-part.part in
-    let long : length line < 64 * parts = omega (arith, size, c.loop-part-test.false) in
+    let long : length line < 64 * parts = omega arith in
     let drawn = c.loop-part.invariant in
     record {
       wall = row_drawn is_wall refl done line c.args.row parts _ _ at long s.wall drawn.wall;
