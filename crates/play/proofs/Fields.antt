@@ -32,17 +32,17 @@ module _ (level : Level) (boxes : Cells) (c : Cell) (b : ℕ) where
   -- ---- what a byte says
   pub free_by : IsShown level boxes c b → b ≡ FREE → IsFloor level c × Lacks boxes c
   free_by (inl (e, floor, free)) is = (floor, free)
-  free_by (inr (inl (e, wall, _))) is = absurd (omega (arith, e, is))
-  free_by (inr (inr (e, floor, box))) is = absurd (omega (arith, e, is))
+  free_by (inr (inl (e, wall, _))) is = absurd (omega arith)
+  free_by (inr (inr (e, floor, box))) is = absurd (omega arith)
 
   pub wall_by : IsShown level boxes c b → b ≡ WALL → IsWall level c
-  wall_by (inl (e, floor, free)) is = absurd (omega (arith, e, is))
+  wall_by (inl (e, floor, free)) is = absurd (omega arith)
   wall_by (inr (inl (e, wall, _))) is = wall
-  wall_by (inr (inr (e, floor, box))) is = absurd (omega (arith, e, is))
+  wall_by (inr (inr (e, floor, box))) is = absurd (omega arith)
 
   pub box_by : IsShown level boxes c b → b ≡ BOX → IsFloor level c × Has boxes c
-  box_by (inl (e, floor, free)) is = absurd (omega (arith, e, is))
-  box_by (inr (inl (e, wall, _))) is = absurd (omega (arith, e, is))
+  box_by (inl (e, floor, free)) is = absurd (omega arith)
+  box_by (inr (inl (e, wall, _))) is = absurd (omega arith)
   box_by (inr (inr (e, floor, box))) is = (floor, box)
 
   pub no_box_by : IsShown level boxes c b → b ≢ BOX → Lacks boxes c
@@ -63,25 +63,22 @@ module _ (level : Level) (boxes : Cells) (c : Cell) (b : ℕ) where
   free_byte (inr (inr (e, _, box))) floor free = not_both boxes c box free
 
 -- ---- a byte that is written, and a push
-pub neighbor_other : (shape : Extent) (c : Cell) (d : Dir) → IsOn shape c → c ≢ neighbor c d
-neighbor_other shape c L on e = let moved_on = ap (λ (q : Cell). q.column) e in omega (arith, on.left)
-neighbor_other shape c U on e = let moved_on = ap (λ (q : Cell). q.row) e in omega (arith, on.top)
-neighbor_other shape c R on e = let moved_on = ap (λ (q : Cell). q.column) e in omega arith
-neighbor_other shape c D on e = let moved_on = ap (λ (q : Cell). q.row) e in omega arith
+pub neighbor_other : {shape : Extent} {c : Cell} (d : Dir) → IsOn shape c → c ≢ neighbor c d
+neighbor_other L on e = grind arith
+neighbor_other U on e = grind arith
+neighbor_other R on e = grind arith
+neighbor_other D on e = grind arith
 
 module _ (level : Level) (sides : HasSides level.shape.width level.shape.height) where
   -- a field in which the byte of one cell is written shows boxes that differ at this cell at most
-  field_set : (boxes new : Cells) (field : List ℕ) (q : Cell) (byte : ℕ) → IsOn level.shape q
+  field_set : {boxes new : Cells} {field : List ℕ} {q : Cell} {byte : ℕ} → IsOn level.shape q
       → ((c : Cell) → same c q ≡ false → cells.contains new c ≡ cells.contains boxes c) → IsShown level new q byte
       → IsFieldOf level boxes field → IsFieldOf level new (set field (place_of q) byte)
-  field_set boxes new field q byte on others here before = record {
-    places = λ c near. let old = before.places c near in let long = length-set field (place_of q) byte in omega (arith, old, long);
+  field_set {boxes} {new} {field} {q} {byte} on others here before = record {
+    places = λ c near. let old = before.places c near in let long = length-set field (place_of q) byte in omega arith;
     shown = λ c near. same_or_other c q
-        (λ e. subst (λ (p : Cell). IsShown level new p (get_or after (place_of p) 0)) (sym e)
-        (subst (IsShown level new q) (sym (get_or-set_same field (place_of q) byte 0 (before.places q (near_on level.shape q on)))) here))
-        (λ f. subst (IsShown level new c)
-        (sym (get_or-set_other field (place_of q) (place_of c) byte 0 (λ e. other c f (place_one level.shape sides c q near on e))))
-        (still c (get_or field (place_of c) 0) (others c f) (before.shown c near)));
+        (λ e. rw (e, get_or-set_same field (place_of q) byte 0 (before.places q (near_on level.shape on))) here)
+        (λ f. rw (get_or-set_other field (place_of q) (place_of c) byte 0 (λ e. other c f (place_one level.shape sides near on e))) (still c (get_or field (place_of c) 0) (others c f) (before.shown c near)));
   }
     where
       after : List ℕ
@@ -95,22 +92,21 @@ module _ (level : Level) (sides : HasSides level.shape.width level.shape.height)
       still c b e (inr (inl (is, wall, free))) = inr (inl (is, wall, e ∙ free))
       still c b e (inr (inr (is, floor, box))) = inr (inr (is, floor, e ∙ box))
 
-  pub field_put : (boxes : Cells) (field : List ℕ) (to : Cell) → IsFloor level to → IsFieldOf level boxes field
+  pub field_put : {boxes : Cells} {field : List ℕ} {to : Cell} → IsFloor level to → IsFieldOf level boxes field
       → IsFieldOf level (cells.insert boxes to) (set field (place_of to) BOX)
-  field_put boxes field to floor before = field_set boxes (cells.insert boxes to) field to BOX floor.0
+  field_put {boxes} {to} floor before = field_set floor.0
       (λ c f. cells.contains-insert cells_total boxes to c ∙ ap (λ b. b || cells.contains boxes c) f)
       (inr (inr (refl, floor, inserted boxes to))) before
 
   field_taken : (boxes : Cells) (field : List ℕ) (from : Cell) → IsFloor level from → IsFieldOf level boxes field
       → IsFieldOf level (cells.remove boxes from) (set field (place_of from) FREE)
-  field_taken boxes field from floor before = field_set boxes (cells.remove boxes from) field from FREE floor.0
+  field_taken boxes field from floor before = field_set floor.0
       (λ c f. cells.contains-remove cells_total boxes from c ∙ ap (λ b. not b && cells.contains boxes c) f)
       (inl (refl, floor, lacks_where (cells.remove boxes from) from (λ h. (has_remove boxes from from h).0 refl))) before
 
-  pub field_pushed : (boxes : Cells) (field : List ℕ) (from to : Cell) → IsFieldOf level boxes field → IsFloor level from → IsFloor level to
+  pub field_pushed : {boxes : Cells} {field : List ℕ} {from to : Cell} → IsFieldOf level boxes field → IsFloor level from → IsFloor level to
       → IsFieldOf level (moved boxes from to) (set (set field (place_of from) FREE) (place_of to) BOX)
-  field_pushed boxes field from to before floor there = field_put (cells.remove boxes from) (set field (place_of from) FREE) to there
-      (field_taken boxes field from floor before)
+  field_pushed before floor there = search (field_put, field_taken)
 
 -- ---- the field of a level as it begins
 -- bytes for sixteen cells of a row, from a column on: they show the cells on the grid, and are the byte of a wall beyond it
@@ -124,7 +120,7 @@ module _ (level : Level) (formed : IsWellFormed level) where
   -- drawing goes on past places that are no cell's
   pub drawn_on : (n m : ℕ) (field : List ℕ) → ((c : Cell) → IsNear level.shape c → place_of c < m → place_of c < n) → IsDrawnBelow level n field
       → IsDrawnBelow level m field
-  drawn_on n m field none before = record { rows = before.rows; drawn = λ c near below. before.drawn c near (none c near below) }
+  drawn_on n m field none before = grind arith
 
   -- drawing goes on by sixteen cells, whose bytes are stored at once
   pub drawn_next : (row column : ℕ) (bytes field : List ℕ) → column + 16 ≤ 256 → row ≤ level.shape.height + 1 → row < 256
@@ -139,10 +135,10 @@ module _ (level : Level) (formed : IsWellFormed level) where
       after = put_chunk n field bytes
 
       rows : 256 * min (level.shape.height + 2) 256 ≤ length after
-      rows = let r = before.rows in let same = length-put_chunk n field bytes in omega (arith, r, same)
+      rows = let r = before.rows in let same = length-put_chunk n field bytes in omega arith
 
       room : n + length bytes ≤ length field
-      room = let r = before.rows in let l = are.len in omega (arith, r, l)
+      room = let r = before.rows in let l = are.len in omega arith
 
       earlier : (i : ℕ) → i < n → get_or after i 0 ≡ get_or field i 0
       earlier i lt = get_or-put_chunk_below n field bytes i 0 lt
@@ -150,37 +146,37 @@ module _ (level : Level) (formed : IsWellFormed level) where
       here : (i : ℕ) → n ≤ i → i < n + 16 → get_or after i 0 ≡ get_or bytes (i - n) 0
       here i low high =
           let there : n + (i - n) ≡ i = omega arith in
-          ap (λ j. get_or after j 0) (sym there) ∙ get_or-put_chunk_at n field bytes (i - n) 0 (let l = are.len in omega (arith, l, low, high)) room
+          ap (λ j. get_or after j 0) (sym there) ∙ get_or-put_chunk_at n field bytes (i - n) 0 (let l = are.len in omega arith) room
 
       drawn : (c : Cell) → IsNear level.shape c → place_of c < n + 16 → IsShown level cells.empty c (get_or after (place_of c) 0)
       drawn c near below = elim (cases_lt (place_of c) n) [
-        | inl lt ↦ subst (IsShown level cells.empty c) (sym (earlier (place_of c) lt)) (before.drawn c near lt)
+        | inl lt ↦ rw (← (earlier (place_of c) lt)) at (before.drawn c near lt)
         | inr from ↦
             let k = place_of c - n in
             let q = cell_at (column + k) row in
-            subst (IsShown level cells.empty c) (sym (here (place_of c) from below)) (on_or_off level.shape q
+            rw (here (place_of c) from below) (on_or_off level.shape q
             (λ on.
-            let at = place_on level.shape formed.sides q on in
-            let is = place_one level.shape formed.sides c q near on (omega (arith, at, from)) in
-            subst (λ (p : Cell). IsShown level cells.empty p (get_or bytes k 0)) (sym is) (are.on k (omega (arith, from, below)) on))
+            let at = place_on level.shape formed.sides on in
+            let is = place_one level.shape formed.sides near on (omega arith) in
+            rw (← is) at (are.on k (omega arith) on))
             (λ off. inr (inl (
-              are.off k (omega (arith, from, below)) off,
+              are.off k (omega arith) off,
               (λ floor.
-                  let at = place_on level.shape formed.sides c floor.0 in
+                  let at = place_on level.shape formed.sides floor.0 in
                   let r = floor.0.right in let w = formed.sides.not_too_wide in
-                  let row_is : row ≡ c.row = omega (arith, at, from, below, r, w, within) in
-                  let column_is : column + k ≡ c.column = omega (arith, at, from, below, row_is) in
+                  let row_is : row ≡ c.row = omega arith in
+                  let column_is : column + k ≡ c.column = omega arith in
                   let is : q ≡ c = λ i. cell_at (column_is i) (row_is i) in
-                  off (subst (IsOn level.shape) (sym is) floor.0)),
+                  off (rw is floor.0)),
               cells.contains-empty cell_cmp c,
             ))))
       ]
 
   -- sixteen bytes from the bits of a part of a row of the floor, shifted down to the first of them
   module _ (row part word : ℕ) (floor : Cells) (is : (c : Cell) → Has floor c ↔ IsFloor level c) (row_is : IsRowOf floor row part word) where
-    pub bytes_drawn : (s left : ℕ) (bytes : List ℕ) → s + 16 ≤ 64 → left ≡ word / 2 ^ s → length bytes ≡ 16
+    pub bytes_drawn : (s : ℕ) {left : ℕ} {bytes : List ℕ} → s + 16 ≤ 64 → left ≡ word / 2 ^ s → length bytes ≡ 16
         → ((k : ℕ) → k < 16 → get_or bytes k 0 ≡ cond (bit (left % 65536) k) FREE WALL) → AreBytesOf level row (64 * part + s) bytes
-    bytes_drawn s left bytes fits goes len lanes = record {
+    bytes_drawn s {left} {bytes} fits goes len lanes = record {
       len = len;
       on = λ k small _. (drawn k small).0;
       off = λ k small not_on. (drawn k small).1 (λ on. not_on on.0);
@@ -201,13 +197,10 @@ module _ (level : Level) (formed : IsWellFormed level) where
             let there : 64 * part + (s + k) ≡ 64 * part + s + k = omega arith in
             let same_cell : row_cell row part (s + k) ≡ q = λ i. cell_at (there i) row in
             let bit_is : bit (left % 65536) k ≡ cells.contains floor q = low_bits left k small ∙ ap (λ w. bit w k) goes ∙ bit_down word s k
-            ∙ row_is (s + k) (omega (arith, fits, small)) ∙ ap (cells.contains floor) same_cell in
+            ∙ row_is (s + k) (omega arith) ∙ ap (cells.contains floor) same_cell in
             subst (λ n. IsShown level cells.empty q n × ((IsFloor level q → ⊥) → n ≡ WALL)) (sym (lanes k small))
             (shown_by q (bit (left % 65536) k) (sym bit_is))
 
   -- once all places are passed, all cells are drawn
   pub drawn_end : (field : List ℕ) → IsDrawnBelow level (256 * min (level.shape.height + 2) 256) field → IsFieldOf level cells.empty field
-  drawn_end field before = record {
-    places = λ c near. has_place level.shape formed.sides c (length field) near before.rows;
-    shown = λ c near. before.drawn c near (has_place level.shape formed.sides c (256 * min (level.shape.height + 2) 256) near (omega arith));
-  }
+  drawn_end field before = grind (arith, has_place)

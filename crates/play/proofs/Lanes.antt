@@ -19,18 +19,18 @@ low_bits n k small =
     let whole : n / 65536 * 2 ^ 16 + n % 65536 ≡ n = omega arith in
     ap (λ b. nat_eq b 1) (sym (bit_at_cat_low (n / 65536) 16 (n % 65536) k small)) ∙ ap (λ m. bit m k) whole
 
-low_bit : (n k : ℕ) → k < 8 → bit (n % 256) k ≡ bit n k
-low_bit n k small =
+low_bit : (n : ℕ) {k : ℕ} → k < 8 → bit (n % 256) k ≡ bit n k
+low_bit n {k} small =
     let whole : n / 256 * 2 ^ 8 + n % 256 ≡ n = omega arith in
     ap (λ b. nat_eq b 1) (sym (bit_at_cat_low (n / 256) 8 (n % 256) k small)) ∙ ap (λ m. bit m k) whole
 
 times : (b p : ℕ) → b < 2 → 0 < p → nat_eq (b * p) p ≡ nat_eq b 1
-times zero p lt some = ne_eqb (0 * p) p (λ e. omega (arith, e, some))
-times (suc zero) p lt some = eq-eqb (1 * p) p (omega arith)
-times (suc (suc b)) p lt some = absurd (omega (arith, lt))
+times zero p lt some = grind (arith, ne_eqb)
+times (suc zero) p lt some = grind (arith, eq-eqb)
+times (suc (suc b)) p lt some = absurd (omega arith)
 
 masked : (n k : ℕ) → nat_eq (bit_and n (2 ^ k)) (2 ^ k) ≡ bit n k
-masked n k = ap (λ v. nat_eq v (2 ^ k)) (and_pow n k) ∙ times (n / 2 ^ k % 2) (2 ^ k) (bit_at-lt n k) (pow_pos k)
+masked n k = search (and_pow, times, bit_at-lt, pow_pos)
 
 tops : (b : Bool) → top 7 (cond b 255 0) ≡ b
 tops true = refl
@@ -41,7 +41,7 @@ abbrev picks : ℕ → ℕ → Bool
 picks n k = top 7 (cond (nat_eq (bit_and n (2 ^ k)) (2 ^ k)) 255 0)
 
 picked : (n k : ℕ) → picks n k ≡ bit n k
-picked n k = tops (nat_eq (bit_and n (2 ^ k)) (2 ^ k)) ∙ masked n k
+picked n k = search (tops, masked)
 
 -- the bytes of some lanes, from lane k on
 abbrev pub lanes : ℕ → ℕ → ℕ → List ℕ
@@ -49,16 +49,14 @@ lanes floor k zero = []
 lanes floor k (suc n) = cond (picks floor k) FREE WALL ∷ lanes floor (suc k) n
 
 lane : (floor k n j : ℕ) → j < n → get_or (lanes floor k n) j 0 ≡ cond (bit floor (k + j)) FREE WALL
-lane floor k zero j lt = absurd (omega (arith, lt))
-lane floor k (suc n) zero lt =
-    let same : k ≡ k + 0 = omega arith in
-    (λ i. cond (picked floor k i) FREE WALL) ∙ ap (λ m. cond (bit floor m) FREE WALL) same
+lane floor k zero j lt = absurd (omega arith)
+lane floor k (suc n) zero lt = grind (arith, picked)
 lane floor k (suc n) (suc j) lt =
     let same : suc k + j ≡ k + suc j = omega arith in
-    lane floor (suc k) n j (omega (arith, lt)) ∙ ap (λ m. cond (bit floor m) FREE WALL) same
+    lane floor (suc k) n j (omega arith) ∙ ap (λ m. cond (bit floor m) FREE WALL) same
 
-eight : (floor j : ℕ) → j < 8 → get_or (lanes floor 0 8) j 0 ≡ cond (bit floor j) FREE WALL
-eight floor j lt =
+eight : (floor : ℕ) {j : ℕ} → j < 8 → get_or (lanes floor 0 8) j 0 ≡ cond (bit floor j) FREE WALL
+eight floor {j} lt =
     let same : 0 + j ≡ j = omega arith in
     lane floor 0 8 j lt ∙ ap (λ m. cond (bit floor m) FREE WALL) same
 
@@ -66,15 +64,15 @@ eight floor j lt =
 abbrev pub both : ℕ → List ℕ
 both floor = lanes (floor % 256) 0 8 ++ lanes (floor / 256) 0 8
 
-pub sixteen : (floor k : ℕ) → k < 16 → get_or (both floor) k 0 ≡ cond (bit floor k) FREE WALL
-sixteen floor k lt = elim (cases_lt k 8) [
+pub sixteen : (floor : ℕ) {k : ℕ} → k < 16 → get_or (both floor) k 0 ≡ cond (bit floor k) FREE WALL
+sixteen floor {k} lt = elim (cases_lt k 8) [
   | inl low ↦
       get_or_append_left (lanes (floor % 256) 0 8) (lanes (floor / 256) 0 8) 0 k low
-      ∙ eight (floor % 256) k low ∙ (λ i. cond (low_bit floor k low i) FREE WALL)
+      ∙ eight (floor % 256) low ∙ (λ i. cond (low_bit floor low i) FREE WALL)
   | inr high ↦
-      let there : 8 + (k - 8) ≡ k = omega (arith, high) in
+      let there : 8 + (k - 8) ≡ k = omega arith in
       get_or-append_right (lanes (floor % 256) 0 8) (lanes (floor / 256) 0 8) 8 k 0 refl high
-      ∙ eight (floor / 256) (k - 8) (omega (arith, lt, high))
+      ∙ eight (floor / 256) (omega arith)
       ∙ (λ i. cond (bit_down floor 8 (k - 8) i) FREE WALL)
       ∙ ap (λ j. cond (bit floor j) FREE WALL) there
 ]

@@ -44,17 +44,12 @@ unfolding all_below
 computed = refl
 
 -- ---- from the test to its meaning
-said : (b step kind : ℕ) → says b step kind ≡ true → (get_or STEPS b 0 ≡ step) × (get_or KINDS b 0 ≡ kind)
-said b step kind h =
-    let parts = and_parts (nat_eq (get_or STEPS b 0) step) (nat_eq (get_or KINDS b 0) kind) h in
-    (eqb-true (get_or STEPS b 0) step parts.0, eqb-true (get_or KINDS b 0) kind parts.1)
+said : (b : ℕ) {step kind : ℕ} → says b step kind ≡ true → (get_or STEPS b 0 ≡ step) × (get_or KINDS b 0 ≡ kind)
+said b h = grind (arith, and_parts, eqb-true)
 
 -- a test in a chain decides its case or leaves the byte to the others
-step_by : {G : Type 0} (b k : ℕ) (x y : Bool) → cond (nat_eq b k) x y ≡ true → (b ≡ k → x ≡ true → G) → (b ≢ k → y ≡ true → G) → G
-step_by b k x y h here there = elim (eqb_tells b k) [
-  | inl is ↦ here is.1 (sym (ap (λ t. cond t x y) is.0) ∙ h)
-  | inr is ↦ there is.1 (sym (ap (λ t. cond t x y) is.0) ∙ h)
-]
+step_by : {G : Type 0} {b k : ℕ} {x y : Bool} → cond (nat_eq b k) x y ≡ true → (b ≡ k → x ≡ true → G) → (b ≢ k → y ≡ true → G) → G
+step_by h here there = grind (arith, eqb_tells)
 
 none : (b : ℕ) → b ≢ 108 → b ≢ 117 → b ≢ 114 → b ≢ 100 → b ≢ 76 → b ≢ 85 → b ≢ 82 → b ≢ 68 → (d : Dir) → Names b d → ⊥
 none b nl nu nr nd ml mu mr md L (inl is) = nl is
@@ -66,24 +61,24 @@ none b nl nu nr nd ml mu mr md R (inr is) = mr is
 none b nl nu nr nd ml mu mr md D (inl is) = nd is
 none b nl nu nr nd ml mu mr md D (inr is) = md is
 
-pub is_read : (b : ℕ) → b < 256 → IsRead (read_by b)
-is_read b lt =
+pub is_read : {b : ℕ} → b < 256 → IsRead (read_by b)
+is_read {b} lt =
     elim (is_blank b) as (λ v. is_blank b ≡ v → cond v (says b 0 WALK) (letter_means b) ≡ true → IsRead (read_by b)) [
-      | true ↦ λ blank h. let (step, kind) = said b 0 WALK h in inl (blank, step, kind)
+      | true ↦ λ blank h. let (step, kind) = said b h in inl (blank, step, kind)
       | false ↦ λ letter h. by_letter letter h
     ] refl (means_at 256 computed b lt)
   where
     by_letter : is_blank b ≡ false → letter_means b ≡ true → IsRead (read_by b)
     by_letter letter h =
-        step_by b 108 _ _ h (λ is s. let (step, kind) = said b 65535 WALK s in inr (inl (L, is, step, kind))) (λ nl h.
-        step_by b 117 _ _ h (λ is s. let (step, kind) = said b 65280 WALK s in inr (inl (U, is, step, kind))) (λ nu h.
-        step_by b 114 _ _ h (λ is s. let (step, kind) = said b 1 WALK s in inr (inl (R, is, step, kind))) (λ nr h.
-        step_by b 100 _ _ h (λ is s. let (step, kind) = said b 256 WALK s in inr (inl (D, is, step, kind))) (λ nd h.
-        step_by b 76 _ _ h (λ is s. let (step, kind) = said b 65535 PUSH s in inr (inr (inl (L, is, step, kind)))) (λ ml h.
-        step_by b 85 _ _ h (λ is s. let (step, kind) = said b 65280 PUSH s in inr (inr (inl (U, is, step, kind)))) (λ mu h.
-        step_by b 82 _ _ h (λ is s. let (step, kind) = said b 1 PUSH s in inr (inr (inl (R, is, step, kind)))) (λ mr h.
-        step_by b 68 _ _ h (λ is s. let (step, kind) = said b 256 PUSH s in inr (inr (inl (D, is, step, kind)))) (λ md h.
-        let (step, kind) = said b 0 FOREIGN h in inr (inr (inr (letter, none b nl nu nr nd ml mu mr md, step, kind)))))))))))
+        step_by h (λ is s. let (step, kind) = said b s in inr (inl (L, is, step, kind))) (λ nl h.
+        step_by h (λ is s. let (step, kind) = said b s in inr (inl (U, is, step, kind))) (λ nu h.
+        step_by h (λ is s. let (step, kind) = said b s in inr (inl (R, is, step, kind))) (λ nr h.
+        step_by h (λ is s. let (step, kind) = said b s in inr (inl (D, is, step, kind))) (λ nd h.
+        step_by h (λ is s. let (step, kind) = said b s in inr (inr (inl (L, is, step, kind)))) (λ ml h.
+        step_by h (λ is s. let (step, kind) = said b s in inr (inr (inl (U, is, step, kind)))) (λ mu h.
+        step_by h (λ is s. let (step, kind) = said b s in inr (inr (inl (R, is, step, kind)))) (λ mr h.
+        step_by h (λ is s. let (step, kind) = said b s in inr (inr (inl (D, is, step, kind)))) (λ md h.
+        let (step, kind) = said b {step = 0} {kind = FOREIGN} h in inr (inr (inr (letter, none b nl nu nr nd ml mu mr md, step, kind)))))))))))
 
 -- ---- what a byte adds
 abbrev adds : ℕ → ℕ → Bool
@@ -112,8 +107,8 @@ computed_added : all_added_below 256 ≡ true
 unfolding all_added_below
 computed_added = refl
 
-pub is_added : (b : ℕ) → b < 256 → IsAdded b (get_or ADDED b 0)
-is_added b lt =
+pub is_added : {b : ℕ} → b < 256 → IsAdded b (get_or ADDED b 0)
+is_added {b} lt =
     elim (is_blank b) as (λ v. is_blank b ≡ v → cond v (adds b 0) (walk_means b) ≡ true → IsAdded b (get_or ADDED b 0)) [
       | true ↦ λ blank h. inl (blank, eqb-true (get_or ADDED b 0) 0 h)
       | false ↦ λ _ h. by_letter h
@@ -121,8 +116,8 @@ is_added b lt =
   where
     by_letter : walk_means b ≡ true → IsAdded b (get_or ADDED b 0)
     by_letter h =
-        step_by b 108 _ _ h (λ is s. inr (inl (L, is, eqb-true (get_or ADDED b 0) (LETTER + 65535) s))) (λ nl h.
-        step_by b 117 _ _ h (λ is s. inr (inl (U, is, eqb-true (get_or ADDED b 0) (LETTER + 65280) s))) (λ nu h.
-        step_by b 114 _ _ h (λ is s. inr (inl (R, is, eqb-true (get_or ADDED b 0) (LETTER + 1) s))) (λ nr h.
-        step_by b 100 _ _ h (λ is s. inr (inl (D, is, eqb-true (get_or ADDED b 0) (LETTER + 256) s))) (λ nd h.
+        step_by h (λ is s. inr (inl (L, is, eqb-true (get_or ADDED b 0) (LETTER + 65535) s))) (λ nl h.
+        step_by h (λ is s. inr (inl (U, is, eqb-true (get_or ADDED b 0) (LETTER + 65280) s))) (λ nu h.
+        step_by h (λ is s. inr (inl (R, is, eqb-true (get_or ADDED b 0) (LETTER + 1) s))) (λ nr h.
+        step_by h (λ is s. inr (inl (D, is, eqb-true (get_or ADDED b 0) (LETTER + 256) s))) (λ nd h.
         inr (inr (eqb-true (get_or ADDED b 0) NO_WALK h))))))

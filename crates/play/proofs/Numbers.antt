@@ -27,117 +27,115 @@ differs n last = if n == last then 0 else 1
 
 changes_from_push : (last : ℕ) (ns : List ℕ) (m n : ℕ) → changes_from last ((ns ++ m ∷ []) ++ n ∷ []) ≡ changes_from last (ns ++ m ∷ []) + differs n m
 changes_from_push last [] m n = omega arith
-changes_from_push last (x ∷ ns) m n = let rest = changes_from_push x ns m n in omega (arith, rest)
+changes_from_push last (x ∷ ns) m n = let rest = changes_from_push x ns m n in omega arith
 
 pub changes_push : (ns : List ℕ) (m n : ℕ) → changes ((ns ++ m ∷ []) ++ n ∷ []) ≡ changes (ns ++ m ∷ []) + differs n m
 changes_push [] m n = omega arith
-changes_push (x ∷ ns) m n = let rest = changes_from_push x ns m n in omega (arith, rest)
+changes_push (x ∷ ns) m n = grind (arith, changes_from_push)
 
 differs_one : (n m : ℕ) → differs n m ≤ 1
-differs_one n m = elim (nat_eq n m) as (λ b. cond b 0 1 ≤ 1) [ true ↦ omega arith | false ↦ omega arith ]
+differs_one n m = grind arith
 
 changes_from_few : (last : ℕ) (ns : List ℕ) → changes_from last ns ≤ length ns
 changes_from_few last [] = omega arith
-changes_from_few last (n ∷ ns) = let rest = changes_from_few n ns in let one = differs_one n last in omega (arith, rest, one)
+changes_from_few last (n ∷ ns) = let rest = changes_from_few n ns in let one = differs_one n last in omega arith
 
 pub changes_few : (ns : List ℕ) → changes ns ≤ length ns
 changes_few [] = omega arith
-changes_few (n ∷ ns) = let rest = changes_from_few n ns in omega (arith, rest)
+changes_few (n ∷ ns) = grind (arith, changes_from_few)
 
 -- ---- the number of the box at a cell
-position_from_none : (c : Cell) (i : ℕ) (xs : List Cell) → ((n : ℕ) → slice_get xs n ≡ Some c → ⊥) → position_from (same c) i xs ≡ None
-position_from_none c i [] none = refl
-position_from_none c i (x ∷ xs) none =
+position_from_none : {c : Cell} (i : ℕ) (xs : List Cell) → ((n : ℕ) → slice_get xs n ≡ Some c → ⊥) → position_from (same c) i xs ≡ None
+position_from_none i [] none = refl
+position_from_none {c} i (x ∷ xs) none =
     same_or_other c x
     (λ e. absurd (none 0 (ap Some (sym e))))
-    (λ f. ap (λ b. cond b (Some i) (position_from (same c) (i + 1) xs)) f ∙ position_from_none c (i + 1) xs (λ n is. none (suc n) is))
+    (λ f. ap (λ b. cond b (Some i) (position_from (same c) (i + 1) xs)) f ∙ position_from_none (i + 1) xs (λ n is. none (suc n) is))
 
-position_from_some : (c : Cell) (i : ℕ) (xs : List Cell) (k : ℕ) → slice_get xs k ≡ Some c
+position_from_some : {c : Cell} (i : ℕ) (xs : List Cell) (k : ℕ) → slice_get xs k ≡ Some c
     → (n : ℕ) × (slice_get xs n ≡ Some c) × (position_from (same c) i xs ≡ Some (i + n))
-position_from_some c i [] k is = absurd (none-some c is)
-position_from_some c i (x ∷ xs) k is =
+position_from_some {c} i [] k is = absurd (none-some c is)
+position_from_some {c} i (x ∷ xs) k is =
     same_or_other c x
     (λ e. (0, ap Some (sym e), ap (λ b. cond b (Some i) (position_from (same c) (i + 1) xs)) (ap (same c) (sym e) ∙ same_itself c) ∙ ap Some (omega arith)))
-    (λ f. let later = position_from_some c (i + 1) xs (before k f is).0 (before k f is).1 in
+    (λ f. let later = position_from_some (i + 1) xs (before k f is).0 (before k f is).1 in
     (suc later.0, later.1, ap (λ b. cond b (Some i) (position_from (same c) (i + 1) xs)) f ∙ (later.2 ∙ ap Some (omega arith))))
   where
     before : (k : ℕ) → same c x ≡ false → slice_get (x ∷ xs) k ≡ Some c → (j : ℕ) × (slice_get xs j ≡ Some c)
     before zero f is = absurd (false≢true (sym f ∙ (ap (same c) (same_Some x c is) ∙ same_itself c)))
     before (suc k) f is = (k, is)
 
-pub number_none : (boxes : List Cell) (c : Cell) → ((n : ℕ) → slice_get boxes n ≡ Some c → ⊥) → number_at boxes c ≡ None
-number_none boxes c none = position_from-zero (same c) boxes ∙ position_from_none c 0 boxes none
+pub number_none : (boxes : List Cell) {c : Cell} → ((n : ℕ) → slice_get boxes n ≡ Some c → ⊥) → number_at boxes c ≡ None
+number_none boxes {c} none = position_from-zero (same c) boxes ∙ position_from_none 0 boxes none
 
-pub number_some : (boxes : List Cell) (s : Cells) (c : Cell) (n : ℕ) → AreNumbered boxes s → slice_get boxes n ≡ Some c → number_at boxes c ≡ Some n
-number_some boxes s c n numbered is =
-    let found = position_from_some c 0 boxes n is in
-    position_from-zero (same c) boxes ∙ (found.2 ∙ ap Some (let one = numbered.apart found.0 n c found.1 is in omega (arith, one)))
+pub number_some : {boxes : List Cell} {s : Cells} {c : Cell} {n : ℕ} → AreNumbered boxes s → slice_get boxes n ≡ Some c → number_at boxes c ≡ Some n
+number_some {boxes} {c} {n} numbered is =
+    let found = position_from_some 0 boxes n is in
+    position_from-zero (same c) boxes ∙ (found.2 ∙ ap Some (let one = numbered.apart found.0 n c found.1 is in omega arith))
 
 -- ---- a step
 abbrev goes : Cell → Cell → Cell → Cell
 goes from to b = if eq_by_cmp cell_cmp from b then to else b
 
-goes_there : (from to b : Cell) → from ≡ b → goes from to b ≡ to
-goes_there from to b e = ap (λ (v : Bool). if v then to else b) (ap (same from) (sym e) ∙ same_itself from)
+goes_there : {from : Cell} (to : Cell) {b : Cell} → from ≡ b → goes from to b ≡ to
+goes_there to e = grind (arith, same, same_itself)
 
-goes_nowhere : (from to b : Cell) → same from b ≡ false → goes from to b ≡ b
-goes_nowhere from to b f = ap (λ (v : Bool). if v then to else b) f
+goes_nowhere : (from to : Cell) {b : Cell} → same from b ≡ false → goes from to b ≡ b
+goes_nowhere from to f = search
 
 -- a walk moves no box
-pub stepped_none : (boxes : List Cell) (c : Cell) (d : Dir) → ((n : ℕ) → slice_get boxes n ≡ Some c → ⊥) → stepped boxes c d ≡ boxes
-stepped_none [] c d none = refl
-stepped_none (x ∷ xs) c d none =
-    let first = goes_nowhere c (neighbor c d) x (same_or_other c x (λ e. absurd (none 0 (ap Some (sym e)))) (λ f. f)) in
-    let rest = stepped_none xs c d (λ n is. none (suc n) is) in
+pub stepped_none : (boxes : List Cell) {c : Cell} (d : Dir) → ((n : ℕ) → slice_get boxes n ≡ Some c → ⊥) → stepped boxes c d ≡ boxes
+stepped_none [] d none = refl
+stepped_none (x ∷ xs) {c} d none =
+    let first = goes_nowhere c (neighbor c d) (same_or_other c x (λ e. absurd (none 0 (ap Some (sym e)))) (λ f. f)) in
+    let rest = stepped_none xs d (λ n is. none (suc n) is) in
     λ i. first i ∷ rest i
 
 -- the box that a push moves is on the next cell afterwards
-pub stepped_there : (boxes : List Cell) (c : Cell) (d : Dir) (n : ℕ) → slice_get boxes n ≡ Some c → slice_get (stepped boxes c d) n ≡ Some (neighbor c d)
-stepped_there boxes c d n is = slice_get-map (goes c (neighbor c d)) boxes n
-    ∙ (ap (option_map (goes c (neighbor c d))) is ∙ ap Some (goes_there c (neighbor c d) c refl))
+pub stepped_there : (boxes : List Cell) {c : Cell} (d : Dir) (n : ℕ) → slice_get boxes n ≡ Some c → slice_get (stepped boxes c d) n ≡ Some (neighbor c d)
+stepped_there boxes d n is = grind (arith, slice_get-map, goes_there)
 
 -- an element of a mapped list comes from an element of the list
-mapped : (f : Cell → Cell) (xs : List Cell) (n : ℕ) (c : Cell) → slice_get (map f xs) n ≡ Some c → (b : Cell) × (slice_get xs n ≡ Some b) × (f b ≡ c)
-mapped f [] n c is = absurd (none-some c is)
-mapped f (x ∷ xs) zero c is = (x, refl, same_Some (f x) c is)
-mapped f (x ∷ xs) (suc n) c is = mapped f xs n c is
+mapped : {f : Cell → Cell} (xs : List Cell) (n : ℕ) {c : Cell} → slice_get (map f xs) n ≡ Some c → (b : Cell) × (slice_get xs n ≡ Some b) × (f b ≡ c)
+mapped [] n {c} is = absurd (none-some c is)
+mapped (x ∷ xs) zero is = search (same_Some)
+mapped (x ∷ xs) (suc n) is = mapped xs n is
 
 -- a push keeps the numbers
-pub numbered_push : (boxes : List Cell) (s : Cells) (c : Cell) (d : Dir) → AreNumbered boxes s → Has s c → Lacks s (neighbor c d)
+pub numbered_push : {boxes : List Cell} {s : Cells} (c : Cell) (d : Dir) → AreNumbered boxes s → Has s c → Lacks s (neighbor c d)
     → AreNumbered (stepped boxes c d) (moved s c (neighbor c d))
-numbered_push boxes s c d numbered has free = record { each = each; all = all; apart = apart }
+numbered_push {boxes} {s} c d numbered has free = record { each = each; all = all; apart = apart }
   where
     to : Cell
     to = neighbor c d
 
     each : (n : ℕ) (q : Cell) → slice_get (stepped boxes c d) n ≡ Some q → Has (moved s c to) q
     each n q is =
-        let (b, at, goes_to) = mapped (goes c to) boxes n q is in
+        let (b, at, goes_to) = mapped boxes n is in
         same_or_other c b
-        (λ e. subst (Has (moved s c to)) (sym (goes_there c to b e) ∙ goes_to) (inserted (set.remove s c) to))
-        (λ f. subst (Has (moved s c to)) (sym (goes_nowhere c to b f) ∙ goes_to)
-        (kept_by_insert (set.remove s c) to b (kept_by_remove s c b (λ e. false≢true (sym f ∙ (ap (same c) e ∙ same_itself c))) (numbered.each n b at))))
+        (λ e. rw (← (sym (goes_there to e) ∙ goes_to)) (inserted (set.remove s c) to))
+        (λ f. rw (sym (goes_nowhere c to {b = b} f) ∙ goes_to) at (kept_by_insert (set.remove s c) to b (kept_by_remove s c b (λ e. false≢true (sym f ∙ (ap (same c) e ∙ same_itself c))) (numbered.each n b at))))
 
     all : (q : Cell) → Has (moved s c to) q → (n : ℕ) × (slice_get (stepped boxes c d) n ≡ Some q)
     all q h =
         elim (has_insert (set.remove s c) to q h) [
-          | inl e ↦ let (n, at) = numbered.all c has in (n, stepped_there boxes c d n at ∙ ap Some (sym e))
+          | inl e ↦ let (n, at) = numbered.all c has in (n, stepped_there boxes d n at ∙ ap Some (sym e))
           | inr rest ↦
               let (other, old) = has_remove s c q rest in
               let (n, at) = numbered.all q old in
-              (n, slice_get-map (goes c to) boxes n ∙ (ap (option_map (goes c to)) at ∙ ap Some (goes_nowhere c to q (other_false c q (λ e. other (sym e))))))
+              (n, slice_get-map (goes c to) boxes n ∙ (ap (option_map (goes c to)) at ∙ ap Some (goes_nowhere c to (other_false c q (λ e. other (sym e))))))
         ]
 
     apart : (n m : ℕ) (q : Cell) → slice_get (stepped boxes c d) n ≡ Some q → slice_get (stepped boxes c d) m ≡ Some q → n ≡ m
     apart n m q x y =
-        let (a, at_n, goes_a) = mapped (goes c to) boxes n q x in
-        let (b, at_m, goes_b) = mapped (goes c to) boxes m q y in
+        let (a, at_n, goes_a) = mapped boxes n x in
+        let (b, at_m, goes_b) = mapped boxes m y in
         same_or_other c a
         (λ e. same_or_other c b
         (λ f. numbered.apart n m c (at_n ∙ ap Some (sym e)) (at_m ∙ ap Some (sym f)))
-        (λ f. let here : to ≡ b = sym (goes_there c to a e) ∙ (goes_a ∙ (sym goes_b ∙ goes_nowhere c to b f)) in
-        not_both s to (subst (Has s) (sym here) (numbered.each m b at_m)) free))
+        (λ f. let here : to ≡ b = sym (goes_there to e) ∙ (goes_a ∙ (sym goes_b ∙ goes_nowhere c to f)) in
+        not_both s to (rw here (numbered.each m b at_m)) free))
         (λ e. same_or_other c b
-        (λ f. let here : to ≡ a = sym (goes_there c to b f) ∙ (goes_b ∙ (sym goes_a ∙ goes_nowhere c to a e)) in
-        not_both s to (subst (Has s) (sym here) (numbered.each n a at_n)) free)
-        (λ f. numbered.apart n m q (at_n ∙ ap Some (sym (goes_nowhere c to a e) ∙ goes_a)) (at_m ∙ ap Some (sym (goes_nowhere c to b f) ∙ goes_b))))
+        (λ f. let here : to ≡ a = sym (goes_there to f) ∙ (goes_b ∙ (sym goes_a ∙ goes_nowhere c to e)) in
+        not_both s to (rw here (numbered.each n a at_n)) free)
+        (λ f. numbered.apart n m q (at_n ∙ ap Some (sym (goes_nowhere c to e) ∙ goes_a)) (at_m ∙ ap Some (sym (goes_nowhere c to f) ∙ goes_b))))

@@ -25,7 +25,7 @@ use Rattle.board.specs.Game.{moved}
 
 -- ---- a set is not empty if it has a member
 some_in : (s : Cells) (c : Cell) → Has s c → set.len s ≢ 0
-some_in s c has none = false≢true (sym (ap (λ (t : Cells). contains t c) (empty_of_len s none) ∙ contains-empty cell_cmp c) ∙ has)
+some_in s c has none = false≢true (sym (ap (λ t. contains t c) (empty_of_len s none) ∙ contains-empty cell_cmp c) ∙ has)
 
 -- ---- one less
 len_less : (s : Cells) (c : Cell) → Has s c → set.len (set.remove s c) + 1 ≡ set.len s
@@ -33,7 +33,7 @@ len_less s c has =
     let left = len-remove cells_total s c in
     let counted = ap (λ b. cond b (set.len s - 1) (set.len s)) has in
     let some = some_in s c has in
-    omega (arith, left, counted, some)
+    omega arith
 
 -- ---- a push
 pub len_moved : (boxes : Cells) (from to : Cell) → Has boxes from → Lacks boxes to → set.len (moved boxes from to) ≡ set.len boxes
@@ -42,7 +42,7 @@ len_moved boxes from to has free =
     let lacks : Lacks (set.remove boxes from) to = lacks_where (set.remove boxes from) to (λ h. not_both boxes to (has_remove boxes from to h).1 free) in
     let more = len-insert cells_total (set.remove boxes from) to in
     let counted = ap (λ b. cond b (set.len (set.remove boxes from)) (set.len (set.remove boxes from) + 1)) lacks in
-    omega (arith, less, more, counted)
+    omega arith
 
 -- ---- no box off the goals
 module _ (goals : Cells) where
@@ -56,7 +56,7 @@ module _ (goals : Cells) where
   off_none boxes zero_len c has =
       has_or_lacks goals c (λ goal. goal)
       (λ lacks. absurd (false≢true (
-      sym (ap (λ (s : Cells). contains s c) (empty_of_len (off boxes) zero_len) ∙ contains-empty cell_cmp c)
+      sym (ap (λ s. contains s c) (empty_of_len (off boxes) zero_len) ∙ contains-empty cell_cmp c)
       ∙ (off_has boxes c ∙ ((λ i. has i && not (lacks i)))))))
 
   pub none_off : (boxes : Cells) → ((c : Cell) → Has boxes c → Has goals c) → set.len (off boxes) ≡ 0
@@ -114,8 +114,8 @@ not_again (x ∷ came) m left sorted = ap (λ b. b || list_any (same m) came) (b
     first [] h = h.0
     first (y ∷ came) h = first came h.1
 
-pub all_came_set : (shape : Extent) (goals : Cells) (came : List Cell) → AreMembersOf shape goals came → set_of came ≡ goals
-all_came_set shape goals came all = same_cells (set_of came) goals (λ q. contains-from_list cells_total came q ∙ has_or_lacks goals q
+pub all_came_set : {shape : Extent} {goals : Cells} {came : List Cell} → AreMembersOf shape goals came → set_of came ≡ goals
+all_came_set {goals} {came} all = same_cells (set_of came) goals (λ q. contains-from_list cells_total came q ∙ has_or_lacks goals q
     (λ has. list_any-from_Contains (eq_by_cmp_equiv cells_total) q came ((all.exact q).1 has) ∙ sym has)
     (λ lacks. elim (list_any (same q) came) as (λ v. list_any (same q) came ≡ v → v ≡ contains goals q) [
       | true ↦ λ some. not_both goals q ((all.exact q).0 (Contains-from_any (λ x y e. same_true x y e) q came some)) lacks
@@ -142,19 +142,15 @@ module _ (shape : Extent) (goals boxes : Cells) (came : List Cell) where
     still_off box = contains-difference cells_total boxes (set_of came) m ∙ (λ i. box i && not (lacks_next i))
 
     pub counted_some : Has boxes m → 1 ≤ count
-    counted_some box = let some = some_in (set.difference boxes (set_of came)) m (still_off box) in omega (arith, some, number)
+    counted_some box = grind (arith, some_in, still_off)
 
     pub counted_box : Has boxes m → count - 1 ≡ set.len (set.difference boxes (set_of (came ++ m ∷ [])))
-    counted_box box =
-        let less = len_less (set.difference boxes (set_of came)) m (still_off box) in
-        let same_len = ap (λ (s : Cells). set.len (set.difference boxes s)) (came_more came m) ∙ ap set.len (without_box boxes (set_of came) m) in
-        omega (arith, less, same_len, number)
+    counted_box box = grind (arith, len_less, still_off, came_more, without_box)
 
     -- the count stays right after a goal without a box
     pub counted_none : Lacks boxes m → count ≡ set.len (set.difference boxes (set_of (came ++ m ∷ [])))
-    counted_none lacks = number ∙ sym (ap (λ (s : Cells). set.len (set.difference boxes s)) (came_more came m)
-        ∙ ap set.len (without_none boxes (set_of came) m lacks))
+    counted_none lacks = search (came_more, without_none)
 
-  pub counted_end : (count : ℕ) → AreMembersOf shape goals (came ++ []) → count ≡ set.len (set.difference boxes (set_of came))
+  pub counted_end : {count : ℕ} → AreMembersOf shape goals (came ++ []) → count ≡ set.len (set.difference boxes (set_of came))
       → count ≡ set.len (set.difference boxes goals)
-  counted_end count all number = number ∙ ap (λ (s : Cells). set.len (set.difference boxes s)) (all_came_set shape goals came (all_came shape goals came all))
+  counted_end all number = number ∙ ap (λ s. set.len (set.difference boxes s)) (all_came_set (all_came shape goals came all))

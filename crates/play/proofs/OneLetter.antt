@@ -53,19 +53,16 @@ small_above b R is = ap (ltb 32) is
 small_above b D is = ap (ltb 32) is
 
 pub blank_below : (b : ℕ) → is_blank b ≡ true → ltb 32 b ≡ false
-blank_below b blank =
-    or_cases (nat_eq b 32) (nat_eq b 9 || (nat_eq b 10 || nat_eq b 13)) blank (λ is. ap (ltb 32) (eqb-true b 32 is)) (λ more.
-    or_cases (nat_eq b 9) (nat_eq b 10 || nat_eq b 13) more (λ is. ap (ltb 32) (eqb-true b 9 is)) (λ more.
-    or_cases (nat_eq b 10) (nat_eq b 13) more (λ is. ap (ltb 32) (eqb-true b 10 is)) (λ is. ap (ltb 32) (eqb-true b 13 is))))
+blank_below b blank = grind (arith, or_cases, eqb-true)
 
 names : (letter : ReadLetter) (d : Dir) → ((letter.byte ≡ small d) × (letter.kind ≡ WALK)) ⊎ ((letter.byte ≡ capital d) × (letter.kind ≡ PUSH))
     → Names letter.byte d
 names letter d (inl (is, _)) = inl is
 names letter d (inr (is, _)) = inr is
 
-pub not_blank : (b : ℕ) (d : Dir) → Names b d → is_blank b ≡ false
-not_blank b d (inl is) = ap is_blank is ∙ small_not_blank d
-not_blank b d (inr is) = ap is_blank is ∙ capital_not_blank d
+pub not_blank : {b : ℕ} (d : Dir) → Names b d → is_blank b ≡ false
+not_blank d (inl is) = ap is_blank is ∙ small_not_blank d
+not_blank d (inr is) = ap is_blank is ∙ capital_not_blank d
 
 module _ (level : Level) (done field : List ℕ) (run : Run) (before : Progress level done field run) (letter : ReadLetter) where
   abbrev ahead : ℕ
@@ -76,77 +73,55 @@ module _ (level : Level) (done field : List ℕ) (run : Run) (before : Progress 
 
   -- ---- the player's own cell
   still : letter.step ≡ 0 → ahead ≡ place_of before.state.player
-  still none = let at = before.player in let fits = place_fits before.state.player in omega (arith, at, fits, none)
+  still none = grind (arith, place_fits)
 
   here_free : get_or field (place_of before.state.player) 0 ≡ FREE
-  here_free =
-      let c = before.state.player in let stands = before.stands in
-      free_byte level before.state.boxes c (get_or field (place_of c) 0)
-      (before.shown.shown c (near_on level.shape c stands.player.0)) stands.player stands.apart
+  here_free = grind (arith, free_byte, near_on)
 
   directed : IsRead letter → IsNoWalk field run letter → letter.kind ≢ FOREIGN → (d : Dir) × Directs letter d
-  directed (inl (blank, step, kind_is)) no_walk known = absurd (no_walk kind_is (ap (λ n. get_or field n 0) (still step) ∙ here_free))
-  directed (inr (inl (d, named, step, kind_is))) no_walk known = (d, record { step = step; named = inl (named, kind_is) })
-  directed (inr (inr (inl (d, named, step, kind_is)))) no_walk known = (d, record { step = step; named = inr (named, kind_is) })
+  directed (inl (blank, step, kind_is)) no_walk known = grind (arith, still, here_free)
+  directed (inr (inl (d, named, step, kind_is))) no_walk known = grind arith
+  directed (inr (inr (inl (d, named, step, kind_is)))) no_walk known = grind arith
   directed (inr (inr (inr (_, _, step, kind_is)))) no_walk known = absurd (known kind_is)
 
   -- ---- the cell ahead, and the one beyond it
   ahead_is : (d : Dir) → letter.step ≡ stride d → ahead ≡ place_of (neighbor before.state.player d)
-  ahead_is d step =
-      ap (λ n. (n + letter.step) % 2 ^ 16) before.player
-      ∙ (ap (λ n. (place_of before.state.player + n) % 2 ^ 16) step ∙ place_step level.shape before.stands.sides before.state.player d before.stands.player.0)
+  ahead_is d step = grind (arith, place_step)
 
   beyond_is : (d : Dir) → letter.step ≡ stride d → IsOn level.shape (neighbor before.state.player d)
       → beyond ≡ place_of (neighbor (neighbor before.state.player d) d)
-  beyond_is d step on =
-      ap (λ n. (n + letter.step) % 2 ^ 16) (ahead_is d step)
-      ∙ (ap (λ n. (place_of (neighbor before.state.player d) + n) % 2 ^ 16) step
-      ∙ place_step level.shape before.stands.sides (neighbor before.state.player d) d on)
+  beyond_is d step on = grind (arith, ahead_is, place_step)
 
   pub ahead_within : IsRead letter → ahead < length field
-  ahead_within (inl (blank, step, kind_is)) = subst (λ n. n < length field) (sym (still step))
-      (before.shown.places before.state.player (near_on level.shape before.state.player before.stands.player.0))
+  ahead_within (inl (blank, step, kind_is)) = grind (arith, still, near_on)
   ahead_within (inr (inl (d, named, step, kind_is))) = subst (λ n. n < length field) (sym (ahead_is d step))
-      (before.shown.places (neighbor before.state.player d) (near_neighbor level.shape before.state.player d before.stands.player.0))
+      (before.shown.places (neighbor before.state.player d) (near_neighbor level.shape d before.stands.player.0))
   ahead_within (inr (inr (inl (d, named, step, kind_is)))) =
       subst (λ n. n < length field) (sym (ahead_is d step))
-      (before.shown.places (neighbor before.state.player d) (near_neighbor level.shape before.state.player d before.stands.player.0))
-  ahead_within (inr (inr (inr (_, _, step, kind_is)))) =
-      subst (λ n. n < length field) (sym (still step)) (before.shown.places before.state.player
-      (near_on level.shape before.state.player before.stands.player.0))
+      (before.shown.places (neighbor before.state.player d) (near_neighbor level.shape d before.stands.player.0))
+  ahead_within (inr (inr (inr (_, _, step, kind_is)))) = grind (arith, still, near_on)
 
   ahead_shown : (d : Dir) → letter.step ≡ stride d → IsShown level before.state.boxes (neighbor before.state.player d) (get_or field ahead 0)
-  ahead_shown d step =
-      let q = neighbor before.state.player d in
-      subst (λ n. IsShown level before.state.boxes q (get_or field n 0)) (sym (ahead_is d step))
-      (before.shown.shown q (near_neighbor level.shape before.state.player d before.stands.player.0))
+  ahead_shown d step = grind (arith, ahead_is, near_neighbor)
 
   beyond_shown : (d : Dir) → letter.step ≡ stride d → IsOn level.shape (neighbor before.state.player d)
       → IsShown level before.state.boxes (neighbor (neighbor before.state.player d) d) (get_or field beyond 0)
-  beyond_shown d step on =
-      let q = neighbor (neighbor before.state.player d) d in
-      subst (λ n. IsShown level before.state.boxes q (get_or field n 0)) (sym (beyond_is d step on))
-      (before.shown.shown q (near_neighbor level.shape (neighbor before.state.player d) d on))
+  beyond_shown d step on = grind (arith, beyond_is, near_neighbor)
 
   -- ---- a letter that is a legal step
   -- a walk or a blank is played by moving the player to the free cell ahead
   pub walked : IsRead letter → letter.kind ≡ WALK → get_or field ahead 0 ≡ FREE → (moves : ℕ)
       → ((d : Dir) → letter.byte ≡ small d → moves ≡ run.tally.moves + 1) → (is_blank letter.byte ≡ true → moves ≡ run.tally.moves)
       → Progress level (done ++ letters (letter.byte ∷ [])) field (record { player = ahead; last = run.last; tally = record run.tally { moves = moves } })
-  walked (inl (blank, step, kind_is)) kind free moves counted none =
-      subst (λ (bs : List ℕ). Progress level bs field (record { player = ahead; last = run.last; tally = record run.tally { moves = moves } }))
-      (sym (ap (λ bs. done ++ bs) (letters_none letter.byte [] blank) ∙ append-nil done))
-      (subst (λ (r : Run). Progress level done field r) (let at = before.player
-      ∙ sym (still step) in let same_moves = sym (none blank) in
-      (λ i. record { player = at i; last = run.last; tally = record run.tally { moves = same_moves i } })) before)
+  walked (inl (blank, step, kind_is)) kind free moves counted none = grind (arith, letters_none, append-nil, still)
   walked (inr (inl (d, named, step, kind_is))) kind free moves counted none =
       let (floor, lacks) = free_by level before.state.boxes (neighbor before.state.player d) (get_or field ahead 0) (ahead_shown d step) free in
-      subst (λ (bs : List ℕ). Progress level (done ++ bs) field (record { player = ahead; last = run.last; tally = record run.tally { moves = moves } }))
-      (sym (letters_one letter.byte [] (not_blank letter.byte d (inl named))))
-      (subst (λ (r : Run). Progress level (done ++ letter.byte ∷ []) field r)
+      subst (λ bs. Progress level (done ++ bs) field (record { player = ahead; last = run.last; tally = record run.tally { moves = moves } }))
+      (sym (letters_one [] (not_blank d (inl named))))
+      (subst (λ r. Progress level (done ++ letter.byte ∷ []) field r)
       (let at = sym (ahead_is d step) in let more = sym (counted d named) in
       (λ i. record { player = at i; last = run.last; tally = record run.tally { moves = more i } }))
-      (progress_walk level done field run before letter.byte d floor lacks named))
+      (progress_walk level done field run before d floor lacks named))
   walked (inr (inr (inl (d, named, step, kind_is)))) kind free moves counted none = absurd (omega arith)
   walked (inr (inr (inr (_, _, step, kind_is)))) kind free moves counted none = absurd (omega arith)
 
@@ -157,11 +132,11 @@ module _ (level : Level) (done field : List ℕ) (run : Run) (before : Progress 
         let (d, directs) = directed read no_walk known in
         let (floor, box) = box_by level before.state.boxes (neighbor before.state.player d) (get_or field ahead 0) (ahead_shown d directs.step) is in
         subst (λ n. n < length field) (sym (beyond_is d directs.step floor.0))
-        (before.shown.places (neighbor (neighbor before.state.player d) d) (near_neighbor level.shape (neighbor before.state.player d) d floor.0))
+        (before.shown.places (neighbor (neighbor before.state.player d) d) (near_neighbor level.shape d floor.0))
 
-    pub pushed_on : (new : Run) → letter.kind ≡ PUSH → get_or field ahead 0 ≡ BOX → get_or field beyond 0 ≡ FREE → CountsPush run ahead beyond new
+    pub pushed_on : {new : Run} → letter.kind ≡ PUSH → get_or field ahead 0 ≡ BOX → get_or field beyond 0 ≡ FREE → CountsPush run ahead beyond new
         → Progress level (done ++ letters (letter.byte ∷ [])) (set (set field ahead FREE) beyond BOX) new
-    pushed_on new kind is free counted =
+    pushed_on {new} kind is free counted =
         let (d, directs) = directed read no_walk known in
         let (floor, box) = box_by level before.state.boxes (neighbor before.state.player d) (get_or field ahead 0) (ahead_shown d directs.step) is in
         let (there, lacks) = free_by level before.state.boxes (neighbor (neighbor before.state.player d) d) (get_or field beyond 0)
@@ -169,23 +144,20 @@ module _ (level : Level) (done field : List ℕ) (run : Run) (before : Progress 
         let at = ahead_is d directs.step in
         let to = beyond_is d directs.step floor.0 in
         let named = is_capital d directs.named in
-        subst (λ (bs : List ℕ). Progress level (done ++ bs) (set (set field ahead FREE) beyond BOX) new)
-        (sym (letters_one letter.byte [] (not_blank letter.byte d (inr named))))
-        (subst (λ (n : ℕ). Progress level (done ++ letter.byte ∷ []) (set (set field n FREE) beyond BOX) new) (sym at)
-        (subst (λ (n : ℕ). Progress level (done ++ letter.byte ∷ []) (set (set field (place_of (neighbor before.state.player d)) FREE) n BOX) new) (sym to)
-        (progress_push level done field run before letter.byte d new box there lacks named
-        (subst (λ (n : ℕ). CountsPush run n (place_of (neighbor (neighbor before.state.player d) d)) new) at
-        (subst (λ (n : ℕ). CountsPush run ahead n new) to counted)))))
+        rw (← at, ← (letters_one [] (not_blank d (inr named)))) at (subst (λ n. Progress level (done ++ letter.byte ∷ []) (set (set field (place_of (neighbor before.state.player d)) FREE) n BOX) new) (sym to)
+        (progress_push level done field run before d box there lacks named
+        (subst (λ n. CountsPush run n (place_of (neighbor (neighbor before.state.player d) d)) new) at
+        (rw (← to) counted))))
       where
         is_capital : (d : Dir) → ((letter.byte ≡ small d) × (letter.kind ≡ WALK)) ⊎ ((letter.byte ≡ capital d) × (letter.kind ≡ PUSH)) → letter.byte ≡ capital d
-        is_capital d (inl (_, walk)) = absurd (omega (arith, kind, walk))
+        is_capital d (inl (_, walk)) = absurd (omega arith)
         is_capital d (inr (named, _)) = named
 
   -- ---- a letter that is none
   fails : (after : List ℕ) (why : MoveWhy) → is_blank letter.byte ≡ false → IsCause level before.state letter.byte why
       → FailsAt level (done ++ (letters (letter.byte ∷ []) ++ after)) (run.tally.moves + 1) why
-  fails after why letter_here cause = subst (λ (bs : List ℕ). FailsAt level (done ++ (bs ++ after)) (run.tally.moves + 1) why)
-      (sym (letters_one letter.byte [] letter_here)) (fails_at level done field run before letter.byte after why cause)
+  fails after why letter_here cause = subst (λ bs. FailsAt level (done ++ (bs ++ after)) (run.tally.moves + 1) why)
+      (sym (letters_one {x = letter.byte} [] letter_here)) (fails_at level done field run before letter.byte after why cause)
 
   pub fails_foreign : (after : List ℕ) → IsRead letter → letter.kind ≡ FOREIGN
       → FailsAt level (done ++ (letters (letter.byte ∷ []) ++ after)) (run.tally.moves + 1) Letter
@@ -196,15 +168,7 @@ module _ (level : Level) (done field : List ℕ) (run : Run) (before : Progress 
 
   module _ (after : List ℕ) (read : IsRead letter) (no_walk : IsNoWalk field run letter) (known : letter.kind ≢ FOREIGN) where
     pub fails_wall : get_or field ahead 0 ≡ WALL → FailsAt level (done ++ (letters (letter.byte ∷ []) ++ after)) (run.tally.moves + 1) Wall
-    fails_wall is =
-        let (d, directs) = directed read no_walk known in
-        let name = names letter d directs.named in
-        let wall = wall_by level before.state.boxes (neighbor before.state.player d) (get_or field ahead 0) (ahead_shown d directs.step) is in
-        fails after Wall (not_blank letter.byte d name) (d, name, record { stuck = stuck d wall; wall = wall })
-      where
-        stuck : (d : Dir) → IsWall level (neighbor before.state.player d) → (t : State) → Steps level before.state d t → ⊥
-        stuck d wall t (inl walk) = wall walk.0
-        stuck d wall t (inr push) = wall (before.stands.boxes (neighbor before.state.player d) push.0)
+    fails_wall is = grind (arith, directed, names, wall_by, ahead_shown, fails, not_blank)
 
     pub fails_blocked : get_or field ahead 0 ≡ BOX → get_or field beyond 0 ≢ FREE
         → FailsAt level (done ++ (letters (letter.byte ∷ []) ++ after)) (run.tally.moves + 1) Blocked
@@ -212,7 +176,7 @@ module _ (level : Level) (done field : List ℕ) (run : Run) (before : Progress 
         let (d, directs) = directed read no_walk known in
         let name = names letter d directs.named in
         let (floor, box) = box_by level before.state.boxes (neighbor before.state.player d) (get_or field ahead 0) (ahead_shown d directs.step) is in
-        fails after Blocked (not_blank letter.byte d name) (
+        fails after Blocked (not_blank d name) (
           d,
           name,
           record {
@@ -233,7 +197,7 @@ module _ (level : Level) (done field : List ℕ) (run : Run) (before : Progress 
         let (floor, box) = box_by level before.state.boxes (neighbor before.state.player d) (get_or field ahead 0) (ahead_shown d directs.step) is in
         let (there, lacks) = free_by level before.state.boxes (neighbor (neighbor before.state.player d) d) (get_or field beyond 0)
         (beyond_shown d directs.step floor.0) free in
-        fails after Case (not_blank letter.byte d name) (d, pushed_by before.state d, inr ((box, there, lacks, refl), is_small d directs.named))
+        fails after Case (not_blank d name) (d, pushed_by before.state d, inr ((box, there, lacks, refl), is_small d directs.named))
       where
         is_small : (d : Dir) → ((letter.byte ≡ small d) × (letter.kind ≡ WALK)) ⊎ ((letter.byte ≡ capital d) × (letter.kind ≡ PUSH)) → letter.byte ≡ small d
         is_small d (inl (named, _)) = named
@@ -247,7 +211,7 @@ module _ (level : Level) (done field : List ℕ) (run : Run) (before : Progress 
         let name = names letter d directs.named in
         let free = is_free d (ahead_shown d directs.step) in
         let (floor, lacks) = free_by level before.state.boxes (neighbor before.state.player d) (get_or field ahead 0) (ahead_shown d directs.step) free in
-        fails after Case (not_blank letter.byte d name) (d, walked_by before.state d, inl ((floor, lacks, refl), is_capital d free directs.named))
+        fails after Case (not_blank d name) (d, walked_by before.state d, inl ((floor, lacks, refl), is_capital d free directs.named))
       where
         is_free : (d : Dir) → IsShown level before.state.boxes (neighbor before.state.player d) (get_or field ahead 0) → get_or field ahead 0 ≡ FREE
         is_free d (inl (e, _, _)) = e

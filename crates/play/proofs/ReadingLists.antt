@@ -38,8 +38,8 @@ true_both : (a b : Bool) → T a → T b → T (a && b)
 true_both true b x y = y
 true_both false b x y = absurd x
 
-less_true : (o : Ordering) → o ≡ Less → T (is_lt o)
-less_true o e = subst (λ p. T (is_lt p)) (sym e) tt
+less_true : {o : Ordering} → o ≡ Less → T (is_lt o)
+less_true e = subst (λ p. T (is_lt p)) (sym e) tt
 
 true_less : (o : Ordering) → T (is_lt o) → o ≡ Less
 true_less Less h = refl
@@ -58,7 +58,7 @@ sorted_cells (e ∷ es) h = let (first, rest) = both_true _ _ h in (below_cells 
 
 below_marks : (x : Cell) (xs : List Cell) → AllByRecursion (λ y. cell_cmp x y ≡ Less) xs → T (below_all cell_cmp x (map mark xs))
 below_marks x [] h = tt
-below_marks x (y ∷ ys) h = true_both _ _ (less_true _ h.0) (below_marks x ys h.1)
+below_marks x (y ∷ ys) h = true_both _ _ (less_true h.0) (below_marks x ys h.1)
 
 sorted_marks : (xs : List Cell) → IsStrictlySortedBy cell_cmp xs → T (is_sorted cell_cmp (map mark xs))
 unfolding IsStrictlySortedBy
@@ -103,31 +103,31 @@ one_order xs ys s a b =
     sym (unmarked xs) ∙ (ap (map cell_of) alike ∙ unmarked ys)
   where
     held : (q : Cell) → list_any (same q) xs ≡ list_any (same q) ys
-    held q = sym (contains-from_list cells_total xs q) ∙ (ap (λ (t : Cells). contains t q) (a.members ∙ sym b.members) ∙ contains-from_list cells_total ys q)
+    held q = sym (contains-from_list cells_total xs q) ∙ (ap (λ t. contains t q) (a.members ∙ sym b.members) ∙ contains-from_list cells_total ys q)
 
     found_alike : (q : Cell) → find cell_cmp q (map mark xs) ≡ find cell_cmp q (map mark ys)
     found_alike q = marked_alike _ _ (found_mark q xs ∙ (held q ∙ sym (found_mark q ys)))
 
 -- ---- the places of its cells
-below_at : (P : Cell → Type 0) (xs : List Cell) (n : ℕ) (c : Cell) → AllByRecursion P xs → slice_get xs n ≡ Some c → P c
-below_at P [] n c all is = absurd (none-some c is)
-below_at P (x ∷ xs) zero c all is = subst P (same_Some x c is) all.0
-below_at P (x ∷ xs) (suc n) c all is = below_at P xs n c all.1 is
+below_at : (P : Cell → Type 0) (xs : List Cell) (n : ℕ) {c : Cell} → AllByRecursion P xs → slice_get xs n ≡ Some c → P c
+below_at P [] n {c} all is = absurd (none-some c is)
+below_at P (x ∷ xs) zero {c} all is = subst P (same_Some x c is) all.0
+below_at P (x ∷ xs) (suc n) all is = below_at P xs n all.1 is
 
-apart_in_order : (xs : List Cell) (n m : ℕ) (c : Cell) → IsStrictlySortedBy cell_cmp xs → slice_get xs n ≡ Some c → slice_get xs m ≡ Some c → n ≡ m
+apart_in_order : (xs : List Cell) (n m : ℕ) {c : Cell} → IsStrictlySortedBy cell_cmp xs → slice_get xs n ≡ Some c → slice_get xs m ≡ Some c → n ≡ m
 unfolding IsStrictlySortedBy
-apart_in_order [] n m c sorted x y = absurd (none-some c x)
-apart_in_order (z ∷ xs) zero zero c sorted x y = refl
-apart_in_order (z ∷ xs) zero (suc m) c sorted x y = before_itself c
-    (below_at (Before c) xs m c (subst (λ w. AllByRecursion (λ v. cell_cmp w v ≡ Less) xs) (same_Some z c x) sorted.0) y)
-apart_in_order (z ∷ xs) (suc n) zero c sorted x y = before_itself c
-    (below_at (Before c) xs n c (subst (λ w. AllByRecursion (λ v. cell_cmp w v ≡ Less) xs) (same_Some z c y) sorted.0) x)
-apart_in_order (z ∷ xs) (suc n) (suc m) c sorted x y = ap suc (apart_in_order xs n m c sorted.1 x y)
+apart_in_order [] n m {c} sorted x y = absurd (none-some c x)
+apart_in_order (z ∷ xs) zero zero sorted x y = refl
+apart_in_order (z ∷ xs) zero (suc m) {c} sorted x y = before_itself c
+    (below_at (Before c) xs m (rw (same_Some z c x) at sorted.0) y)
+apart_in_order (z ∷ xs) (suc n) zero {c} sorted x y = before_itself c
+    (below_at (Before c) xs n (rw (same_Some z c y) at sorted.0) x)
+apart_in_order (z ∷ xs) (suc n) (suc m) sorted x y = ap suc (apart_in_order xs n m sorted.1 x y)
 
-listed_at : (xs : List Cell) (n : ℕ) (c : Cell) → slice_get xs n ≡ Some c → list_any (same c) xs ≡ true
-listed_at [] n c is = absurd (none-some c is)
-listed_at (x ∷ xs) zero c is = ap (λ b. b || list_any (same c) xs) (ap (same c) (same_Some x c is) ∙ same_itself c)
-listed_at (x ∷ xs) (suc n) c is = or_true (same c x) (list_any (same c) xs) (listed_at xs n c is)
+listed_at : (xs : List Cell) (n : ℕ) {c : Cell} → slice_get xs n ≡ Some c → list_any (same c) xs ≡ true
+listed_at [] n {c} is = absurd (none-some c is)
+listed_at (x ∷ xs) zero {c} is = ap (λ b. b || list_any (same c) xs) (ap (same c) (same_Some x c is) ∙ same_itself c)
+listed_at (x ∷ xs) (suc n) {c} is = or_true (same c x) (list_any (same c) xs) (listed_at xs n is)
   where
     or_true : (a b : Bool) → b ≡ true → (a || b) ≡ true
     or_true true b h = refl
@@ -140,9 +140,9 @@ place_of (x ∷ xs) c h =
     (λ e. (0, ap Some (sym e)))
     (λ f. let (n, is) = place_of xs c (ap (λ b. b || list_any (same c) xs) (sym f) ∙ h) in (suc n, is))
 
-pub numbered_in_order : (xs : List Cell) (s : Cells) → IsInReadingOrder xs s → AreNumbered xs s
-numbered_in_order xs s is = record {
-  each = λ n c at. sym (ap (λ (t : Cells). contains t c) is.members) ∙ (contains-from_list cells_total xs c ∙ listed_at xs n c at);
-  all = λ c has. place_of xs c (sym (contains-from_list cells_total xs c) ∙ (ap (λ (t : Cells). contains t c) is.members ∙ has));
-  apart = λ n m c x y. apart_in_order xs n m c is.sorted x y;
+pub numbered_in_order : {xs : List Cell} {s : Cells} → IsInReadingOrder xs s → AreNumbered xs s
+numbered_in_order {xs} is = record {
+  each = λ n c at. sym (ap (λ t. contains t c) is.members) ∙ (contains-from_list cells_total xs c ∙ listed_at xs n at);
+  all = λ c has. place_of xs c (sym (contains-from_list cells_total xs c) ∙ (ap (λ t. contains t c) is.members ∙ has));
+  apart = λ n m c x y. apart_in_order xs n m is.sorted x y;
 }

@@ -46,7 +46,7 @@ use Rattle.play.proofs.Fields.{field_pushed, neighbor_other}
 pub progress_start : (level : Level) (field : List ℕ) (player : Cell) (run : Run) → IsWellFormed level → IsFieldOf level level.boxes field
     → player ≡ level.player → run ≡ record { player = place_of player; last = 0; tally = record { moves = 0; pushes = 0; changes = 0 } }
     → Progress level [] field run
-progress_start level field player run formed shown here is = subst (Progress level [] field) (sym (is ∙ ap (λ (c : Cell). begun c) here)) record {
+progress_start level field player run formed shown here is = subst (Progress level [] field) (sym (is ∙ ap (λ c. begun c) here)) record {
   directions = [];
   state = start level;
   numbers = [];
@@ -55,7 +55,7 @@ progress_start level field player run formed shown here is = subst (Progress lev
   spelled = refl;
   in_order = in_order_is level.boxes;
   pushed = λ rest. refl;
-  numbered = numbered_in_order (in_order level.boxes) level.boxes (in_order_is level.boxes);
+  numbered = numbered_in_order (in_order_is level.boxes);
   shown = shown;
   stands = record { sides = formed.sides; player = formed.player; boxes = formed.boxes; apart = formed.apart };
   player = refl;
@@ -74,18 +74,18 @@ module _ (level : Level) where
   one_longer : (ds : List Dir) (d : Dir) (rest : List Dir) → (ds ++ d ∷ []) ++ rest ≡ ds ++ d ∷ rest
   one_longer ds d rest = append_assoc ds (d ∷ []) rest
 
-  spells_more : (done : List ℕ) (ds : List Dir) (s t : State) (b : ℕ) (d : Dir) → SpellsPlay level (start level) done ds s → SpellsStep level s b d t
+  spells_more : (done : List ℕ) (ds : List Dir) (s : State) {t : State} {b : ℕ} (d : Dir) → SpellsPlay level (start level) done ds s → SpellsStep level s b d t
       → SpellsPlay level (start level) (done ++ b ∷ []) (ds ++ d ∷ []) t
-  spells_more done ds s t b d spelled step = spells_join level (start level) done ds s (b ∷ []) (d ∷ []) t spelled (t, step, refl)
+  spells_more done ds s d spelled step = search (spells_join)
 
   -- ---- the change that a push counts
-  is_change : (sides : HasSides level.shape.width level.shape.height) (boxes : List Cell) (s : Cells) (m k : ℕ) (c ahead : Cell) → AreNumbered boxes s
+  is_change : (sides : HasSides level.shape.width level.shape.height) {boxes : List Cell} {s : Cells} (m k : ℕ) {c ahead : Cell} → AreNumbered boxes s
       → IsOn level.shape c → IsOn level.shape ahead
       → slice_get boxes m ≡ Some c → slice_get boxes k ≡ Some ahead → nat_eq (place_of c) (place_of ahead) ≡ nat_eq k m
-  is_change sides boxes s m k c ahead numbered on on_ahead at_m at_k =
+  is_change sides {boxes} m k {c} {ahead} numbered on on_ahead at_m at_k =
       same_or_other c ahead
       (λ e. eq-eqb (place_of c) (place_of ahead) (ap place_of e) ∙ sym (eq-eqb k m (sym (numbered.apart m k ahead (at_m ∙ ap Some e) at_k))))
-      (λ f. other_number (place_of c) (place_of ahead) (λ e. differ f (place_one level.shape sides c ahead (near_on level.shape c on) on_ahead e))
+      (λ f. other_number (place_of c) (place_of ahead) (λ e. differ f (place_one level.shape sides (near_on level.shape on) on_ahead e))
       ∙ sym (other_number k m (λ e. differ f (same_Some c ahead (sym at_m ∙ (ap (slice_get boxes) (sym e) ∙ at_k))))))
     where
       differ : same c ahead ≡ false → c ≡ ahead → ⊥
@@ -94,28 +94,28 @@ module _ (level : Level) where
       other_number : (i j : ℕ) → (i ≡ j → ⊥) → nat_eq i j ≡ false
       other_number i j other = elim (eqb_tells i j) [ inl is ↦ absurd (other is.1) | inr is ↦ is.0 ]
 
-  counted_changes : (sides : HasSides level.shape.width level.shape.height) (boxes : List Cell) (s : Cells) (numbers : List ℕ) (last k : ℕ) (ahead : Cell)
+  counted_changes : (sides : HasSides level.shape.width level.shape.height) {boxes : List Cell} {s : Cells} {numbers : List ℕ} {last : ℕ} (k : ℕ) {ahead : Cell}
       → AreNumbered boxes s
       → ((c : Cell) → Has s c → IsOn level.shape c) → IsLast boxes numbers last → slice_get boxes k ≡ Some ahead
       → changes numbers + cond (nat_eq last (place_of ahead)) 0 1 ≡ changes (numbers ++ k ∷ [])
-  counted_changes sides boxes s numbers last k ahead numbered on (inl (none, zero_last)) at_k =
+  counted_changes sides {numbers} {last} k {ahead} numbered on (inl (none, zero_last)) at_k =
       let other : nat_eq last (place_of ahead) ≡ false =
       elim (eqb_tells last (place_of ahead)) [
         | inl is ↦ absurd
-            (place_some level.shape sides ahead (on ahead (numbered.each k ahead at_k)) (sym is.1 ∙ zero_last))
+            (place_some level.shape sides (on ahead (numbered.each k ahead at_k)) (sym is.1 ∙ zero_last))
         | inr is ↦ is.0
       ] in
-      ap (λ (v : Bool). changes numbers + cond v 0 1) other
-      ∙ (ap (λ (ns : List ℕ). changes ns + 1) none ∙ sym (ap (λ (ns : List ℕ). changes (ns ++ k ∷ [])) none))
-  counted_changes sides boxes s numbers last k ahead numbered on (inr (before, m, c, is, at_m, e)) at_k =
-      let same_count = is_change sides boxes s m k c ahead numbered (on c (numbered.each m c at_m)) (on ahead (numbered.each k ahead at_k)) at_m at_k in
-      ap (λ (n : ℕ). changes numbers + cond (nat_eq n (place_of ahead)) 0 1) e
-      ∙ (ap (λ (v : Bool). changes numbers + cond v 0 1) same_count
-      ∙ (ap (λ (ns : List ℕ). changes ns + differs k m) is ∙ (sym (changes_push before m k) ∙ sym (ap (λ (ns : List ℕ). changes (ns ++ k ∷ [])) is))))
+      ap (λ v. changes numbers + cond v 0 1) other
+      ∙ (ap (λ ns. changes ns + 1) none ∙ sym (ap (λ ns. changes (ns ++ k ∷ [])) none))
+  counted_changes sides {numbers} k {ahead} numbered on (inr (before, m, c, is, at_m, e)) at_k =
+      let same_count = is_change sides m k numbered (on c (numbered.each m c at_m)) (on ahead (numbered.each k ahead at_k)) at_m at_k in
+      ap (λ n. changes numbers + cond (nat_eq n (place_of ahead)) 0 1) e
+      ∙ (ap (λ v. changes numbers + cond v 0 1) same_count
+      ∙ (ap (λ ns. changes ns + differs k m) is ∙ (sym (changes_push before m k) ∙ sym (ap (λ ns. changes (ns ++ k ∷ [])) is))))
 
 module _ (level : Level) (done field : List ℕ) (run : Run) (before : Progress level done field run) where
   -- ---- a walk
-  pub progress_walk : (b : ℕ) (d : Dir) → IsFloor level (neighbor before.state.player d) → Lacks before.state.boxes (neighbor before.state.player d)
+  pub progress_walk : {b : ℕ} (d : Dir) → IsFloor level (neighbor before.state.player d) → Lacks before.state.boxes (neighbor before.state.player d)
       → b ≡ small d
       → Progress level (done ++ b ∷ []) field (record {
         player = place_of (neighbor before.state.player d);
@@ -123,13 +123,13 @@ module _ (level : Level) (done field : List ℕ) (run : Run) (before : Progress 
         tally =
             record run.tally { moves = run.tally.moves + 1 };
       })
-  progress_walk b d floor free letter = record {
+  progress_walk d floor free letter = record {
     directions = before.directions ++ d ∷ [];
     state = walked_by before.state d;
     numbers = before.numbers;
     first_boxes = before.first_boxes;
     boxes = before.boxes;
-    spelled = spells_more level done before.directions before.state (walked_by before.state d) b d before.spelled (inl ((floor, free, refl), letter));
+    spelled = spells_more level done before.directions before.state d before.spelled (inl ((floor, free, refl), letter));
     in_order = before.in_order;
     pushed = λ rest. ap (pushed_numbers level.player before.first_boxes) (one_longer level before.directions d rest)
         ∙ (before.pushed (d ∷ rest) ∙ ap (λ ns. before.numbers ++ ns) (none_pushed rest));
@@ -138,10 +138,10 @@ module _ (level : Level) (done field : List ℕ) (run : Run) (before : Progress 
     stands = record { sides = before.stands.sides; player = floor; boxes = before.stands.boxes; apart = free };
     player = refl;
     last = before.last;
-    moves = let longer = length-append before.directions (d ∷ []) in let m = before.moves in omega (arith, longer, m);
+    moves = let longer = length-append before.directions (d ∷ []) in let m = before.moves in omega arith;
     pushes = before.pushes;
     changes = before.changes;
-    fewer = let longer = length-append before.directions (d ∷ []) in let f = before.fewer in omega (arith, longer, f);
+    fewer = let longer = length-append before.directions (d ∷ []) in let f = before.fewer in omega arith;
     as_many = before.as_many;
   }
     where
@@ -152,33 +152,33 @@ module _ (level : Level) (done field : List ℕ) (run : Run) (before : Progress 
       none n at = not_both before.state.boxes ahead (before.numbered.each n ahead at) free
 
       none_pushed : (rest : List Dir) → pushed_numbers before.state.player before.boxes (d ∷ rest) ≡ pushed_numbers ahead before.boxes rest
-      none_pushed rest = λ i. option_to_list (number_none before.boxes ahead none i) ++ pushed_numbers ahead (stepped_none before.boxes ahead d none i) rest
+      none_pushed rest = λ i. option_to_list (number_none before.boxes none i) ++ pushed_numbers ahead (stepped_none before.boxes d none i) rest
 
   -- ---- a push
-  pub progress_push : (b : ℕ) (d : Dir) (new : Run) → Has before.state.boxes (neighbor before.state.player d)
+  pub progress_push : {b : ℕ} (d : Dir) {new : Run} → Has before.state.boxes (neighbor before.state.player d)
       → IsFloor level (neighbor (neighbor before.state.player d) d)
       → Lacks before.state.boxes (neighbor (neighbor before.state.player d) d) → b ≡ capital d
       → CountsPush run (place_of (neighbor before.state.player d)) (place_of (neighbor (neighbor before.state.player d) d)) new
       → Progress level (done ++ b ∷ []) (set (set field (place_of (neighbor before.state.player d)) FREE)
       (place_of (neighbor (neighbor before.state.player d) d)) BOX) new
-  progress_push b d new box there free letter counted = record {
+  progress_push d box there free letter counted = record {
     directions = before.directions ++ d ∷ [];
     state = pushed_by before.state d;
     numbers = before.numbers ++ k ∷ [];
     first_boxes = before.first_boxes;
     boxes = stepped before.boxes ahead d;
-    spelled = spells_more level done before.directions before.state (pushed_by before.state d) b d before.spelled (inr ((box, there, free, refl), letter));
+    spelled = spells_more level done before.directions before.state d before.spelled (inr ((box, there, free, refl), letter));
     in_order = before.in_order;
     pushed = λ rest. ap (pushed_numbers level.player before.first_boxes) (one_longer level before.directions d rest)
         ∙ (before.pushed (d ∷ rest) ∙ (ap (λ ns. before.numbers ++ ns) (one_pushed rest)
         ∙ sym (append_assoc before.numbers (k ∷ []) (pushed_numbers ahead (stepped before.boxes ahead d) rest))));
-    numbered = numbered_push before.boxes before.state.boxes ahead d before.numbered box free;
-    shown = field_pushed level before.stands.sides before.state.boxes field ahead beyond before.shown here there;
+    numbered = numbered_push ahead d before.numbered box free;
+    shown = field_pushed level before.stands.sides before.shown here there;
     stands = record {
       sides = before.stands.sides;
       player = here;
       boxes = λ c h. elim (has_insert (finset.remove before.state.boxes ahead) beyond c h) [
-        | inl e ↦ subst (IsFloor level) (sym e) there
+        | inl e ↦ rw e there
         | inr rest ↦ before.stands.boxes c (has_remove before.state.boxes ahead c rest).1
       ];
       apart = lacks_where (moved before.state.boxes ahead beyond) ahead (λ h. elim (has_insert (finset.remove before.state.boxes ahead) beyond ahead h) [
@@ -187,14 +187,14 @@ module _ (level : Level) (done field : List ℕ) (run : Run) (before : Progress 
       ]);
     };
     player = counted.player;
-    last = inr (before.numbers, k, beyond, refl, stepped_there before.boxes ahead d k at, counted.last);
-    moves = let longer = length-append before.directions (d ∷ []) in let m = before.moves in let n = counted.moves in omega (arith, longer, m, n);
-    pushes = let longer = length-append before.numbers (k ∷ []) in let m = before.pushes in let n = counted.pushes in omega (arith, longer, m, n);
+    last = inr (before.numbers, k, beyond, refl, stepped_there before.boxes d k at, counted.last);
+    moves = let longer = length-append before.directions (d ∷ []) in let m = before.moves in let n = counted.moves in omega arith;
+    pushes = let longer = length-append before.numbers (k ∷ []) in let m = before.pushes in let n = counted.pushes in omega arith;
     changes = counted.changes ∙ (ap (λ n. n + cond (nat_eq run.last (place_of ahead)) 0 1) before.changes
-        ∙ counted_changes level before.stands.sides before.boxes before.state.boxes before.numbers run.last k ahead before.numbered
+        ∙ counted_changes level before.stands.sides k before.numbered
         (λ c h. (before.stands.boxes c h).0) before.last at);
     fewer = let longer = length-append before.directions (d ∷ []) in let more = length-append before.numbers (k ∷ []) in let f =
-        before.fewer in omega (arith, longer, more, f);
+        before.fewer in omega arith;
     as_many = len_moved before.state.boxes ahead beyond box free ∙ before.as_many;
   }
     where
@@ -208,7 +208,7 @@ module _ (level : Level) (done field : List ℕ) (run : Run) (before : Progress 
       here = before.stands.boxes ahead box
 
       apart : ahead ≢ beyond
-      apart = neighbor_other level.shape ahead d here.0
+      apart = neighbor_other d here.0
 
       k : ℕ
       k = (before.numbered.all ahead box).0
@@ -218,43 +218,33 @@ module _ (level : Level) (done field : List ℕ) (run : Run) (before : Progress 
 
       one_pushed : (rest : List Dir) → pushed_numbers before.state.player before.boxes (d ∷ rest) ≡ (k ∷ []) ++ pushed_numbers ahead
           (stepped before.boxes ahead d) rest
-      one_pushed rest = ap (λ (o : Option ℕ). option_to_list o ++ pushed_numbers ahead (stepped before.boxes ahead d) rest)
-          (number_some before.boxes before.state.boxes ahead k before.numbered at)
+      one_pushed rest = ap (λ o. option_to_list o ++ pushed_numbers ahead (stepped before.boxes ahead d) rest)
+          (number_some before.numbered at)
 
   -- ---- what the counts need at a letter
   pub room_left : run.tally.moves + 1 < 2 ^ 64 → HasRoom run
-  room_left moves =
-      let few = changes_few before.numbers in
-      let m = before.moves in let p = before.pushes in let n = before.changes in let f = before.fewer in
-      record { moves = moves; pushes = omega (arith, m, p, f); changes = omega (arith, n, p, few) }
+  room_left moves = grind (arith, changes_few)
 
 module _ (level : Level) where
   -- ---- a letter that spells no step
-  named_by : (s : State) (b : ℕ) (d e : Dir) (t : State) → Names b e → SpellsStep level s b d t → d ≡ e
-  named_by s b d e t name (inl (walk, x)) = names_one b d e (inl x) name
-  named_by s b d e t name (inr (push, x)) = names_one b d e (inr x) name
+  named_by : (s : State) {b : ℕ} {d e : Dir} {t : State} → Names b e → SpellsStep level s b d t → d ≡ e
+  named_by s name (inl (walk, x)) = grind (arith, names_one)
+  named_by s name (inr (push, x)) = grind (arith, names_one)
 
   pub blocked_stuck : (s : State) (d : Dir) (t : State) → IsBlocked level s d → Steps level s d t → ⊥
-  blocked_stuck s d t blocked (inl walk) = not_both s.boxes (neighbor s.player d) blocked.box walk.1
-  blocked_stuck s d t blocked (inr push) = elim blocked.behind [
-    | inl wall ↦ wall push.1
-    | inr box ↦ not_both s.boxes
-        (neighbor (neighbor s.player d) d) box push.2
-  ]
+  blocked_stuck s d t blocked (inl walk) = grind (arith, not_both)
+  blocked_stuck s d t blocked (inr push) = grind (arith, not_both)
 
   cause_stuck : (s : State) (b : ℕ) (why : MoveWhy) (d : Dir) (t : State) → IsCause level s b why → SpellsStep level s b d t → ⊥
   cause_stuck s b Letter d t cause (inl (walk, x)) = cause d (inl x)
   cause_stuck s b Letter d t cause (inr (push, x)) = cause d (inr x)
   cause_stuck s b Wall d t (e, name, wall) step = wall.stuck t
-      (subst (λ (f : Dir). Steps level s f t) (named_by s b d e t name step) (step_steps level s b d t step))
-  cause_stuck s b Blocked d t (e, name, blocked) step = blocked_stuck s e t blocked
-      (subst (λ (f : Dir). Steps level s f t) (named_by s b d e t name step) (step_steps level s b d t step))
-  cause_stuck s b Case d t (e, u, inl (walk, x)) (inl (other, y)) = small_not_capital b d e y x
-  cause_stuck s b Case d t (e, u, inl (walk, x)) (inr (other, y)) =
-      not_both s.boxes (neighbor s.player e) (subst (λ (f : Dir). Has s.boxes (neighbor s.player f)) (names_one b d e (inr y) (inr x)) other.0) walk.1
-  cause_stuck s b Case d t (e, u, inr (push, x)) (inl (other, y)) =
-      not_both s.boxes (neighbor s.player e) push.0 (subst (λ (f : Dir). Lacks s.boxes (neighbor s.player f)) (names_one b d e (inl y) (inl x)) other.1)
-  cause_stuck s b Case d t (e, u, inr (push, x)) (inr (other, y)) = small_not_capital b e d x y
+      (rw (named_by s name step) at (step_steps level s d step))
+  cause_stuck s b Blocked d t (e, name, blocked) step = grind (arith, blocked_stuck, named_by, step_steps)
+  cause_stuck s b Case d t (e, u, inl (walk, x)) (inl (other, y)) = small_not_capital d e y x
+  cause_stuck s b Case d t (e, u, inl (walk, x)) (inr (other, y)) = grind (arith, not_both, names_one)
+  cause_stuck s b Case d t (e, u, inr (push, x)) (inl (other, y)) = grind (arith, not_both, names_one)
+  cause_stuck s b Case d t (e, u, inr (push, x)) (inr (other, y)) = small_not_capital e d x y
 
   pub fails_at : (done field : List ℕ) (run : Run) (before : Progress level done field run) (b : ℕ) (after : List ℕ) (why : MoveWhy)
       → IsCause level before.state b why → FailsAt level (done ++ b ∷ after) (run.tally.moves + 1) why
@@ -264,7 +254,7 @@ module _ (level : Level) where
     after = after;
     split = refl;
     number = let same_length = spells_length level (start level) done before.directions before.state before.spelled in let m =
-        before.moves in omega (arith, same_length, m);
+        before.moves in omega arith;
     directions = before.directions;
     reached = before.state;
     spelled = before.spelled;
@@ -274,7 +264,7 @@ module _ (level : Level) where
     where
       next_stuck : (u : State) (es : List Dir) (t : State) → before.state ≡ u → SpellsPlay level u (b ∷ []) es t → ⊥
       next_stuck u [] t e spelled = spelled
-      next_stuck u (d ∷ es) t e (v, step, rest) = cause_stuck before.state b why d v cause (subst (λ (w : State). SpellsStep level w b d v) (sym e) step)
+      next_stuck u (d ∷ es) t e (v, step, rest) = cause_stuck before.state b why d v cause (rw e step)
 
       stuck : (es : List Dir) (t : State) → SpellsPlay level (start level) (done ++ b ∷ []) es t → ⊥
       stuck es t spelled =
@@ -288,16 +278,8 @@ module _ (level : Level) where
   pushed_all done field run before = ap (pushed_numbers level.player before.first_boxes) (sym (append-nil before.directions))
       ∙ (before.pushed [] ∙ append-nil before.numbers)
 
-  counts_end : (done field : List ℕ) (run : Run) (before : Progress level done field run) → Counts level before.directions run.tally
-  counts_end done field run before =
-      let all = pushed_all done field run before in
-      record {
-        boxes = before.first_boxes;
-        numbered = before.in_order;
-        moves = before.moves;
-        pushes = before.pushes ∙ ap length (sym all);
-        changes = before.changes ∙ ap changes (sym all);
-      }
+  counts_end : {done field : List ℕ} {run : Run} (before : Progress level done field run) → Counts level before.directions run.tally
+  counts_end before = search (pushed_all)
 
   pub solves_end : (text field : List ℕ) (run : Run) (before : Progress level (letters text) field run) (off : ℕ)
       → off ≡ finset.len (off_goals level before.state) → off ≡ 0 → Solves level text run.tally
@@ -307,37 +289,31 @@ module _ (level : Level) where
     spelled = before.spelled;
     played = spells_plays level (start level) (letters text) before.directions before.state before.spelled;
     solved = off_none level.goals before.state.boxes (sym count ∙ none);
-    counts = counts_end (letters text) field run before;
+    counts = counts_end before;
   }
 
   pub unsolved_end : (text field : List ℕ) (run : Run) (before : Progress level (letters text) field run) (off : ℕ)
       → off ≡ finset.len (off_goals level before.state) → 0 < off → EndsUnsolved level (letters text) off
-  unsolved_end text field run before off count some = record {
-    directions = before.directions;
-    end = before.state;
-    spelled = before.spelled;
-    off = count;
-    some = some;
-  }
+  unsolved_end text field run before off count some = search
 
 -- ---- one text after the other
 pub continues_none : (field : List ℕ) (run : Run) → Continues field run [] field run
-continues_none field run level done before = subst (λ (bs : List ℕ). Progress level bs field run) (sym (append-nil done)) before
+continues_none field run level done before = grind (arith, append-nil)
 
-pub continues_then : (f g h : List ℕ) (a b c : Run) (bs cs : List ℕ) → Continues f a bs g b → Continues g b cs h c → Continues f a (bs ++ cs) h c
-continues_then f g h a b c bs cs first second level done before =
-    subst (λ (xs : List ℕ). Progress level xs h c) (append_assoc done bs cs) (second level (done ++ bs) (first level done before))
+pub continues_then : {f g h : List ℕ} {a b c : Run} {bs cs : List ℕ} → Continues f a bs g b → Continues g b cs h c → Continues f a (bs ++ cs) h c
+continues_then {h} {c} {bs} {cs} first second level done before =
+    subst (λ xs. Progress level xs h c) (append_assoc done bs cs) (second level (done ++ bs) (first level done before))
 
-pub under_way_then : (f g : List ℕ) (a b : Run) (bs : List ℕ) → Continues f a bs g b → IsUnderWay f a → IsUnderWay g b
-under_way_then f g a b bs more (level, done, before) = (level, done ++ bs, more level done before)
+pub under_way_then : {f g : List ℕ} {a b : Run} {bs : List ℕ} → Continues f a bs g b → IsUnderWay f a → IsUnderWay g b
+under_way_then {bs} more (level, done, before) = (level, done ++ bs, more level done before)
 
 pub played_none : (field : List ℕ) (run : Run) (text : List ℕ) → IsPlayed field run text 0 field run
-played_none field run text = record { within = omega arith; moves = omega arith; continues = continues_none field run }
+played_none field run text = grind (arith, continues_none)
 
 -- bytes of a text that are played, and then bytes of a part that begins after them, are played together
-pub played_on : (f g h : List ℕ) (a b c : Run) (text : List ℕ) (i j n : ℕ) → IsPlayed f a text i g b → IsPlayed g b (take (j - i) (drop i text)) n h c
+pub played_on : {f g h : List ℕ} {a b c : Run} {text : List ℕ} {i : ℕ} (j : ℕ) {n : ℕ} → IsPlayed f a text i g b → IsPlayed g b (take (j - i) (drop i text)) n h c
     → IsPlayed f a text (i + n) h c
-played_on f g h a b c text i j n first second =
+played_on {text} {i} j {n} first second =
     let short = length-take (j - i) (drop i text) in
     let left = length-drop i text in
     let inside = second.within in
@@ -345,10 +321,9 @@ played_on f g h a b c text i j n first second =
     let moves = first.moves in
     let more = second.moves in
     record {
-      within = omega (arith, short, left, inside, before);
-      moves = omega (arith, moves, more);
-      continues = subst (λ (xs : List ℕ). Continues f a xs h c) (sym (letters_on text i n (j - i) (omega (arith, short, inside))))
-          (continues_then f g h a b c (letters (take i text)) (letters (take n (take (j - i) (drop i text)))) first.continues second.continues);
+      within = omega arith;
+      moves = omega arith;
+      continues = rw (letters_on text i n (j - i) (omega arith)) (continues_then first.continues second.continues);
     }
 
 -- the letters of a line up to a place and the letters from there up to another place lead on together
@@ -356,53 +331,53 @@ pub continues_up : (f g h : List ℕ) (a b c : Run) (line : List ℕ) (i j : ℕ
     → Continues g b (letters (take (j - i) (drop i line))) h c
     → Continues f a (letters (take j line)) h c
 continues_up f g h a b c line i j le first second =
-    subst (λ (xs : List ℕ). Continues f a xs h c) (sym (letters_between line i j le))
-    (continues_then f g h a b c (letters (take i line)) (letters (take (j - i) (drop i line))) first second)
+    subst (λ xs. Continues f a xs h c) (sym (letters_between line le))
+    (continues_then first second)
 
 -- letters that fail after others that were played make all of them fail
 pub fails_then : (f g : List ℕ) (a b : Run) (bs cs : List ℕ) (n : ℕ) (why : MoveWhy) → Continues f a bs g b → FailsBy g b cs n why
     → FailsBy f a (bs ++ cs) n why
 fails_then f g a b bs cs n why more fails level done after before =
-    subst (λ (xs : List ℕ). FailsAt level xs n why) (append_assoc done bs (cs ++ after) ∙ ap (λ xs. done ++ xs) (sym (append_assoc bs cs after)))
+    subst (λ xs. FailsAt level xs n why) (append_assoc done bs (cs ++ after) ∙ ap (λ xs. done ++ xs) (sym (append_assoc bs cs after)))
     (fails level (done ++ bs) after (more level done before))
 
-pub fails_before : (f : List ℕ) (a : Run) (bs cs : List ℕ) (n : ℕ) (why : MoveWhy) → FailsBy f a bs n why → FailsBy f a (bs ++ cs) n why
-fails_before f a bs cs n why fails level done after before =
-    subst (λ (xs : List ℕ). FailsAt level (done ++ xs) n why) (sym (append_assoc bs cs after)) (fails level done (cs ++ after) before)
+pub fails_before : {f : List ℕ} {a : Run} (bs cs : List ℕ) {n : ℕ} {why : MoveWhy} → FailsBy f a bs n why → FailsBy f a (bs ++ cs) n why
+fails_before bs cs {n} {why} fails level done after before =
+    subst (λ xs. FailsAt level (done ++ xs) n why) (sym (append_assoc bs cs after)) (fails level done (cs ++ after) before)
 
-pub fault_then : (f g : List ℕ) (a b : Run) (bs cs : List ℕ) (fault : ReplayFault) → Continues f a bs g b → FailsOn g b cs fault → FailsOn f a (bs ++ cs) fault
-fault_then f g a b bs cs (Move n why) more fails = fails_then f g a b bs cs n why more fails
-fault_then f g a b bs cs (Unsolved n) more fails = fails
-fault_then f g a b bs cs Memory more fails = fails
+pub fault_then : {f g : List ℕ} {a b : Run} {bs : List ℕ} (cs : List ℕ) (fault : ReplayFault) → Continues f a bs g b → FailsOn g b cs fault → FailsOn f a (bs ++ cs) fault
+fault_then cs (Move n why) more fails = search (fails_then)
+fault_then cs (Unsolved n) more fails = fails
+fault_then cs Memory more fails = fails
 
 pub fault_before : (f : List ℕ) (a : Run) (bs cs : List ℕ) (fault : ReplayFault) → FailsOn f a bs fault → FailsOn f a (bs ++ cs) fault
-fault_before f a bs cs (Move n why) fails = fails_before f a bs cs n why fails
+fault_before f a bs cs (Move n why) fails = fails_before bs cs fails
 fault_before f a bs cs (Unsolved n) fails = fails
 fault_before f a bs cs Memory fails = fails
 
 -- bytes of a text that are played, and then the next one, are played together
 pub played_more : {f g h : List ℕ} {a b c : Run} {text : List ℕ} {i : ℕ} → i < length text → IsPlayed f a text i g b
     → c.tally.moves ≤ b.tally.moves + 1 → Continues g b (letters (get_or text i 0 ∷ [])) h c → IsPlayed f a text (i + 1) h c
-played_more {f} {g} {h} {a} {b} {c} {text} {i} inside before moves one = record {
+played_more {text} inside before moves one = record {
   within = omega arith;
-  moves = let first = before.moves in omega (arith, first, moves);
-  continues = rw (letters_more text i inside)
-      (continues_then f g h a b c (letters (take i text)) (letters (get_or text i 0 ∷ [])) before.continues one);
+  moves = let first = before.moves in omega arith;
+  continues = rw (letters_more text inside)
+      (continues_then before.continues one);
 }
 
 -- a fault in the next byte, after bytes that are played, is a fault of the text
 pub fault_next : {f g : List ℕ} {a b : Run} {text : List ℕ} {i : ℕ} (fault : ReplayFault) → i < length text → IsPlayed f a text i g b
     → FailsOn g b (letters (get_or text i 0 ∷ [])) fault → FailsOn f a (letters text) fault
-fault_next {f} {g} {a} {b} {text} {i} fault inside before fails =
+fault_next {f} {a} {text} {i} fault inside before fails =
     let done = letters (take i text) in
     let one = letters (get_or text i 0 ∷ []) in
-    rw (letters_around text i inside) (fault_before f a (done ++ one) (letters (drop (i + 1) text)) fault
-    (fault_then f g a b done one fault before.continues fails))
+    rw (letters_around text inside) (fault_before f a (done ++ one) (letters (drop (i + 1) text)) fault
+    (fault_then one fault before.continues fails))
 
 -- ---- a whole text
 pub fails_first : (level : Level) (field : List ℕ) (run : Run) (text : List ℕ) (fault : ReplayFault) → Progress level [] field run
     → FailsOn field run (letters text) fault → IsFirstSolutionFault level text fault
 fails_first level field run text (Move n why) first fails =
-    subst (λ (xs : List ℕ). FailsAt level xs n why) (append-nil (letters text)) (fails level [] [] first)
+    subst (λ xs. FailsAt level xs n why) (append-nil (letters text)) (fails level [] [] first)
 fails_first level field run text (Unsolved n) first fails = absurd fails
 fails_first level field run text Memory first fails = absurd fails

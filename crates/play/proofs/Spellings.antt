@@ -38,21 +38,17 @@ capital_below R = lit≤ tt
 capital_below D = lit≤ tt
 
 pub small_one : (b : ℕ) (d e : Dir) → b ≡ small d → b ≡ small e → d ≡ e
-small_one b d e x y = sym (named_small d) ∙ (ap named (sym x ∙ y) ∙ named_small e)
+small_one b d e x y = grind (arith, named_small)
 
 pub capital_one : (b : ℕ) (d e : Dir) → b ≡ capital d → b ≡ capital e → d ≡ e
-capital_one b d e x y = sym (named_capital d) ∙ (ap named (sym x ∙ y) ∙ named_capital e)
+capital_one b d e x y = grind (arith, named_capital)
 
-pub small_not_capital : {G : Type 0} (b : ℕ) (d e : Dir) → b ≡ small d → b ≡ capital e → G
-small_not_capital b d e x y = let low = capital_below e in let high = small_above d in absurd (omega (arith, x, y, low, high))
+pub small_not_capital : {G : Type 0} {b : ℕ} (d e : Dir) → b ≡ small d → b ≡ capital e → G
+small_not_capital d e x y = grind (arith, capital_below, small_above)
 
 -- a letter names one direction at most
-pub names_one : (b : ℕ) (d e : Dir) → Names b d → Names b e → d ≡ e
-names_one b d e x y = sym (is b d x) ∙ is b e y
-  where
-    is : (b : ℕ) (f : Dir) → Names b f → named b ≡ f
-    is b f (inl x) = ap named x ∙ named_small f
-    is b f (inr x) = ap named x ∙ named_capital f
+pub names_one : {b : ℕ} {d e : Dir} → Names b d → Names b e → d ≡ e
+names_one x y = grind (arith, named_small, named_capital)
 
 -- the states that a walk and a push lead to
 abbrev pub walked_by : State → Dir → State
@@ -62,13 +58,11 @@ abbrev pub pushed_by : State → Dir → State
 pushed_by s d = let ahead = neighbor s.player d in record { player = ahead; boxes = moved s.boxes ahead (neighbor ahead d) }
 
 -- a letter spells one step at most
-pub step_alike : (level : Level) (s : State) (b : ℕ) (d e : Dir) (t u : State) → SpellsStep level s b d t → SpellsStep level s b e u → (d ≡ e) × (t ≡ u)
-step_alike level s b d e t u (inl (walk, x)) (inl (other, y)) =
-    let same = small_one b d e x y in (same, walk.2 ∙ (ap (walked_by s) same ∙ sym other.2))
-step_alike level s b d e t u (inl (walk, x)) (inr (other, y)) = small_not_capital b d e x y
-step_alike level s b d e t u (inr (push, x)) (inl (other, y)) = small_not_capital b e d y x
-step_alike level s b d e t u (inr (push, x)) (inr (other, y)) =
-    let same = capital_one b d e x y in (same, push.3 ∙ (ap (pushed_by s) same ∙ sym other.3))
+pub step_alike : (level : Level) (s : State) {b : ℕ} {d e : Dir} {t u : State} → SpellsStep level s b d t → SpellsStep level s b e u → (d ≡ e) × (t ≡ u)
+step_alike level s (inl (walk, x)) (inl (other, y)) = grind (arith, small_one)
+step_alike level s {d} {e} (inl (walk, x)) (inr (other, y)) = small_not_capital d e x y
+step_alike level s {d} {e} (inr (push, x)) (inl (other, y)) = small_not_capital e d y x
+step_alike level s (inr (push, x)) (inr (other, y)) = grind (arith, capital_one)
 
 -- letters spell one play at most
 pub spells_alike : (level : Level) (s : State) (bs : List ℕ) (ds es : List Dir) (t u : State) → SpellsPlay level s bs ds t → SpellsPlay level s bs es u
@@ -79,14 +73,14 @@ spells_alike level s [] (d ∷ ds) es t u a b = absurd a
 spells_alike level s (x ∷ bs) [] es t u a b = absurd a
 spells_alike level s (x ∷ bs) (d ∷ ds) [] t u a b = absurd b
 spells_alike level s (x ∷ bs) (d ∷ ds) (e ∷ es) t u (v, first, rest) (w, other, more) =
-    let same = step_alike level s x d e v w first other in
-    let tail = spells_alike level v bs ds es t u rest (subst (λ (r : State). SpellsPlay level r bs es u) (sym same.1) more) in
+    let same = step_alike level s first other in
+    let tail = spells_alike level v bs ds es t u rest (rw same.1 more) in
     ((λ i. same.0 i ∷ tail.0 i), tail.1)
 
 -- one text after another spells one play after another
 pub spells_join : (level : Level) (s : State) (bs : List ℕ) (ds : List Dir) (u : State) (cs : List ℕ) (es : List Dir) (t : State) → SpellsPlay level s bs ds u
     → SpellsPlay level u cs es t → SpellsPlay level s (bs ++ cs) (ds ++ es) t
-spells_join level s [] [] u cs es t a b = subst (λ (v : State). SpellsPlay level v cs es t) (sym a) b
+spells_join level s [] [] u cs es t a b = grind arith
 spells_join level s [] (d ∷ ds) u cs es t a b = absurd a
 spells_join level s (x ∷ bs) [] u cs es t a b = absurd a
 spells_join level s (x ∷ bs) (d ∷ ds) u cs es t (v, first, rest) b = (v, first, spells_join level v bs ds u cs es t rest b)
@@ -113,13 +107,13 @@ spells_length level s [] (d ∷ ds) t a = absurd a
 spells_length level s (x ∷ bs) [] t a = absurd a
 spells_length level s (x ∷ bs) (d ∷ ds) t (v, first, rest) = ap suc (spells_length level v bs ds t rest)
 
-pub step_steps : (level : Level) (s : State) (b : ℕ) (d : Dir) (t : State) → SpellsStep level s b d t → Steps level s d t
-step_steps level s b d t (inl (walk, x)) = inl walk
-step_steps level s b d t (inr (push, x)) = inr push
+pub step_steps : (level : Level) (s : State) {b : ℕ} (d : Dir) {t : State} → SpellsStep level s b d t → Steps level s d t
+step_steps level s d (inl (walk, x)) = inl walk
+step_steps level s d (inr (push, x)) = inr push
 
 -- what a text spells is a play
 pub spells_plays : (level : Level) (s : State) (bs : List ℕ) (ds : List Dir) (t : State) → SpellsPlay level s bs ds t → Plays level s ds t
 spells_plays level s [] [] t a = a
 spells_plays level s [] (d ∷ ds) t a = absurd a
 spells_plays level s (x ∷ bs) [] t a = absurd a
-spells_plays level s (x ∷ bs) (d ∷ ds) t (v, first, rest) = (v, step_steps level s x d v first, spells_plays level v bs ds t rest)
+spells_plays level s (x ∷ bs) (d ∷ ds) t (v, first, rest) = (v, step_steps level s d first, spells_plays level v bs ds t rest)

@@ -35,40 +35,37 @@ small_stride U = omega arith
 small_stride R = omega arith
 small_stride D = omega arith
 
-pub added_small : (b e : ℕ) → IsAdded b e → e ≤ NO_WALK
-added_small b e (inl (_, is)) = omega (arith, is)
-added_small b e (inr (inl (d, _, is))) = let s = small_stride d in omega (arith, is, s)
-added_small b e (inr (inr is)) = omega (arith, is)
+pub added_small : {b e : ℕ} → IsAdded b e → e ≤ NO_WALK
+added_small (inl (_, is)) = omega arith
+added_small (inr (inl (d, _, is))) = let s = small_stride d in omega arith
+added_small (inr (inr is)) = omega arith
 
-added_low : (b e sum i : ℕ) → IsAdded b e → sum % LETTER ≤ 65535 * (i + 1) → i < 8 → (sum + e) % LETTER ≤ 65535 * (i + 2)
-added_low b e sum i (inl (_, is)) low few = omega (arith, is, low, few)
-added_low b e sum i (inr (inl (d, _, is))) low few = let s = small_stride d in omega (arith, is, s, low, few)
-added_low b e sum i (inr (inr is)) low few = omega (arith, is, low, few)
+added_low : {b e : ℕ} (sum : ℕ) {i : ℕ} → IsAdded b e → sum % LETTER ≤ 65535 * (i + 1) → i < 8 → (sum + e) % LETTER ≤ 65535 * (i + 2)
+added_low sum (inl (_, is)) low few = omega arith
+added_low sum (inr (inl (d, _, is))) low few = let s = small_stride d in omega arith
+added_low sum (inr (inr is)) low few = omega arith
 
-added_letters : (b e sum i : ℕ) → IsAdded b e → sum % LETTER ≤ 65535 * (i + 1) → i < 8 → sum + e < NO_WALK → sum / LETTER ≤ i → (sum + e) / LETTER ≤ i + 1
-added_letters b e sum i (inl (_, is)) low few walk count = omega (arith, is, low, few, count)
-added_letters b e sum i (inr (inl (d, _, is))) low few walk count = let s = small_stride d in omega (arith, is, s, low, few, count)
-added_letters b e sum i (inr (inr is)) low few walk count = absurd (omega (arith, is, walk))
+added_letters : {b e : ℕ} (sum : ℕ) {i : ℕ} → IsAdded b e → sum % LETTER ≤ 65535 * (i + 1) → i < 8 → sum + e < NO_WALK → sum / LETTER ≤ i → (sum + e) / LETTER ≤ i + 1
+added_letters sum (inl (_, is)) low few walk count = omega arith
+added_letters sum (inr (inl (d, _, is))) low few walk count = let s = small_stride d in omega arith
+added_letters sum (inr (inr is)) low few walk count = absurd (omega arith)
 
 -- ---- the mask of a field
 pub mask_fits : (field : List ℕ) → HasMask field → (1 ≤ length field) × (length field ≤ 65536)
-mask_fits field (k, small, long) =
-    let some = pow_pos k in
-    let most : 2 ^ k ≤ 2 ^ 16 = pow-le-pow_right (omega arith) small in
-    (omega (arith, long, some), omega (arith, long, most))
+mask_fits field (k, small, long) = grind (arith, pow_pos, pow-le-pow_right)
 
 pub masked : (field : List ℕ) → HasMask field → (n : ℕ) → bit_and n (length field - 1) ≡ n % length field
-masked field (k, small, long) n = ap (λ m. bit_and n (m - 1)) long ∙ and_mask n k ∙ ap (λ m. n % m) (sym long)
+masked field (k, small, long) n = grind (arith, and_mask)
 
 -- the mask of a field leaves a place that has a byte as it is
 place_masked : (field : List ℕ) → HasMask field → (n p : ℕ) → p ≡ n % 65536 → p < length field → n % length field ≡ p
 place_masked field (k, small, long) n p is within =
-    let whole : 16 - k + k ≡ 16 = omega (arith, small) in
+    let whole : 16 - k + k ≡ 16 = omega arith in
     ap (λ m. n % m) long
     ∙ sym (mod-mod-pow n (16 - k) k)
     ∙ ap (λ j. n % 2 ^ j % 2 ^ k) whole
     ∙ ap (λ q. q % 2 ^ k) (sym is)
-    ∙ mod-eq_of_lt (subst (λ m. p < m) long within)
+    ∙ mod-eq_of_lt (rw long at within)
 
 -- a walk by one letter more
 module _ (level : Level) (done field : List ℕ) (run : Run) (has_mask : HasMask field) (before : Progress level done field run) (b e sum m : ℕ) where
@@ -77,24 +74,24 @@ module _ (level : Level) (done field : List ℕ) (run : Run) (has_mask : HasMask
       → Progress level (done ++ letters (b ∷ [])) field (led run ((sum + e) % 65536) (m + (sum + e) / LETTER))
   walked_one (inl (blank, is)) at moves low walk free =
       let letter : ReadLetter = record { byte = b; step = 0; kind = WALK } in
-      let there : (run.player + 0) % 65536 ≡ (sum + e) % 65536 = omega (arith, at, is) in
+      let there : (run.player + 0) % 65536 ≡ (sum + e) % 65536 = omega arith in
       subst (λ n. Progress level (done ++ letters (b ∷ [])) field (led run n (m + (sum + e) / LETTER))) there
       (walked level done field run before letter (inl (blank, refl, refl)) refl
       (ap (λ n. get_or field n 0) (sym (place_masked field has_mask (sum + e) _ there
       (ahead_within level done field run before letter (inl (blank, refl, refl))))) ∙ free) (m + (sum + e) / LETTER)
-      (λ d named. absurd (false≢true (sym (not_blank b d (inl named)) ∙ blank)))
-      (λ _. omega (arith, is, moves)))
+      (λ d named. absurd (false≢true (sym (not_blank d (inl named)) ∙ blank)))
+      (λ _. omega arith))
   walked_one (inr (inl (d, named, is))) at moves low walk free =
       let letter : ReadLetter = record { byte = b; step = stride d; kind = WALK } in
       let s = small_stride d in
-      let there : (run.player + stride d) % 65536 ≡ (sum + e) % 65536 = omega (arith, at, is) in
+      let there : (run.player + stride d) % 65536 ≡ (sum + e) % 65536 = omega arith in
       subst (λ n. Progress level (done ++ letters (b ∷ [])) field (led run n (m + (sum + e) / LETTER))) there
       (walked level done field run before letter (inr (inl (d, named, refl, refl))) refl
       (ap (λ n. get_or field n 0) (sym (place_masked field has_mask (sum + e) _ there
       (ahead_within level done field run before letter (inr (inl (d, named, refl, refl)))))) ∙ free) (m + (sum + e) / LETTER)
-      (λ _ _. omega (arith, is, moves, low, s))
-      (λ blank. absurd (false≢true (sym (not_blank b d (inl named)) ∙ blank))))
-  walked_one (inr (inr is)) at moves low walk free = absurd (omega (arith, is, walk))
+      (λ _ _. omega arith)
+      (λ blank. absurd (false≢true (sym (not_blank d (inl named)) ∙ blank))))
+  walked_one (inr (inr is)) at moves low walk free = absurd (omega arith)
 
 -- how far a group is walked
 pub record IsWalked (field : List ℕ) (player : ℕ) (group : List ℕ) (i sum met : ℕ) : Type 0 where
@@ -103,54 +100,42 @@ pub record IsWalked (field : List ℕ) (player : ℕ) (group : List ℕ) (i sum 
   pub count : met ≡ FREE → sum < NO_WALK → sum / LETTER ≤ i
   pub walks : met ≡ FREE → sum < NO_WALK → WalksOn field player (letters (take i group)) (sum % 65536) (sum / LETTER)
 
-pub walked_none : (field : List ℕ) (player : ℕ) (group : List ℕ) (met : ℕ) → player < 65536 → IsWalked field player group 0 player met
-walked_none field player group met fits = record {
-  low = omega (arith, fits);
-  bounded = omega (arith, fits);
-  count = λ _ _. omega (arith, fits);
-  walks = λ _ _ run at.
-      let same_player : run.player ≡ player % 65536 = omega (arith, at, fits) in
-      let same_moves : run.tally.moves ≡ run.tally.moves + player / LETTER = omega (arith, fits) in
-      subst (λ (r : Run). Continues field run [] field r) (λ i. led run (same_player i) (same_moves i)) (continues_none field run);
-}
+pub walked_none : (field : List ℕ) {player : ℕ} (group : List ℕ) (met : ℕ) → player < 65536 → IsWalked field player group 0 player met
+walked_none field group met fits = grind (arith, continues_none)
 
-pub walked_more : (field : List ℕ) → HasMask field → (player : ℕ) (group : List ℕ) (i sum met e : ℕ) → length group ≤ 8 → i < length group
+pub walked_more : {field : List ℕ} → HasMask field → (player : ℕ) (group : List ℕ) (i sum met e : ℕ) → length group ≤ 8 → i < length group
     → IsAdded (get_or group i 0) e → IsWalked field player group i sum met
     → IsWalked field player group (i + 1) (sum + e) (bit_or met (get_or field ((sum + e) % length field) 0))
-walked_more field has_mask player group i sum met e few within adds before = record {
-  low = let l = added_low b e sum i adds before.low below in omega (arith, l);
-  bounded = let s = added_small b e adds in let old = before.bounded in omega (arith, s, old);
-  count = λ free walk. added_letters b e sum i adds before.low below walk (before.count (parts free).0 (less walk));
+walked_more {field} has_mask player group i sum met e few within adds before = record {
+  low = let l = added_low sum adds before.low below in omega arith;
+  bounded = let s = added_small adds in let old = before.bounded in omega arith;
+  count = λ free walk. added_letters sum adds before.low below walk (before.count (parts free).0 (less walk));
   walks = λ free walk run at.
       let first = before.walks (parts free).0 (less walk) run at in
       let low = before.low in
-      subst (λ (bs : List ℕ). Continues field run bs field (led run ((sum + e) % 65536) (run.tally.moves + (sum + e) / LETTER)))
-      (sym (letters_more group i within))
-      (continues_then field field field run (led run (sum % 65536) (run.tally.moves + sum / LETTER))
-      (led run ((sum + e) % 65536) (run.tally.moves + (sum + e) / LETTER)) (letters (take i group)) (letters (b ∷ [])) first
+      rw (letters_more group within) (continues_then first
       (λ level done here. walked_one level done field (led run (sum % 65536)
-      (run.tally.moves + sum / LETTER)) has_mask here b e sum run.tally.moves adds refl refl (omega (arith, low, below)) walk (parts free).1));
+      (run.tally.moves + sum / LETTER)) has_mask here b e sum run.tally.moves adds refl refl (omega arith) walk (parts free).1));
 }
   where
     b : ℕ
     b = get_or group i 0
 
     below : i < 8
-    below = omega (arith, few, within)
+    below = omega arith
 
     less : sum + e < NO_WALK → sum < NO_WALK
-    less walk = omega (arith, walk)
+    less walk = omega arith
 
     parts : bit_or met (get_or field ((sum + e) % length field) 0) ≡ FREE → (met ≡ FREE) × (get_or field ((sum + e) % length field) 0 ≡ FREE)
     parts free =
         let next = get_or field ((sum + e) % length field) 0 in
-        let first = le_or_l met next in let second = le_or_r met next in (omega (arith, first, free), omega (arith, second, free))
+        let first = le_or_l met next in let second = le_or_r met next in (omega arith, omega arith)
 
-pub walked_all : (field : List ℕ) (player : ℕ) (group : List ℕ) (i sum met n : ℕ) → length group ≤ i → met ≡ FREE → sum < NO_WALK → n ≡ sum / LETTER
+pub walked_all : {field : List ℕ} {player : ℕ} {group : List ℕ} {i sum met n : ℕ} → length group ≤ i → met ≡ FREE → sum < NO_WALK → n ≡ sum / LETTER
     → i ≤ length group → IsWalked field player group i sum met
     → (n ≤ length group) × WalksOn field player (letters group) (sum % 65536) n
-walked_all field player group i sum met n past free walk is within whole = (
-  let most = whole.count free walk in omega (arith, most, is, within),
-  subst (λ m. WalksOn field player (letters group) (sum % 65536) m) (sym is)
-      (subst (λ (bs : List ℕ). WalksOn field player (letters bs) (sum % 65536) (sum / LETTER)) (take_all i group past) (whole.walks free walk)),
+walked_all {group} {i} past free walk is within whole = (
+  let most = whole.count free walk in omega arith,
+  rw is (rw (take_all i group past) at (whole.walks free walk)),
 )

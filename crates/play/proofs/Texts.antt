@@ -10,13 +10,13 @@ use Rattle.std.proofs.lemmas.Grind.{flat_map-append}
 use Rattle.play.specs.Spelling.{is_blank, letters, joined}
 
 pub letters_join : (a b : List ℕ) → letters (a ++ b) ≡ letters a ++ letters b
-letters_join a b = filter-append (λ x. not (is_blank x)) a b
+letters_join a b = search (filter-append)
 
-pub letters_one : (x : ℕ) (rest : List ℕ) → is_blank x ≡ false → letters (x ∷ rest) ≡ x ∷ letters rest
-letters_one x rest f = ap (λ b. cond (not b) (x ∷ letters rest) (letters rest)) f
+pub letters_one : {x : ℕ} (rest : List ℕ) → is_blank x ≡ false → letters (x ∷ rest) ≡ x ∷ letters rest
+letters_one rest f = search
 
 pub letters_none : (x : ℕ) (rest : List ℕ) → is_blank x ≡ true → letters (x ∷ rest) ≡ letters rest
-letters_none x rest f = ap (λ b. cond (not b) (x ∷ letters rest) (letters rest)) f
+letters_none x rest f = search
 
 pub split_at : {A : Type 0} (xs : List A) (i : ℕ) (d : A) → i < length xs → xs ≡ take i xs ++ (get_or xs i d ∷ drop (i + 1) xs)
 split_at [] i d h = absurd (omega arith)
@@ -33,20 +33,20 @@ take_one_more (x ∷ xs) (suc i) d h =
     ap (λ n. take n (x ∷ xs)) e ∙ ap (λ ys. x ∷ ys) (take_one_more xs i d (omega arith))
 
 -- the letters up to a byte and its own are the letters up to the next byte
-pub letters_more : (bs : List ℕ) (i : ℕ) → i < length bs → letters (take (i + 1) bs) ≡ letters (take i bs) ++ letters (get_or bs i 0 ∷ [])
-letters_more bs i h = ap letters (take_one_more bs i 0 h) ∙ letters_join (take i bs) (get_or bs i 0 ∷ [])
+pub letters_more : (bs : List ℕ) {i : ℕ} → i < length bs → letters (take (i + 1) bs) ≡ letters (take i bs) ++ letters (get_or bs i 0 ∷ [])
+letters_more bs {i} h = ap letters (take_one_more bs i 0 h) ∙ letters_join (take i bs) (get_or bs i 0 ∷ [])
 
-pub letters_around : (bs : List ℕ) (i : ℕ) → i < length bs → letters bs ≡ (letters (take i bs) ++ letters (get_or bs i 0 ∷ [])) ++ letters (drop (i + 1) bs)
-letters_around bs i h =
+pub letters_around : (bs : List ℕ) {i : ℕ} → i < length bs → letters bs ≡ (letters (take i bs) ++ letters (get_or bs i 0 ∷ [])) ++ letters (drop (i + 1) bs)
+letters_around bs {i} h =
     ap letters (split_at bs i 0 h)
     ∙ (letters_join (take i bs) (get_or bs i 0 ∷ drop (i + 1) bs)
     ∙ (ap (λ xs. letters (take i bs) ++ xs) (letters_join (get_or bs i 0 ∷ []) (drop (i + 1) bs))
     ∙ sym (append_assoc (letters (take i bs)) (letters (get_or bs i 0 ∷ [])) (letters (drop (i + 1) bs)))))
 
 -- the letters up to a place and those from there up to another are the letters up to the other
-pub letters_between : (bs : List ℕ) (i j : ℕ) → i ≤ j → letters (take j bs) ≡ letters (take i bs) ++ letters (take (j - i) (drop i bs))
-letters_between bs i j le =
-    let there : j ≡ i + (j - i) = omega (arith, le) in
+pub letters_between : (bs : List ℕ) {i j : ℕ} → i ≤ j → letters (take j bs) ≡ letters (take i bs) ++ letters (take (j - i) (drop i bs))
+letters_between bs {i} {j} le =
+    let there : j ≡ i + (j - i) = omega arith in
     ap (λ n. letters (take n bs)) there ∙ (ap letters (take-add i (j - i) bs) ∙ letters_join (take i bs) (take (j - i) (drop i bs)))
 
 -- the letters up to a place, and then the letters in the first n of the m bytes after it, are the letters up to n bytes further
@@ -58,20 +58,20 @@ letters_on bs i n m le =
 -- a text has the letters before a part, in the part and after it
 pub letters_beside : (bs : List ℕ) (i j : ℕ) → i ≤ j → letters bs ≡ (letters (take i bs) ++ letters (take (j - i) (drop i bs))) ++ letters (drop j bs)
 letters_beside bs i j le =
-    ap letters (sym (take-append-drop j bs)) ∙ (letters_join (take j bs) (drop j bs) ∙ ap (λ xs. xs ++ letters (drop j bs)) (letters_between bs i j le))
+    ap letters (sym (take-append-drop j bs)) ∙ (letters_join (take j bs) (drop j bs) ∙ ap (λ xs. xs ++ letters (drop j bs)) (letters_between bs le))
 
 -- ---- lines
 joined_join : (a b : List (Bor (List ℕ))) → joined (a ++ b) ≡ joined a ++ joined b
-joined_join a b = flat_map-append (λ (line : Bor (List ℕ)). line.now) a b
+joined_join a b = search (flat_map-append)
 
-pub joined_more : (lines : List (Bor (List ℕ))) (i : ℕ) (d : Bor (List ℕ)) → i < length lines
+pub joined_more : (lines : List (Bor (List ℕ))) {i : ℕ} (d : Bor (List ℕ)) → i < length lines
     → joined (take (i + 1) lines) ≡ joined (take i lines) ++ (get_or lines i d).now
-joined_more lines i d h = ap joined (take_one_more lines i d h)
+joined_more lines {i} d h = ap joined (take_one_more lines i d h)
     ∙ (joined_join (take i lines) (get_or lines i d ∷ []) ∙ ap (λ xs. joined (take i lines) ++ xs) (append-nil (get_or lines i d).now))
 
-pub joined_around : (lines : List (Bor (List ℕ))) (i : ℕ) (d : Bor (List ℕ)) → i < length lines
+pub joined_around : (lines : List (Bor (List ℕ))) {i : ℕ} (d : Bor (List ℕ)) → i < length lines
     → joined lines ≡ (joined (take i lines) ++ (get_or lines i d).now) ++ joined (drop (i + 1) lines)
-joined_around lines i d h =
+joined_around lines {i} d h =
     ap joined (split_at lines i d h)
     ∙ (joined_join (take i lines) (get_or lines i d ∷ drop (i + 1) lines)
     ∙ sym (append_assoc (joined (take i lines)) (get_or lines i d).now (joined (drop (i + 1) lines))))
@@ -79,11 +79,11 @@ joined_around lines i d h =
 -- the letters of the lines so far and of the next line are the letters of one line more
 pub line_letters_more : (lines : List (Bor (List ℕ))) (i : ℕ) (d : Bor (List ℕ)) → i < length lines
     → letters (joined (take (i + 1) lines)) ≡ letters (joined (take i lines)) ++ letters (get_or lines i d).now
-line_letters_more lines i d h = ap letters (joined_more lines i d h) ∙ letters_join (joined (take i lines)) (get_or lines i d).now
+line_letters_more lines i d h = ap letters (joined_more lines d h) ∙ letters_join (joined (take i lines)) (get_or lines i d).now
 
 pub line_letters_around : (lines : List (Bor (List ℕ))) (i : ℕ) (d : Bor (List ℕ)) → i < length lines
     → letters (joined lines) ≡ (letters (joined (take i lines)) ++ letters (get_or lines i d).now) ++ letters (joined (drop (i + 1) lines))
 line_letters_around lines i d h =
-    ap letters (joined_around lines i d h)
+    ap letters (joined_around lines d h)
     ∙ (letters_join (joined (take i lines) ++ (get_or lines i d).now) (joined (drop (i + 1) lines))
     ∙ ap (λ xs. xs ++ letters (joined (drop (i + 1) lines))) (letters_join (joined (take i lines)) (get_or lines i d).now))

@@ -27,108 +27,93 @@ use Rattle.play.proofs.Replays.{blocked_stuck}
 module _ (level : Level) where
   -- ---- the counts
   same_tally : (a b : Tally) → a.moves ≡ b.moves → a.pushes ≡ b.pushes → a.changes ≡ b.changes → a ≡ b
-  same_tally a b x y z = λ i. record { moves = x i; pushes = y i; changes = z i }
+  same_tally a b x y z = grind arith
 
   counts_one : (ds : List Dir) (a b : Tally) → Counts level ds a → Counts level ds b → a ≡ b
-  counts_one ds a b x y =
-      let order = one_order x.boxes y.boxes level.boxes x.numbered y.numbered in
-      same_tally a b (x.moves ∙ sym y.moves)
-      (x.pushes ∙ (ap (λ (boxes : List Cell). length (pushed_numbers level.player boxes ds)) order ∙ sym y.pushes))
-      (x.changes ∙ (ap (λ (boxes : List Cell). changes (pushed_numbers level.player boxes ds)) order ∙ sym y.changes))
+  counts_one ds a b x y = grind (arith, one_order, same_tally)
 
   pub solves_one : (text : List ℕ) (a b : Tally) → Solves level text a → Solves level text b → a ≡ b
   solves_one text a b x y =
       let alike = spells_alike level (start level) (letters text) x.directions y.directions x.end y.end x.spelled y.spelled in
-      counts_one y.directions a b (subst (λ (ds : List Dir). Counts level ds a) alike.0 x.counts) y.counts
+      counts_one y.directions a b (rw alike.0 at x.counts) y.counts
 
   -- ---- the reasons
-  case_name : (s : State) (b : ℕ) (d : Dir) (t : State) → (Walks level s d t × (b ≡ capital d)) ⊎ (Pushes level s d t × (b ≡ small d)) → Names b d
-  case_name s b d t (inl (walk, x)) = inr x
-  case_name s b d t (inr (push, x)) = inl x
+  case_name : (s : State) {b : ℕ} (d : Dir) {t : State} → (Walks level s d t × (b ≡ capital d)) ⊎ (Pushes level s d t × (b ≡ small d)) → Names b d
+  case_name s d (inl (walk, x)) = inr x
+  case_name s d (inr (push, x)) = inl x
 
-  case_step : (s : State) (b : ℕ) (d : Dir) (t : State) → (Walks level s d t × (b ≡ capital d)) ⊎ (Pushes level s d t × (b ≡ small d)) → Steps level s d t
-  case_step s b d t (inl (walk, x)) = inl walk
-  case_step s b d t (inr (push, x)) = inr push
+  case_step : (s : State) {b : ℕ} (d : Dir) {t : State} → (Walks level s d t × (b ≡ capital d)) ⊎ (Pushes level s d t × (b ≡ small d)) → Steps level s d t
+  case_step s d (inl (walk, x)) = inl walk
+  case_step s d (inr (push, x)) = inr push
 
-  not_both_walls : {G : Type 0} (s : State) (b : ℕ) → IsCause level s b Wall → IsCause level s b Blocked → G
-  not_both_walls s b (d, name, wall) (e, other, blocked) =
-      absurd (wall.wall (subst (IsBlocked level s) (names_one b e d other name) blocked).floor)
+  not_both_walls : {G : Type 0} {s : State} {b : ℕ} → IsCause level s b Wall → IsCause level s b Blocked → G
+  not_both_walls (d, name, wall) (e, other, blocked) = grind (arith, names_one)
 
-  no_wall_case : {G : Type 0} (s : State) (b : ℕ) → IsCause level s b Wall → IsCause level s b Case → G
-  no_wall_case s b (d, name, wall) (e, t, wrong) =
-      absurd (wall.stuck t (subst (λ (f : Dir). Steps level s f t) (names_one b e d (case_name s b e t wrong) name) (case_step s b e t wrong)))
+  no_wall_case : {G : Type 0} {s : State} {b : ℕ} → IsCause level s b Wall → IsCause level s b Case → G
+  no_wall_case {s} (d, name, wall) (e, t, wrong) =
+      absurd (wall.stuck t (rw (names_one (case_name s e wrong) name) at (case_step s e wrong)))
 
-  no_blocked_case : {G : Type 0} (s : State) (b : ℕ) → IsCause level s b Blocked → IsCause level s b Case → G
-  no_blocked_case s b (d, name, blocked) (e, t, wrong) =
-      absurd (blocked_stuck level s d t blocked (subst (λ (f : Dir). Steps level s f t) (names_one b e d (case_name s b e t wrong) name)
-      (case_step s b e t wrong)))
+  no_blocked_case : {G : Type 0} {s : State} {b : ℕ} → IsCause level s b Blocked → IsCause level s b Case → G
+  no_blocked_case (d, name, blocked) (e, t, wrong) = grind (arith, blocked_stuck, names_one, case_name, case_step)
 
   cause_one : (s : State) (b : ℕ) (why other : MoveWhy) → IsCause level s b why → IsCause level s b other → why ≡ other
   cause_one s b Letter Letter x y = refl
   cause_one s b Letter Wall x (d, name, _) = absurd (x d name)
   cause_one s b Letter Blocked x (d, name, _) = absurd (x d name)
-  cause_one s b Letter Case x (d, t, wrong) = absurd (x d (case_name s b d t wrong))
+  cause_one s b Letter Case x (d, t, wrong) = grind (arith, case_name)
   cause_one s b Wall Letter (d, name, _) y = absurd (y d name)
   cause_one s b Wall Wall x y = refl
-  cause_one s b Wall Blocked x y = not_both_walls s b x y
-  cause_one s b Wall Case x y = no_wall_case s b x y
+  cause_one s b Wall Blocked x y = not_both_walls x y
+  cause_one s b Wall Case x y = no_wall_case x y
   cause_one s b Blocked Letter (d, name, _) y = absurd (y d name)
-  cause_one s b Blocked Wall x y = not_both_walls s b y x
+  cause_one s b Blocked Wall x y = not_both_walls y x
   cause_one s b Blocked Blocked x y = refl
-  cause_one s b Blocked Case x y = no_blocked_case s b x y
-  cause_one s b Case Letter (d, t, wrong) y = absurd (y d (case_name s b d t wrong))
-  cause_one s b Case Wall x y = no_wall_case s b y x
-  cause_one s b Case Blocked x y = no_blocked_case s b y x
+  cause_one s b Blocked Case x y = no_blocked_case x y
+  cause_one s b Case Letter (d, t, wrong) y = grind (arith, case_name)
+  cause_one s b Case Wall x y = no_wall_case y x
+  cause_one s b Case Blocked x y = no_blocked_case y x
   cause_one s b Case Case x y = refl
 
   -- ---- the faults
   -- past the letter that fails, no letters spell anything
   no_longer : {G : Type 0} (all : List ℕ) (n : ℕ) (why : MoveWhy) (fails : FailsAt level all n why) (zs : List ℕ) (ds : List Dir) (t : State)
       → SpellsPlay level (start level) ((fails.before ++ fails.letter ∷ []) ++ zs) ds t → G
-  no_longer all n why fails zs ds t spelled =
-      let parts = spells_split level (start level) (fails.before ++ fails.letter ∷ []) zs ds t spelled in
-      absurd (fails.stuck parts.first parts.between parts.spelled)
+  no_longer all n why fails zs ds t spelled = grind (arith, spells_split)
 
-  no_whole : {G : Type 0} (all : List ℕ) (n : ℕ) (why : MoveWhy) (fails : FailsAt level all n why) (ds : List Dir) (t : State)
+  no_whole : {G : Type 0} {all : List ℕ} {n : ℕ} {why : MoveWhy} (fails : FailsAt level all n why) (ds : List Dir) (t : State)
       → SpellsPlay level (start level) all ds t → G
-  no_whole all n why fails ds t spelled =
+  no_whole {all} {n} {why} fails ds t spelled =
       no_longer all n why fails fails.after ds t
-      (subst (λ (bs : List ℕ). SpellsPlay level (start level) bs ds t) (fails.split ∙ sym (append_assoc fails.before (fails.letter ∷ []) fails.after)) spelled)
+      (rw (fails.split ∙ sym (append_assoc fails.before (fails.letter ∷ []) fails.after)) at spelled)
 
   fails_one : (all : List ℕ) (n m : ℕ) (why other : MoveWhy) → FailsAt level all n why → FailsAt level all m other → (n ≡ m) × (why ≡ other)
   fails_one all n m why other x y =
       places x.before y.before x.letter y.letter x.after y.after (sym x.split ∙ y.split)
       (λ e f.
       let alike = spells_alike level (start level) y.before x.directions y.directions x.reached y.reached
-      (subst (λ (bs : List ℕ). SpellsPlay level (start level) bs x.directions x.reached) e x.spelled) y.spelled in (
-        x.number ∙ (ap (λ (bs : List ℕ). length bs + 1) e ∙ sym y.number),
+      (rw e at x.spelled) y.spelled in (
+        x.number ∙ (ap (λ bs. length bs + 1) e ∙ sym y.number),
         cause_one y.reached y.letter why other
-            (subst (λ (b : ℕ). IsCause level y.reached b why) f (subst (λ (s : State). IsCause level s x.letter why) alike.1 x.cause)) y.cause,
+            (rw (alike.1, f) at x.cause) y.cause,
       ))
-      (λ zs e. no_longer all n why x zs y.directions y.reached (subst (λ (bs : List ℕ). SpellsPlay level (start level) bs y.directions y.reached) e y.spelled))
+      (λ zs e. no_longer all n why x zs y.directions y.reached (rw e at y.spelled))
       (λ zs e. no_longer all m other y zs x.directions x.reached
-      (subst (λ (bs : List ℕ). SpellsPlay level (start level) bs x.directions x.reached) e x.spelled))
+      (rw e at x.spelled))
 
   pub fault_one : (text : List ℕ) (a b : ReplayFault) → IsFirstSolutionFault level text a → IsFirstSolutionFault level text b → a ≡ b
   fault_one text (Move n why) (Move m other) x y = let one = fails_one (letters text) n m why other x y in λ i. Move (one.0 i) (one.1 i)
-  fault_one text (Move n why) (Unsolved m) x y = no_whole (letters text) n why x y.directions y.end y.spelled
+  fault_one text (Move n why) (Unsolved m) x y = no_whole x y.directions y.end y.spelled
   fault_one text (Move n why) Memory x y = absurd y
-  fault_one text (Unsolved n) (Move m why) x y = no_whole (letters text) m why y x.directions x.end x.spelled
-  fault_one text (Unsolved n) (Unsolved m) x y =
-      let alike = spells_alike level (start level) (letters text) x.directions y.directions x.end y.end x.spelled y.spelled in
-      ap Unsolved (x.off ∙ (ap (λ (s : State). set.len (off_goals level s)) alike.1 ∙ sym y.off))
+  fault_one text (Unsolved n) (Move m why) x y = no_whole y x.directions x.end x.spelled
+  fault_one text (Unsolved n) (Unsolved m) x y = grind (arith, spells_alike)
   fault_one text (Unsolved n) Memory x y = absurd y
   fault_one text Memory b x y = absurd x
 
   -- a text that solves has no fault
-  pub no_fault : {G : Type 0} (text : List ℕ) (tally : Tally) (fault : ReplayFault) → Solves level text tally → IsFirstSolutionFault level text fault → G
-  no_fault text tally (Move n why) solves fails = no_whole (letters text) n why fails solves.directions solves.end solves.spelled
-  no_fault text tally (Unsolved n) solves ends =
-      let alike = spells_alike level (start level) (letters text) ends.directions solves.directions ends.end solves.end ends.spelled solves.spelled in
-      let none = none_off level.goals ends.end.boxes (subst (IsSolved level) (sym alike.1) solves.solved) in
-      let off = ends.off in let some = ends.some in
-      absurd (omega (arith, none, off, some))
-  no_fault text tally Memory solves fault = absurd fault
+  pub no_fault : {G : Type 0} {text : List ℕ} {tally : Tally} (fault : ReplayFault) → Solves level text tally → IsFirstSolutionFault level text fault → G
+  no_fault (Move n why) solves fails = no_whole fails solves.directions solves.end solves.spelled
+  no_fault (Unsolved n) solves ends = grind (arith, spells_alike, none_off)
+  no_fault Memory solves fault = absurd fault
 
   -- ---- what a replay that is sound answers
   module _ (text : List ℕ) (answer : Result Tally ReplayFault) (found : IfOk answer (Solves level text))
@@ -139,8 +124,8 @@ module _ (level : Level) where
         only_tally_of : (r : Result Tally ReplayFault) → IfOk r (Solves level text)
             → IfErr r (λ fault. fault ≢ Memory → IsFirstSolutionFault level text fault) → (r ≡ Ok tally) ⊎ (r ≡ Err Memory)
         only_tally_of (Ok other) ok err = inl (ap Ok (solves_one text other tally ok solves))
-        only_tally_of (Err (Move n why)) ok err = no_fault text tally (Move n why) solves (err (λ e. cc))
-        only_tally_of (Err (Unsolved n)) ok err = no_fault text tally (Unsolved n) solves (err (λ e. cc))
+        only_tally_of (Err (Move n why)) ok err = no_fault (Move n why) solves (err (λ e. cc))
+        only_tally_of (Err (Unsolved n)) ok err = no_fault (Unsolved n) solves (err (λ e. cc))
         only_tally_of (Err Memory) ok err = inr refl
 
     pub only_fault : (fault : ReplayFault) → IsFirstSolutionFault level text fault → (answer ≡ Err fault) ⊎ (answer ≡ Err Memory)
@@ -148,7 +133,7 @@ module _ (level : Level) where
       where
         only_fault_of : (r : Result Tally ReplayFault) → IfOk r (Solves level text)
             → IfErr r (λ fault. fault ≢ Memory → IsFirstSolutionFault level text fault) → (r ≡ Err fault) ⊎ (r ≡ Err Memory)
-        only_fault_of (Ok tally) ok err = no_fault text tally fault ok is
+        only_fault_of (Ok tally) ok err = no_fault fault ok is
         only_fault_of (Err (Move n why)) ok err = inl (ap Err (fault_one text (Move n why) fault (err (λ e. cc)) is))
         only_fault_of (Err (Unsolved n)) ok err = inl (ap Err (fault_one text (Unsolved n) fault (err (λ e. cc)) is))
         only_fault_of (Err Memory) ok err = inr refl

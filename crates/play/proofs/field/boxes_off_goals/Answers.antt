@@ -13,30 +13,21 @@ use Rattle.play.proofs.Fields.{box_by, no_box_by}
 use Rattle.play.proofs.OffGoals.{counted_start, counted_some, counted_box, counted_none, counted_end}
 use Rattle.play.proofs.field.boxes_off_goals.Goals as goal
 
-pub loop-goal-init : goal.loop-goal-init
-loop-goal-init g c = record {
-  can_next = tt;
-  is_finite = tt;
-  all = search rules;
-  counted = λ boxes shown many. c.len-count.ensures ∙ (ap len c.boxes.ensures.members
-      ∙ (sym many ∙ counted_start c.args.board.now.shape c.args.board.now.goals boxes []));
-}
-
 pub bounds-field-place : goal.bounds-field-place
 bounds-field-place g c =
     let level = c.args.board.now in
-    let whole = subst (λ (l : List Cell). AreMembersOf level.shape level.goals (c.loop-goal.yielded ++ l)) c.in-Some.ensures.steps c.loop-goal.invariant.all in
+    let whole = rw c.in-Some.ensures.steps at c.loop-goal.invariant.all in
     let (boxes, shown, many) = c.requires in
     subst (λ n. n < length c.args.field.now) (sym c.place.ensures)
-    (shown.places c.in-Some.goal (near_on level.shape c.in-Some.goal (next_has c.loop-goal.yielded c.next.new.self c.in-Some.goal whole).1))
+    (shown.places c.in-Some.goal (near_on level.shape (next_has c.loop-goal.yielded c.next.new.self c.in-Some.goal whole).1))
 
 pub overflow_sub-count : goal.overflow_sub-count
 overflow_sub-count g c =
     let level = c.args.board.now in
     let q = c.in-Some.goal in
-    let whole = subst (λ (l : List Cell). AreMembersOf level.shape level.goals (c.loop-goal.yielded ++ l)) c.in-Some.ensures.steps c.loop-goal.invariant.all in
+    let whole = rw c.in-Some.ensures.steps at c.loop-goal.invariant.all in
     let (boxes, shown, many) = c.requires in
-    let near = near_on level.shape q (next_has c.loop-goal.yielded c.next.new.self q whole).1 in
+    let near = near_on level.shape (next_has c.loop-goal.yielded c.next.new.self q whole).1 in
     let is = ap (λ n. get_or c.args.field.now n 0) (sym c.place.ensures) ∙ c.if-field-place-eq-BOX.true in
     counted_some level.shape level.goals boxes c.loop-goal.yielded q c.next.new.self whole c.loop-goal.count (c.loop-goal.invariant.counted boxes shown many)
     (box_by level boxes q (get_or c.args.field.now (place_of q) 0) (shown.shown q near) is).1
@@ -45,8 +36,8 @@ pub loop-goal-preserved-then-field-place-eq-BOX : goal.loop-goal-preserved-then-
 loop-goal-preserved-then-field-place-eq-BOX g c =
     let level = c.args.board.now in
     let q = c.in-Some.goal in
-    let whole = subst (λ (l : List Cell). AreMembersOf level.shape level.goals (c.loop-goal.yielded ++ l)) c.in-Some.ensures.steps c.loop-goal.invariant.all in
-    let near = near_on level.shape q (next_has c.loop-goal.yielded c.next.new.self q whole).1 in
+    let whole = rw c.in-Some.ensures.steps at c.loop-goal.invariant.all in
+    let near = near_on level.shape (next_has c.loop-goal.yielded c.next.new.self q whole).1 in
     let is = ap (λ n. get_or c.args.field.now n 0) (sym c.place.ensures) ∙ c.if-field-place-eq-BOX.true in
     record {
       can_next = tt;
@@ -62,8 +53,8 @@ pub loop-goal-preserved : goal.loop-goal-preserved
 loop-goal-preserved g c =
     let level = c.args.board.now in
     let q = c.in-Some.goal in
-    let whole = subst (λ (l : List Cell). AreMembersOf level.shape level.goals (c.loop-goal.yielded ++ l)) c.in-Some.ensures.steps c.loop-goal.invariant.all in
-    let near = near_on level.shape q (next_has c.loop-goal.yielded c.next.new.self q whole).1 in
+    let whole = rw c.in-Some.ensures.steps at c.loop-goal.invariant.all in
+    let near = near_on level.shape (next_has c.loop-goal.yielded c.next.new.self q whole).1 in
     record {
       can_next = tt;
       is_finite = tt;
@@ -78,6 +69,14 @@ loop-goal-preserved g c =
 pub returns : goal.returns
 returns g c = λ boxes shown many.
     let level = c.args.board.now in
-    let whole = subst (λ (l : List Cell). AreMembersOf level.shape level.goals
-    (c.loop-goal.yielded ++ l)) c.in-None.ensures.steps.0 c.loop-goal.invariant.all in
-    counted_end level.shape level.goals boxes c.loop-goal.yielded c.loop-goal.count whole (c.loop-goal.invariant.counted boxes shown many)
+    let whole = rw c.in-None.ensures.steps.0 at c.loop-goal.invariant.all in
+    counted_end level.shape level.goals boxes c.loop-goal.yielded whole (c.loop-goal.invariant.counted boxes shown many)
+
+pub loop-goal-init : goal.loop-goal-init
+loop-goal-init g c = record {
+  can_next = tt;
+  is_finite = tt;
+  all = search rules;
+  counted = λ boxes shown many. c.len-count.ensures ∙ (ap len c.boxes.ensures.members
+      ∙ (sym many ∙ counted_start c.args.board.now.shape c.args.board.now.goals boxes []));
+}

@@ -12,4 +12,4 @@ returns-clause-masked g c =
     let same : length new ≡ c.resize.new.self.len = c.draw_board.auto.field ∙ c.deref_mut.ensures.len in
     let long = subst (λ n. length (take n (new ++ rest)) ≡ 256 * c.rows_for.result) same
     (ap length (take-append_seam new rest) ∙ same ∙ c.in_ok-resize.ensures.len) in
-    (8 + k, omega (arith, small), long ∙ ap (λ n. 256 * n) is ∙ sym (pow-add 2 8 k))
+    (8 + k, omega arith, long ∙ ap (λ n. 256 * n) is ∙ sym (pow-add 2 8 k))

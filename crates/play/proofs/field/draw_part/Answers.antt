@@ -9,8 +9,8 @@ use Rattle.play.proofs.Fields.{AreBytesOf, drawn_next, bytes_drawn}
 use Rattle.play.proofs.field.draw_part.Goals as goal
 use lib.Lanes.{put_chunk}
 
-shifted : (w s m : ℕ) → m ≡ s + 16 → w / 2 ^ s / 65536 ≡ w / 2 ^ m
-shifted w s m next = div-div-eq-div-mul w (2 ^ s) (2 ^ 16) ∙ ap (λ p. w / p) (sym (pow-add 2 s 16) ∙ ap (λ n. 2 ^ n) (sym next))
+shifted : (w s : ℕ) {m : ℕ} → m ≡ s + 16 → w / 2 ^ s / 65536 ≡ w / 2 ^ m
+shifted w s next = div-div-eq-div-mul w (2 ^ s) (2 ^ 16) ∙ ap (λ p. w / p) (sym (pow-add 2 s 16) ∙ ap (λ n. 2 ^ n) (sym next))
 
 pub lanes-preserved : goal.lanes-preserved
 lanes-preserved g c =
@@ -24,21 +24,19 @@ lanes-preserved g c =
     let end = c.min-end.ensures in
     let s = column - 64 * part in
     let is_floor = c.floor_at-floor.ensures in
-    let high : column + 16 ≤ 64 * part + 64 = let w = kept.whole in omega (arith, w, test, end) in
-    let there : 64 * part + s ≡ column = let f = kept.from in omega (arith, f) in
-    let next : column + 16 - 64 * part ≡ s + 16 = let f = kept.from in omega (arith, f) in
+    let high : column + 16 ≤ 64 * part + 64 = let w = kept.whole in omega arith in
+    let there : 64 * part + s ≡ column = let f = kept.from in omega arith in
+    let next : column + 16 - 64 * part ≡ s + 16 = let f = kept.from in omega arith in
     let are : AreBytesOf level row column c.bytes_of-bytes.result =
-    subst (λ n. AreBytesOf level row n c.bytes_of-bytes.result) there
-    (bytes_drawn level formed row part c.floor_at-floor.result is_floor.0 is_floor.1 is_floor.2 s c.lanes.floor_left c.bytes_of-bytes.result
-    (omega (arith, high, there)) kept.floor c.bytes_of-bytes.ensures.len c.bytes_of-bytes.ensures.bytes) in
+    rw there at (bytes_drawn level formed row part c.floor_at-floor.result is_floor.0 is_floor.1 is_floor.2 s
+    (omega arith) kept.floor c.bytes_of-bytes.ensures.len c.bytes_of-bytes.ensures.bytes) in
     let up : 256 * row + column + 16 ≡ 256 * row + (column + 16) = omega arith in
     record {
       drawn =
-          subst (λ n. IsDrawnBelow level n (put_chunk (256 * row + column) c.lanes.field c.bytes_of-bytes.result)) up
-          (drawn_next level formed row column c.bytes_of-bytes.result c.lanes.field
-          (let p = c.requires.part in omega (arith, high, p)) c.requires.row c.ranges.row.fits are kept.drawn);
-      whole = let w = kept.whole in omega (arith, w);
-      from = let f = kept.from in omega (arith, f);
+          rw up at (drawn_next level formed row column c.bytes_of-bytes.result c.lanes.field
+          (let p = c.requires.part in omega arith) c.requires.row c.ranges.row.fits are kept.drawn);
+      whole = let w = kept.whole in omega arith;
+      from = let f = kept.from in omega arith;
       to = high;
-      floor = ap (λ w. w / 65536) kept.floor ∙ shifted c.floor_at-floor.result s (column + 16 - 64 * part) next;
+      floor = ap (λ w. w / 65536) kept.floor ∙ shifted c.floor_at-floor.result s next;
     }

@@ -13,8 +13,7 @@ use Rattle.play.proofs.field.floor_at.Goals.{then-row-height-via-then-row-height
 
 no_floor : (level : Level) (floor : Cells) (row part : ℕ) → ((c : Cell) → Has floor c ↔ IsFloor level c)
     → ((k : ℕ) → IsFloor level (row_cell row part k) → ⊥) → IsRowOf floor row part 0
-no_floor level floor row part is none k small =
-    zero_bit k ∙ sym (lacks_where floor (row_cell row part k) (λ h. none k ((is (row_cell row part k)).0 h)))
+no_floor level floor row part is none k small = grind (arith, zero_bit, lacks_where)
 
 pub returns-then-row-height : goal.returns-then-row-height
 returns-then-row-height g c =
@@ -25,8 +24,8 @@ returns-then-row-height g c =
       no_floor level c.floor-floor.result.now.members c.args.row c.args.part c.floor-floor.ensures.members (λ k floor.
           elim c.then-row-height.branch [
             | then-row-height-via-then-row-height w ↦
-                let high = c.height.ensures.value ∙ ap (λ (e : Extent). e.height) shape in let b = floor.0.bottom in omega (arith, high, w.if-row-height.true)
+                let high = c.height.ensures.value ∙ ap (λ e. e.height) shape in let b = floor.0.bottom in omega arith
             | then-row-height-via-else-row-height+then-part-width w ↦
-                let wide = w.width.ensures.value ∙ ap (λ (e : Extent). e.width) shape in let r = floor.0.right in omega (arith, wide, w.if-part-width.true)
+                let wide = w.width.ensures.value ∙ ap (λ e. e.width) shape in let r = floor.0.right in omega arith
           ]),
     )

@@ -16,21 +16,18 @@ loop-cell-preserved g c =
     let level = c.args.board.now in
     let q = c.in-Some.cell in
     let came = c.loop-cell.yielded in
-    let whole = subst (λ (l : List Cell). AreMembersOf level.shape level.boxes (came ++ l)) c.in-Some.ensures.steps c.loop-cell.invariant.all in
+    let whole = rw c.in-Some.ensures.steps at c.loop-cell.invariant.all in
     let floor = c.requires.formed.boxes q (next_has came c.next.new.self q whole).0 in
     record {
       can_next = tt;
       is_finite = tt;
       all = next_came came c.next.new.self q whole;
-      shown = subst (λ (s : Cells). IsFieldOf level s (set c.loop-cell.field c.place.result BOX)) (sym (came_more came q))
-          (subst (λ n. IsFieldOf level (insert (set_of came) q) (set c.loop-cell.field n BOX)) (sym c.place.ensures)
-          (field_put level c.requires.formed.sides (set_of came) c.loop-cell.field q floor c.loop-cell.invariant.shown));
+      shown = rw (came_more came q, c.place.ensures) (field_put level c.requires.formed.sides floor c.loop-cell.invariant.shown);
     }
 
 pub returns : goal.returns
 returns g c =
     let level = c.args.board.now in
     let came = c.loop-cell.yielded in
-    let whole = subst (λ (l : List Cell). AreMembersOf level.shape level.boxes (came ++ l)) c.in-None.ensures.steps.0 c.loop-cell.invariant.all in
-    subst (λ (s : Cells). IsFieldOf level s c.loop-cell.field) (all_came_set level.shape level.boxes came (all_came level.shape level.boxes came whole))
-    c.loop-cell.invariant.shown
+    let whole = rw c.in-None.ensures.steps.0 at c.loop-cell.invariant.all in
+    rw (all_came_set (all_came level.shape level.boxes came whole)) at c.loop-cell.invariant.shown

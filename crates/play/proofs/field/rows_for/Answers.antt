@@ -6,9 +6,9 @@ pub loop-rows-preserved : goal.loop-rows-preserved
 loop-rows-preserved c =
     let (k, small, is) = c.loop-rows.invariant in
     elim (cases_lt k 8) [
-      | inl less ↦ (k + 1, omega (arith, less), ap (λ n. n * 2) is ∙ sym (pow-add 2 k 1))
+      | inl less ↦ (k + 1, omega arith, ap (λ n. n * 2) is ∙ sym (pow-add 2 k 1))
       | inr most ↦
-          let top : k ≡ 8 = omega (arith, small, most) in
+          let top : k ≡ 8 = omega arith in
           let all = is ∙ ap (λ n. 2 ^ n) top in
-          absurd (omega (arith, all, c.min.ensures, c.loop-rows-test.true))
+          absurd (omega arith)
     ]

@@ -3,4 +3,4 @@ use Rattle.play.proofs.LetterTables.{is_added}
 use Rattle.play.proofs.letters.added.Goals as goal
 
 pub returns : goal.returns
-returns c = is_added c.args.byte (omega arith)
+returns c = is_added (omega arith)

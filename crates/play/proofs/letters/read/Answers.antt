@@ -3,4 +3,4 @@ use Rattle.play.proofs.LetterTables.{is_read}
 use Rattle.play.proofs.letters.read.Goals as goal
 
 pub returns-clause-read : goal.returns-clause-read
-returns-clause-read c = is_read c.args.byte (omega arith)
+returns-clause-read c = is_read (omega arith)

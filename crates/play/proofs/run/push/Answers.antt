@@ -20,7 +20,7 @@ bounds-field-beyond-in-2-2 c =
     let (level, done, before) = c.requires.under_way in
     let within =
     beyond_within level done c.args.field.now c.args.run.now before c.args.letter c.requires.read c.requires.no_walk c.if-letter-eq-FOREIGN.false c.in-2.is in
-    omega (arith, within, length-set c.args.field.now ((c.args.run.now.player + c.args.letter.step) % 65536) 0)
+    omega (arith, length-set c.args.field.now ((c.args.run.now.player + c.args.letter.step) % 65536) 0)
 
 pub count_push-requires : goal.count_push-requires
 count_push-requires c = let (level, done, before) = c.requires.under_way in room_left level done c.args.field.now c.args.run.now before c.requires.room
@@ -43,8 +43,7 @@ returns-in-2-clause-err c =
 pub returns-in-2-2-clause-ok : goal.returns-in-2-2-clause-ok
 returns-in-2-2-clause-ok c =
     λ level done before.
-    pushed_on level done c.args.field.now c.args.run.now before c.args.letter c.requires.read c.requires.no_walk c.if-letter-eq-FOREIGN.false
-    c.count_push.new.run c.if-letter-eq-PUSH.true c.in-2.is c.if-field-beyond-ne-FREE.false c.count_push.ensures
+    pushed_on level done c.args.field.now c.args.run.now before c.args.letter c.requires.read c.requires.no_walk c.if-letter-eq-FOREIGN.false c.if-letter-eq-PUSH.true c.in-2.is c.if-field-beyond-ne-FREE.false c.count_push.ensures
 
 pub returns-in_default-2-clause-err : goal.returns-in_default-2-clause-err
 returns-in_default-2-clause-err c = λ level done after before.
@@ -54,4 +53,4 @@ returns-in_default-2-clause-err c = λ level done after before.
 pub returns-in_default-2-2-clause-err : goal.returns-in_default-2-2-clause-err
 returns-in_default-2-2-clause-err c = λ level done after before.
     fails_capital level done c.args.field.now c.args.run.now before c.args.letter after c.requires.read c.requires.no_walk c.if-letter-eq-FOREIGN.false
-    (λ e. omega (arith, e)) (λ e. omega (arith, e))
+    (λ e. omega arith) (λ e. omega arith)

@@ -13,8 +13,8 @@ use Rattle.play.proofs.solution.play_all.Goals as goal
 pub play_lines-requires : goal.play_lines-requires
 play_lines-requires g c =
     let level = c.args.board.now in
-    let shown = subst (IsFieldOf level level.boxes) (sym c.as_mut_slice-field.ensures.value) c.in-Ok.ensures.shown in
-    let none : c.begin-run.result.tally.moves ≡ 0 = ap (λ (r : Run). r.tally.moves) c.begin-run.ensures in
+    let shown = rw (← c.as_mut_slice-field.ensures.value) at c.in-Ok.ensures.shown in
+    let none : c.begin-run.result.tally.moves ≡ 0 = ap (λ r. r.tally.moves) c.begin-run.ensures in
     record {
       under_way = (
         level,
@@ -22,14 +22,14 @@ play_lines-requires g c =
         progress_start level c.as_mut_slice-field.result.now c.player.result c.begin-run.result c.in-Ok.ensures.formed shown c.player.ensures.value
             c.begin-run.ensures,
       );
-      masked = subst HasMask (sym c.as_mut_slice-field.ensures.value) c.in-Ok.ensures.masked;
-      room = omega (arith, none, c.requires);
+      masked = rw c.as_mut_slice-field.ensures.value c.in-Ok.ensures.masked;
+      room = omega arith;
     }
 
 pub boxes_off_goals-boxes-requires : goal.boxes_off_goals-boxes-requires
 boxes_off_goals-boxes-requires g c =
     let level = c.args.board.now in
-    let shown = subst (IsFieldOf level level.boxes) (sym c.as_mut_slice-field.ensures.value) c.in-Ok.ensures.shown in
+    let shown = rw (← c.as_mut_slice-field.ensures.value) at c.in-Ok.ensures.shown in
     let first =
     progress_start level c.as_mut_slice-field.result.now c.player.result c.begin-run.result c.in-Ok.ensures.formed shown c.player.ensures.value
     c.begin-run.ensures in
@@ -39,7 +39,7 @@ boxes_off_goals-boxes-requires g c =
 pub returns-in_err-play_lines-clause-exact : goal.returns-in_err-play_lines-clause-exact
 returns-in_err-play_lines-clause-exact g c =
     let level = c.args.board.now in
-    let shown = subst (IsFieldOf level level.boxes) (sym c.as_mut_slice-field.ensures.value) c.in-Ok.ensures.shown in
+    let shown = rw (← c.as_mut_slice-field.ensures.value) at c.in-Ok.ensures.shown in
     let first =
     progress_start level c.as_mut_slice-field.result.now c.player.result c.begin-run.result c.in-Ok.ensures.formed shown c.player.ensures.value
     c.begin-run.ensures in
@@ -50,7 +50,7 @@ returns-in_err-play_lines-clause-exact g c =
 pub returns-then-boxes-gt0-clause-exact : goal.returns-then-boxes-gt0-clause-exact
 returns-then-boxes-gt0-clause-exact g c =
     let level = c.args.board.now in
-    let shown = subst (IsFieldOf level level.boxes) (sym c.as_mut_slice-field.ensures.value) c.in-Ok.ensures.shown in
+    let shown = rw (← c.as_mut_slice-field.ensures.value) at c.in-Ok.ensures.shown in
     let first =
     progress_start level c.as_mut_slice-field.result.now c.player.result c.begin-run.result c.in-Ok.ensures.formed shown c.player.ensures.value
     c.begin-run.ensures in
@@ -61,11 +61,11 @@ returns-then-boxes-gt0-clause-exact g c =
 pub returns-clause-found : goal.returns-clause-found
 returns-clause-found g c =
     let level = c.args.board.now in
-    let shown = subst (IsFieldOf level level.boxes) (sym c.as_mut_slice-field.ensures.value) c.in-Ok.ensures.shown in
+    let shown = rw (← c.as_mut_slice-field.ensures.value) at c.in-Ok.ensures.shown in
     let first =
     progress_start level c.as_mut_slice-field.result.now c.player.result c.begin-run.result c.in-Ok.ensures.formed shown c.player.ensures.value
     c.begin-run.ensures in
     let last = c.in_ok-play_lines.ensures.ok level [] first in
     let off = c.boxes_off_goals-boxes.ensures last.state.boxes last.shown last.as_many in
     solves_end level (joined c.args.lines.now) c.play_lines.new.field c.play_lines.new.run last c.boxes_off_goals-boxes.result off
-    (omega (arith, c.if-boxes-gt0.false))
+    (omega arith)

@@ -14,24 +14,16 @@ use Rattle.play.proofs.solution.play_lines.Goals as goal
 abbrev none : Bor (List ℕ)
 none = record { ref_ptr = (0, 0); now = [] }
 
-pub loop-line-init : goal.loop-line-init
-loop-line-init c = record { moves = omega arith; continues = continues_none c.args.field.now c.args.run.now }
-
-pub play_line-requires-clause-under_way : goal.play_line-requires-clause-under_way
-play_line-requires-clause-under_way c =
-    under_way_then c.args.field.now c.loop-line.field c.args.run.now c.loop-line.run
-    (letters (joined (take c.loop-line.line-index c.args.lines.now))) c.loop-line.invariant.continues c.requires.under_way
-
 pub play_line-requires-clause-room : goal.play_line-requires-clause-room
 play_line-requires-clause-room c =
     let i = c.loop-line.line-index in
     let lines = c.args.lines.now in
     let before = joined (take i lines) in
     let line = (get_or lines i none).now in
-    let whole = ap length (joined_around lines i none (omega arith)) ∙ length-append (before ++ line) (joined (drop (i + 1) lines)) in
+    let whole = ap length (joined_around lines {i = i} none (omega arith)) ∙ length-append (before ++ line) (joined (drop (i + 1) lines)) in
     let two = length-append before line in
     let m = c.loop-line.invariant.moves in
-    omega (arith, whole, two, m, c.requires.room)
+    omega arith
 
 pub returns-in_err-play_line-clause-err : goal.returns-in_err-play_line-clause-err
 returns-in_err-play_line-clause-err c =
@@ -42,11 +34,11 @@ returns-in_err-play_line-clause-err c =
     let rest = letters (joined (drop (i + 1) lines)) in
     let fault = c.in_err-play_line.field-0.0 in
     let behind =
-    fault_then c.args.field.now c.loop-line.field c.args.run.now c.loop-line.run done line fault c.loop-line.invariant.continues c.in_err-play_line.ensures.err
+    fault_then line fault c.loop-line.invariant.continues c.in_err-play_line.ensures.err
     in
     let whole = fault_before c.args.field.now c.args.run.now (done ++ line) rest fault behind in
     let p = err_from_is_err_and c.from_residual.result c.from_residual.ensures.1 in
-    rw (p.1, p.2) (subst (λ (xs : List ℕ). FailsOn c.args.field.now c.args.run.now xs fault) (sym (line_letters_around lines i none (omega arith))) whole)
+    rw (p.1, p.2, line_letters_around lines i none (omega arith)) whole
 
 pub loop-line-preserved : goal.loop-line-preserved
 loop-line-preserved c =
@@ -55,15 +47,20 @@ loop-line-preserved c =
     let done = letters (joined (take i lines)) in
     let line = letters (get_or lines i none).now in
     let more =
-    continues_then c.args.field.now c.loop-line.field c.play_line.new.field c.args.run.now c.loop-line.run c.play_line.new.run done line
+    continues_then
     c.loop-line.invariant.continues c.in_ok-play_line.ensures.ok in
-    let longer = ap length (joined_more lines i none (omega arith)) ∙ length-append (joined (take i lines)) (get_or lines i none).now in
+    let longer = ap length (joined_more lines none (omega arith)) ∙ length-append (joined (take i lines)) (get_or lines i none).now in
     record {
-      moves = let m = c.loop-line.invariant.moves in let n = c.in_ok-play_line.ensures.moves in omega (arith, m, n, longer);
-      continues = subst (λ (xs : List ℕ). Continues c.args.field.now c.args.run.now xs c.play_line.new.field c.play_line.new.run)
-          (sym (line_letters_more lines i none (omega arith))) more;
+      moves = let m = c.loop-line.invariant.moves in let n = c.in_ok-play_line.ensures.moves in omega arith;
+      continues = rw (line_letters_more lines i none (omega arith)) more;
     }
 
 pub returns-clause-ok : goal.returns-clause-ok
-returns-clause-ok c = subst (λ (xs : List (Bor (List ℕ))). Continues c.args.field.now c.args.run.now (letters (joined xs)) c.loop-line.field c.loop-line.run)
-    (take_all c.loop-line.line-index c.args.lines.now (omega (arith, c.loop-line-test.false))) c.loop-line.invariant.continues
+returns-clause-ok c = rw (take_all c.loop-line.line-index c.args.lines.now (omega arith)) at c.loop-line.invariant.continues
+
+pub loop-line-init : goal.loop-line-init
+loop-line-init c = record { moves = omega arith; continues = continues_none c.args.field.now c.args.run.now }
+
+pub play_line-requires-clause-under_way : goal.play_line-requires-clause-under_way
+play_line-requires-clause-under_way c =
+    under_way_then c.loop-line.invariant.continues c.requires.under_way

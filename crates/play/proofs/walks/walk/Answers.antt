@@ -12,12 +12,12 @@ use Rattle.play.proofs.walks.walk.Goals as goal
 pub loop-byte-init : goal.loop-byte-init
 loop-byte-init c =
     subst (λ n. IsWalked c.args.field.now c.args.player c.args.group.now 0 n 0) (sym c.from-sum.ensures)
-    (walked_none c.args.field.now c.args.player c.args.group.now 0 (omega arith))
+    (walked_none c.args.field.now c.args.group.now 0 (omega arith))
 
 -- the mask keeps the low bits of a place
 low_bits : (field : List ℕ) → HasMask field → (mask n : ℕ) → mask + 1 ≡ length field → bit_and n mask ≡ n % length field
 low_bits field has_mask mask n is =
-    let last : mask ≡ length field - 1 = omega (arith, is) in
+    let last : mask ≡ length field - 1 = omega arith in
     ap (bit_and n) last ∙ masked field has_mask n
 
 pub bounds-field-sum : goal.bounds-field-sum
@@ -33,15 +33,15 @@ loop-byte-preserved c =
     let sum = c.loop-byte.sum + c.added-sum.result in
     subst (λ n. IsWalked field c.args.player c.args.group.now (c.loop-byte.byte-index + 1) sum (bit_or c.loop-byte.met (get_or field n 0)))
     (sym (low_bits field c.requires.masked c.args.mask sum c.requires.mask))
-    (walked_more field c.requires.masked c.args.player c.args.group.now c.loop-byte.byte-index c.loop-byte.sum c.loop-byte.met c.added-sum.result
+    (walked_more c.requires.masked c.args.player c.args.group.now c.loop-byte.byte-index c.loop-byte.sum c.loop-byte.met c.added-sum.result
     c.requires.few (omega arith) c.added-sum.ensures c.loop-byte.invariant)
 
 pub overflow_add-sum : goal.overflow_add-sum
 overflow_add-sum c =
-    let s = added_small _ c.added-sum.result c.added-sum.ensures in
+    let s = added_small c.added-sum.ensures in
     let b = c.loop-byte.invariant.bounded in
     omega (arith, s, b)
 
 pub returns-then-sum-lt-NO_WALK : goal.returns-then-sum-lt-NO_WALK
-returns-then-sum-lt-NO_WALK c = walked_all _ _ _ _ _ _ _ c.loop-byte-test.false c.if-met-eq-FREE.true c.if-sum-lt-NO_WALK.true c.from.ensures (omega arith)
+returns-then-sum-lt-NO_WALK c = walked_all c.loop-byte-test.false c.if-met-eq-FREE.true c.if-sum-lt-NO_WALK.true c.from.ensures (omega arith)
     c.loop-byte.invariant

@@ -15,7 +15,7 @@ groups-preserved c =
     let few = c.in-Some.ensures.0 in
     let short = length-take (i + 8 - i) (drop i text) in
     record {
-      within = omega (arith, c.groups-test.true);
-      moves = omega (arith, old, few, short);
+      within = omega arith;
+      moves = omega arith;
       continues = continues_up field field field run here there text i (i + 8) (omega arith) c.groups.invariant.continues (c.in-Some.ensures.1 here refl);
     }
