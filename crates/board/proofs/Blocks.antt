@@ -56,8 +56,7 @@ of_kind lane is_kind n block lanes most fits are agree k small =
     let within : k < length block = omega arith in
     let tops = map (top 7) (map lane block) in
     let few : length tops ≤ 64 = omega (arith, length-map block lane, length-map (map lane block) (top 7)) in
-    ap (λ l. bit (mask_l (map (top 7) l) % 2 ^ 64) k) are
-    ∙ ap (λ n. bit n k) (mask_l-mod tops 64 few) ∙ bit_of_lanes tops k
+    ap (λ l. bit (mask_l (map (top 7) l) % 2 ^ 64) k) are ∙ ap (λ n. bit n k) (mask_l-mod tops 64 few) ∙ bit_of_lanes tops k
     ∙ get_or-map (top 7) (map lane block) k 0 false (omega (arith, length-map block lane)) ∙ ap (top 7) (get_or-map lane block k 0 0 within)
     ∙ agree_below_at (λ b. top 7 (lane b)) is_kind 256 (get_or block k 0) agree (Each1-get_or (Fits w8) block k 0 within fits.1).fits
 
@@ -86,10 +85,8 @@ looked_up table v long =
 -- the bits of a row's bytes, each at the place of its column, are the word of that part of the row
 pub columns_word : (is_kind : ℕ → Bool) → is_kind space ≡ false → (text : List ℕ) (len part from count bits word : ℕ)
     → from ≡ max (64 * part) 1 - 1 → count ≡ len - from → from ≤ len → len ≤ length text → IsMaskOf is_kind (λ k. get_or text (from + k) 0) (min count 64) bits
-    → ((k : ℕ) → k < 1 - part → bit word k ≡ false)
-    → ((k : ℕ) → k < count → k + (1 - part) < 64 → bit word (k + (1 - part)) ≡ bit bits k)
-    → ((k : ℕ) → count ≤ k → k + (1 - part) < 64 → bit word (k + (1 - part)) ≡ false)
-    → IsWordOf is_kind (take len text) part word
+    → ((k : ℕ) → k < 1 - part → bit word k ≡ false) → ((k : ℕ) → k < count → k + (1 - part) < 64 → bit word (k + (1 - part)) ≡ bit bits k)
+    → ((k : ℕ) → count ≤ k → k + (1 - part) < 64 → bit word (k + (1 - part)) ≡ false) → IsWordOf is_kind (take len text) part word
 columns_word is_kind no_floor text len part from count bits word from_is count_is within long is lead inside past k small = elim (cases_lt k (1 - part)) [
   | inl before ↦
       let column : 64 * part + k ≡ 0 = omega arith in
@@ -102,8 +99,7 @@ columns_word is_kind no_floor text len part from count bits word from_is count_i
       let here : (b : Bool) → b ≡ is_kind (get_or (take len text) (from + j) space) → b ≡ is_kind (nth (take len text) (64 * part + k) space) = λ b e. e
       ∙ sym (ap (λ c. is_kind (nth (take len text) c space)) column) in
       ap (bit word) (sym place) ∙ here (bit word (j + (1 - part))) (elim (cases_lt j count) [
-        | inl has ↦
-            inside j has low ∙ is j (omega arith)
+        | inl has ↦ inside j has low ∙ is j (omega arith)
             ∙ ap is_kind (get_or_default text (from + j) 0 space (omega arith)
             ∙ sym (get_or-take len text (from + j) space (omega arith)))
         | inr lacks ↦

@@ -69,8 +69,7 @@ pub record IsTested (line : List ℕ) (n : ℕ) (has_wall : Bool) : Type 0 where
 
 -- if all bytes before a place and all bytes of the next block test alike, so do all bytes up to its end
 of_block : (is_kind : ℕ → Bool) (line : List ℕ) (n from word : ℕ) (b : Bool) → from ≤ n → IsBlockOf is_kind line from word
-    → ((k : ℕ) → k < 16 → bit word k ≡ b) → ((i : ℕ) → i < n → is_kind (get_or line i 0) ≡ b)
-    → (i : ℕ) → i < from + 16 → is_kind (get_or line i 0) ≡ b
+    → ((k : ℕ) → k < 16 → bit word k ≡ b) → ((i : ℕ) → i < n → is_kind (get_or line i 0) ≡ b) → (i : ℕ) → i < from + 16 → is_kind (get_or line i 0) ≡ b
 of_block is_kind line n from word b near is bits before i low = elim (cases_lt i n) [
   | inl old ↦ before i old
   | inr new ↦
@@ -88,8 +87,7 @@ module _ (line : List ℕ) (from word : ℕ) (inside : from + 16 ≤ length line
       let small = at.1 in
       let foreign : is_board_character (get_or line (from + at.0) 0) ≡ false = sym (is at.0 small)
       ∙ not_true (bit word at.0) (sym (bit-not word at.0 fits (omega arith)) ∙ at.2) in
-      ap (λ v. list_any is_wall line && v) (list_all_at is_board_character line (from + at.0) 0 (omega arith) foreign)
-      ∙ and-false (list_any is_wall line)
+      ap (λ v. list_any is_wall line && v) (list_all_at is_board_character line (from + at.0) 0 (omega arith) foreign) ∙ and-false (list_any is_wall line)
 
   -- a line with a wall in one of its blocks has a wall
   pub wall_block : IsBlockOf is_wall line from word → bit_and word 65535 ≢ 0 → list_any is_wall line ≡ true

@@ -175,8 +175,7 @@ module _ (is_kind : ℕ → Bool) (no_floor : is_kind space ≡ false) where
     omega arith,
     ⊎_elim
         (λ inside. omega arith)
-        (λ past. absurd (false≢true (sym no_floor ∙ ap is_kind (sym (nth_past line (suc k) space (omega arith))) ∙ is)))
-        (cases_lt k (length line)),
+        (λ past. absurd (false≢true (sym no_floor ∙ ap is_kind (sym (nth_past line (suc k) space (omega arith))) ∙ is))) (cases_lt k (length line)),
   )
 
   -- the bits of a row's part are of cells on the grid
@@ -184,12 +183,10 @@ module _ (is_kind : ℕ → Bool) (no_floor : is_kind space ≡ false) where
       → IsWordOf is_kind line part word → IsRowOn on row part word
   word_on line row part word shape on same high wide is k small one =
       let in_line = of_row line (64 * part + k) (sym (is k small) ∙ one) in
-      subst (λ e. IsOn e (row_cell row part k)) (sym same)
-      (record { top = high.0; bottom = high.1; left = in_line.0; right = omega arith })
+      subst (λ e. IsOn e (row_cell row part k)) (sym same) (record { top = high.0; bottom = high.1; left = in_line.0; right = omega arith })
 
   pub part_added : (line : List ℕ) (row part word : ℕ) (old now next : Cells) → IsWordOf is_kind line part word
-      → next ≡ set.union now (cells_of_row row part word)
-      → IsRowDrawn is_kind line row part old now → IsRowDrawn is_kind line row (part + 1) old next
+      → next ≡ set.union now (cells_of_row row part word) → IsRowDrawn is_kind line row part old now → IsRowDrawn is_kind line row (part + 1) old next
   part_added line row part word old now next is union so_far = record {
     kept = λ q h. kept q (so_far.kept q h);
     added = λ q here low shows. ⊎_elim

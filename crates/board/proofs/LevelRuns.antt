@@ -49,8 +49,7 @@ run_more text rest row after width height so_far first is =
     let run = so_far.run in
     let rows : lines_in (run ++ first.ended) ≡ lines_in run ++ row ∷ [] =
     ap (map without_terminator) (more_lines text run rest first.ended after so_far.cut first.cut)
-    ∙ map-append without_terminator (lines_of run) (lines_of first.ended)
-    ∙ ap (λ l. lines_in run ++ l) (first_alone rest row after first) in
+    ∙ map-append without_terminator (lines_of run) (lines_of first.ended) ∙ ap (λ l. lines_in run ++ l) (first_alone rest row after first) in
     record {
       run = run ++ first.ended;
       cut = cut_more text run rest first.ended after so_far.cut first.cut;
@@ -63,10 +62,6 @@ run_more text rest row after width height so_far first is =
 module _ (text rest : List ℕ) (width height : ℕ) (so_far : IsRunSoFar text rest width height) where
   pub run_within : length rest ≤ length text
   run_within = omega (arith, ap length so_far.cut.parts, length-append so_far.run rest)
-
-  -- The text has room for one more line of the run.
-  pub height_within : 0 < length rest → height + 1 ≤ length text
-  height_within some = let few = so_far.few in omega (arith, ap length so_far.cut.parts, length-append so_far.run rest)
 
   pub run_is : so_far.run ≡ take (length text - length rest) text
   run_is =
@@ -187,8 +182,7 @@ with_line : (line : List ℕ) (lines : List (List ℕ)) (levels : List (List (Li
     → (all : List (List (List ℕ))) × AreLevelsOf all (line ∷ lines)
 with_line line lines levels are = ⊎_elim
     (λ board. with_board_line line lines levels board are)
-    (λ text. (levels, after_text (line ∷ []) lines levels (All-cons IsText line [] text (All-nil IsText)) are))
-    (cases_Bool (is_board_line line))
+    (λ text. (levels, after_text (line ∷ []) lines levels (All-cons IsText line [] text (All-nil IsText)) are)) (cases_Bool (is_board_line line))
 
 pub some_levels : (lines : List (List ℕ)) → (levels : List (List (List ℕ))) × AreLevelsOf levels lines
 some_levels [] = ([], All-nil IsText)

@@ -1,11 +1,9 @@
 -- The rows of a level have one board.
 -- The rows fix the shape and the player. A set is known by its members, and they are those that the rows show. The rooms have the
 -- same members: since the walls, the shape and the player are the same, so are the chains that join a cell to the player.
-use Rattle.std.proofs.Common.{◌≡◌, ℕ, List, refl, sym, ◌∙◌, ap, subst}
-use Rattle.cellset.specs.Shape.{Extent}
-use Rattle.cellset.specs.CellSet.{Cells, Has, Lacks}
+use Rattle.std.proofs.Common.{◌≡◌, ℕ, List, refl, sym, ◌∙◌, ap}
+use Rattle.cellset.specs.CellSet.{Has}
 use Rattle.cellset.specs.declared.cell.Cell.{Cell}
-use Rattle.cellset.specs.Cell.{IsOn}
 use Rattle.cellset.proofs.Members.{same_cells, same_members}
 use Rattle.board.specs.Game.{Level, IsFloor}
 use Rattle.board.specs.Legal.{ArePartsOf}

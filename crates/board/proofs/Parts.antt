@@ -3,8 +3,8 @@
 -- players and boxes are no wall's, and none is both a player's and a box's. So whatever the rows are, the player and the boxes are
 -- on floor, and not in one cell. If the rows have one player, the set of players has one member, and the flood from it, which only
 -- walls bar, is the room. Two levels with the parts of the same rows are equal, since sets with the same members are.
-use Rattle.std.proofs.Common.{◌≡◌, ◌≢◌, ℕ, zero, suc, ◌-◌, ◌≤◌, Bool, true, false, cond, ◌||◌, ◌==◌, List, [], ◌∷◌, length, Option, Some, None, refl, sym, ◌∙◌}
-use Rattle.std.proofs.Common.{ap, subst, ⊎_elim, arith}
+use Rattle.std.proofs.Common.{◌≡◌, ◌≢◌, ℕ, zero, suc, ◌-◌, ◌≤◌, true, false, cond, ◌||◌, ◌==◌, List, [], ◌∷◌, length, Option, Some, None, refl, sym, ◌∙◌}
+use Rattle.std.proofs.Common.{ap, ⊎_elim, arith}
 use Rattle.std.specs.Prelude.{◌↔◌, All, MatchOption}
 use Rattle.std.proofs.lemmas.Bool.{cases_lt, false≢true, eqb-true, eq-eqb}
 use Rattle.std.proofs.lemmas.List.Elements.{All-nil, All-cons, All-head, All-weaker, All-get_or}
@@ -53,15 +53,13 @@ on_rows rows (suc k) (suc j) some = record {
   left = omega arith;
   right = ⊎_elim
       (λ inside. let wide = All-get_or (λ r. length r ≤ width_of rows) rows k [] (omega (arith, below)) (all_within_width rows) in omega arith)
-      (λ past. absurd (some (nth_past (nth rows (suc k) []) (suc j) space (omega arith))))
-      (cases_lt j (length (nth rows (suc k) [])));
+      (λ past. absurd (some (nth_past (nth rows (suc k) []) (suc j) space (omega arith)))) (cases_lt j (length (nth rows (suc k) [])));
 }
   where
     below : suc k ≤ length rows
     below = ⊎_elim
         (λ inside. omega arith)
-        (λ past. absurd (some (ap (λ r. nth r (suc j) space) (nth_past rows (suc k) [] (omega arith)))))
-        (cases_lt k (length rows))
+        (λ past. absurd (some (ap (λ r. nth r (suc j) space) (nth_past rows (suc k) [] (omega arith))))) (cases_lt k (length rows))
 
 pub on_grid : (rows : List (List ℕ)) (c : Cell) → character_at rows c ≢ space → IsOn (extent_of rows) c
 on_grid rows c some = on_rows rows c.row c.column some
@@ -109,8 +107,7 @@ is_only s m one has = same_cells s (only m) (λ q. same_or_other q m
 
 -- the first member of a set with one member is that member
 pub first_is_only : (shape : Extent) (s : Cells) (from : Cell) (r : Option Cell) → set.len s ≡ 1 → ((c : Cell) → Has s c → IsOn shape c)
-    → IsOn shape (cell_at 1 1) → from ≡ cell_at 1 1 → IsFirstFrom s from r
-    → MatchOption r (set.len s ≢ 1) (λ c. (set.len s ≡ 1) × (s ≡ only c) × IsOn shape c)
+    → IsOn shape (cell_at 1 1) → from ≡ cell_at 1 1 → IsFirstFrom s from r → MatchOption r (set.len s ≢ 1) (λ c. (set.len s ≡ 1) × (s ≡ only c) × IsOn shape c)
 first_is_only shape s from None one on corner at first =
     absurd (let none : s ≡ set.empty = same_cells s set.empty
     (λ q. has_or_lacks s q (λ has. absurd (none_past shape (Some from) (corner, at) q (on q has) (first q has)))

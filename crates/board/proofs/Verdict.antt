@@ -2,7 +2,7 @@
 -- A sketch has one cell for each character of a kind, so the sizes of its sets are the counts of the characters, and tests of the
 -- sizes are tests of legality. If the sides are no grid's, one is above the largest, since a level has a row, and each row a wall.
 -- Once the board has its parts, the level is legal unless its room is open.
-use Rattle.std.proofs.Common.{◌≡◌, ◌≢◌, ℕ, ◌≤◌, List, length, sym, ◌∙◌, ap, subst, arith}
+use Rattle.std.proofs.Common.{◌≡◌, ◌≢◌, ℕ, ◌≤◌, List, length, sym, ◌∙◌, subst, arith}
 use Rattle.std.specs.FinSet as set
 use Rattle.cellset.specs.Shape.{Extent, HasSides}
 use Rattle.cellset.specs.CellSet.{Cells, only}
@@ -43,20 +43,13 @@ too_large rows width height run wide high none fits =
           omega arith;
     })
 
-pub extent_is : (rows : List (List ℕ)) (width height : ℕ) (shape : Extent) → width ≡ width_of rows → height ≡ length rows
-    → shape ≡ record { width = width; height = height } → shape ≡ extent_of rows
-extent_is rows width height shape wide high e =
-    e ∙ ap (λ n. let x : Extent = record { width = n; height = height } in x) wide
-    ∙ ap (λ n. let x : Extent = record { width = width_of rows; height = n } in x) high
-
 pub sides_of : (width height : ℕ) (shape : Extent) → HasSides width height → shape ≡ record { width = width; height = height }
     → HasSides shape.width shape.height
 sides_of width height shape sides e = subst (λ x. HasSides x.width x.height) (sym e) sides
 
 -- the region of the one player is the region of the set of players
 pub region_of : (shape extent : Extent) (walls players room : Cells) (player : Cell) → extent ≡ shape → players ≡ only player
-    → IsRegion extent walls set.empty (only player) room
-    → IsRegion shape walls set.empty players room
+    → IsRegion extent walls set.empty (only player) room → IsRegion shape walls set.empty players room
 region_of shape extent walls players room player same one region =
     rw one (rw same at region)
 

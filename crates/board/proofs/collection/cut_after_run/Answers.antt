@@ -1,5 +1,4 @@
 use Rattle.std.proofs.Common.{◌+◌, sym, ◌∙◌, subst}
-use Rattle.board.specs.Cut.{IsCut}
 use Rattle.board.proofs.LevelRuns.{IsRunSoFar, cut_at_end, cut_at_text, no_bytes, run_is, run_more, run_none, run_whole}
 use Rattle.board.proofs.SkippedText.{cut_further}
 use Rattle.board.proofs.collection.cut_after_run.Goals as goal

@@ -2,11 +2,11 @@
 -- So it says nothing yet of the rest, and a turn only has to move one run from the rest to the levels found, or to drop an empty run
 -- (`LevelRuns.antt`). At the end the rest has no lines and no levels. If one level too many is met, take any levels of the rest, which
 -- exist: then the text has a list of levels that is too long.
-use Rattle.std.proofs.Common.{ℕ, ◌+◌, not, List, [], ◌∷◌, ◌++◌, vec_len, cond, sym, ◌∙◌, ap, subst, arith, append_assoc, length-append}
+use Rattle.std.proofs.Common.{◌+◌, not, [], ◌∷◌, ◌++◌, vec_len, cond, sym, ◌∙◌, ap, arith, append_assoc, length-append}
 use Rattle.std.proofs.lemmas.List.{append-nil, nil_from_length}
 use Rattle.std.proofs.lemmas.List.Elements.{All-nil}
-use Rattle.board.specs.Lines.{lines_in, without_mark}
-use Rattle.board.specs.Levels.{AreLevelsOf, IsText}
+use Rattle.board.specs.Lines.{lines_in}
+use Rattle.board.specs.Levels.{IsText}
 use Rattle.lines.proofs.Cuts.{lines_in-nil}
 use Rattle.board.proofs.LevelRuns.{levels_with_run, levels_without_run, is_run, some_levels, some_bytes, no_bytes}
 use Rattle.board.proofs.collection.levels.Goals as goal

@@ -1,9 +1,9 @@
 -- The rows determine the parts of a board, so two boards of the same rows are equal (`OneBoard.antt`). A legal level meets all conditions,
 -- and a refusal says that one of them fails. For `Open` the level that is open has the parts of the same rows, so it is the board itself.
 -- Two different refusals exclude each other: the later one says that the earlier condition holds.
-use Rattle.std.proofs.Common.{◌≡◌, ℕ, List, refl, subst}
+use Rattle.std.proofs.Common.{◌≡◌, ℕ, List, refl}
 use Rattle.board.specs.Game.{Level}
-use Rattle.board.specs.Legal.{IsOpen, IsBoardOf, IsRefusal}
+use Rattle.board.specs.Legal.{IsBoardOf, IsRefusal}
 use Rattle.board.specs.declared.reading.BoardFault.{BoardFault}
 use Rattle.board.specs.declared.reading.BoardFault.TheVariants.{Size, Player, Box, Goals, Open, Memory}
 use Rattle.board.proofs.OneBoard.{one_board}

@@ -1,14 +1,10 @@
 -- A sketch has one cell for each character of a kind, so the tests of sizes are tests of the rows. The one member of the set of players is
 -- the player, and the flood from its cell, which only the walls bar, is the room. `PassesTests` of `Verdict.antt` says this of the sets. Then
 -- the level of these parts is legal unless its room is open (`legal_of`). The room is kept in the set of players, once that is cleared.
-use Rattle.std.proofs.Common.{◌≡◌, ◌≤◌, length, sym, ◌∙◌, ap, subst, arith}
+use Rattle.std.proofs.Common.{◌≡◌, ◌≤◌, length, ◌∙◌, ap, arith}
 use Rattle.std.specs.FinSet as set
-use Rattle.std.specs.Prelude.{◌↔◌}
 use Rattle.std.proofs.lemmas.List.Elements.{All-weaker}
-use Rattle.cellset.specs.Shape.{Extent, HasSides}
-use Rattle.cellset.specs.Cell.{IsOn}
-use Rattle.cellset.specs.CellSet.{Cells, Has, Lacks}
-use Rattle.cellset.specs.declared.cell.Cell.{Cell}
+use Rattle.cellset.specs.CellSet.{Cells}
 use Rattle.cellset.proofs.Members.{same_members}
 use Rattle.reach.proofs.Sets.{stored_is}
 use Rattle.board.specs.Lines.{lines_in}
@@ -26,8 +22,7 @@ pub draw-requires-clause-wide : goal.draw-requires-clause-wide
 draw-requires-clause-wide g c =
     let rows = lines_in c.args.text.now in
     let width = ap (λ e. e.width) c.requires.shape in
-    All-weaker (λ row. length row ≤ width_of rows) (λ row. length row ≤ c.args.sketch.now.shape.width) (λ row h. omega arith) rows
-    (all_within_width rows)
+    All-weaker (λ row. length row ≤ width_of rows) (λ row. length row ≤ c.args.sketch.now.shape.width) (λ row h. omega arith) rows (all_within_width rows)
 
 passed : (g : given.Over) (c : goal.After-store g) → let members = g.S.CellSet.members in let sketch = c.draw.new.sketch in
     PassesTests (lines_in c.args.text.now) sketch.shape (members sketch.walls) (members sketch.goals) (members sketch.boxes) (members sketch.room)

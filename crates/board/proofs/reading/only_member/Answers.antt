@@ -1,6 +1,4 @@
-use Rattle.std.proofs.Common.{sym, ◌∙◌, subst}
-use Rattle.cellset.specs.Shape.{Extent}
-use Rattle.cellset.specs.Cell.{IsOn, cell_at}
+use Rattle.std.proofs.Common.{sym, ◌∙◌}
 use Rattle.board.proofs.Parts.{first_is_only}
 use Rattle.board.proofs.reading.only_member.Goals as goal
 

@@ -1,13 +1,8 @@
 -- The tests of `fill` leave one fault, an open room, and the test of the region's edge decides that.
-use Rattle.std.proofs.Common.{◌≡◌, ◌⊎◌, List, ℕ, inr, sym, subst}
+use Rattle.std.proofs.Common.{inr}
 use Rattle.std.proofs.lemmas.Result.{err_from_is_err_and}
-use Rattle.cellset.specs.CellSet.{Cells, Has}
-use Rattle.cellset.specs.Shape.{Extent}
-use Rattle.reach.specs.Region.{IsAtEdge}
-use Rattle.board.specs.Legal.{FitsGrid, IsBoardOf, IsOpen, IsRefusal}
+use Rattle.board.specs.Legal.{IsOpen}
 use Rattle.board.specs.Sketch.{level_in}
-use Rattle.board.specs.declared.reading.BoardFault.TheVariants.{Memory, Open}
-use Rattle.board.specs.declared.sketch.Sketch.{Sketch}
 use Rattle.board.proofs.Verdict.{too_large}
 use Rattle.board.proofs.reading.read_next_board.Goals as goal
 
@@ -36,7 +31,5 @@ returns-clause-ok g c =
     let found = c.in_ok-player.ensures.room in
     let level = level_in g.S.CellSet.members c.fill.new.sketch c.in_ok-player.player in
     let closed = λ (o : IsOpen level).
-    c.if-is_at_edge.ensures o.0
-    (rw (← found.room, ← c.deref.ensures) at o.1)
-    (rw (← found.room_extent, ← c.deref.ensures) at o.2) in
+    c.if-is_at_edge.ensures o.0 (rw (← found.room, ← c.deref.ensures) at o.1) (rw (← found.room_extent, ← c.deref.ensures) at o.2) in
     rw (← c.text.view_is) (record { size = legal.size; player = legal.player; box = legal.box; goals = legal.goals; parts = legal.parts; closed = closed })

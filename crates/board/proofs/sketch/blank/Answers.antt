@@ -1,5 +1,3 @@
-use Rattle.std.proofs.Common.{[], sym, subst}
-use Rattle.board.specs.Sketch.{IsSketchOf}
 use Rattle.board.proofs.Drawing.{sketch_none}
 use Rattle.board.proofs.sketch.blank.Goals as goal
 

@@ -2,14 +2,12 @@
 -- first ones. The first line of the text that is left is the next row (`FirstRows.antt`), so after it the sketch shows one row more. There
 -- are at most as many rows as the shape is high, and none is longer than it is wide, so each can be drawn. Each turn leaves less text. An
 -- empty text has no line, so in the end the sketch shows all rows.
-use Rattle.std.proofs.Common.{ℕ, ◌≤◌, List, length, map, take, take_all, sym, ◌∙◌, ap, subst, arith, length-drop, length-take-le}
+use Rattle.std.proofs.Common.{◌≤◌, length, map, take, take_all, sym, ◌∙◌, ap, arith, length-drop, length-take-le}
 use Rattle.std.proofs.lemmas.Bool.{eqb-true}
 use Rattle.std.proofs.lemmas.List.Elements.{All-drop, All-head}
-use Rattle.std.specs.Prelude.{All}
 use Rattle.bstr.specs.Text.{without_terminator}
 use Rattle.bstr.proofs.lemmas.LineLemmas.{lines-empty}
 use Rattle.board.specs.Lines.{lines_in}
-use Rattle.board.specs.Sketch.{IsSketchOf}
 use Rattle.board.proofs.FirstRows.{next_row, row_split, row_taken}
 use Rattle.board.proofs.sketch.draw.Goals as goal
 

@@ -28,8 +28,7 @@ pub insert_row-requires-in-loop-part-3 : goal.insert_row-requires-in-loop-part-3
 insert_row-requires-in-loop-part-3 g c =
     let long = length-take-le c.args.len c.args.text.now c.requires.within in
     word_on is_player refl (take c.args.len c.args.text.now) c.args.row c.loop-part.part _ _ _
-    (c.loop-part.invariant.extent.player ∙ c.loop-part.invariant.shape)
-    c.requires.high (omega arith) c.columns_of-columns.ensures.player
+    (c.loop-part.invariant.extent.player ∙ c.loop-part.invariant.shape) c.requires.high (omega arith) c.columns_of-columns.ensures.player
 
 pub loop-part-preserved : goal.loop-part-preserved
 loop-part-preserved g c =
