@@ -53,6 +53,15 @@ class Solvers(Case):
         self.assertEqual(self.outcome("open(sys.argv[1] + ', Solutions.sok', 'w').write('rRR')",
                                       words="{}"), "solved")
 
+    def test_the_folder_is_gone_or_full(self):
+        """What a solver does to its folder costs nothing but its level."""
+        self.assertEqual(self.outcome("import shutil\nshutil.rmtree(os.path.dirname(sys.argv[1]))\n"
+                                      "print('rRR')", words="{}"), "solved")
+        self.assertEqual(self.outcome(
+            "os.chdir(os.path.dirname(sys.argv[1]))\nopen('huge', 'w').truncate(1 << 40)\n"
+            "os.mkfifo('fifo')\nos.symlink('/dev/zero', 'zero')\n"
+            "for _ in range(300):\n os.mkdir('d')\n os.chdir('d')", words="{}"), "nothing")
+
     def test_wrong_letters(self):
         """What a replay refuses is no answer, and is told."""
         (result,) = self.solved("print('no luck\\nrR\\nllll'); print('oh', file=sys.stderr)\n"
@@ -157,6 +166,7 @@ print("rRR" if "$ ." in text else "rR")
                 raise KeyboardInterrupt
         self.assertRaises(KeyboardInterrupt, list, runs.results(watch))
         self.assertFalse(any(is_alive(int(it[4:])) for it in os.listdir() if it[:4] == "pid-"))
+        self.assertTrue(all(it.seconds < 20 for it in runs.rest))
         self.assertEqual([(it.what, it.record) for it in runs.rest],
                          [(solvers.SOLVED, RECORD), (solvers.LATE, b""), (solvers.LATE, b"")])
 

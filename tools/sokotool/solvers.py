@@ -5,6 +5,7 @@ A solver gets the level in XSB on standard input, and as a file where its comman
 letters of a solution may be anywhere in what it prints, and in files that it leaves in the folder
 of the level's file: the first ones that a replay accepts are the answer.
 """
+import contextlib
 import ctypes
 import os
 import re
@@ -157,10 +158,8 @@ class Run:
     def signal(self, number: int) -> None:
         """Sends a signal to all processes of the run that are in its group."""
         if self.process is not None:
-            try:
+            with contextlib.suppress(OSError):
                 os.killpg(self.process.pid, number)
-            except OSError:
-                pass
 
     def close(self) -> None:
         """Ends what is left of the run, and removes its files."""
@@ -177,7 +176,8 @@ class Run:
     def result(self) -> Result:
         """Returns the outcome of a run that is closed."""
         found, said = solution_in(self.level, [*self.output.texts(), *self._written()])
-        self.folder.cleanup()
+        with contextlib.suppress(OSError, RecursionError):
+            self.folder.cleanup()
         said = [line for text in self.output.texts() for line in _lines(text)] + said
         if self.fault:
             said.append(self.fault)
@@ -190,14 +190,12 @@ class Run:
 
     def _written(self) -> Iterator[bytes]:
         """Yields the files that the solver left beside the level."""
-        names = sorted(os.listdir(self.folder.name))[:_MOST_FILES]
-        for path in (os.path.join(self.folder.name, name) for name in names):
-            if path != self.file and os.path.isfile(path) and not os.path.islink(path):
-                try:
+        with contextlib.suppress(OSError):
+            for name in sorted(os.listdir(self.folder.name))[:_MOST_FILES]:
+                path = os.path.join(self.folder.name, name)
+                if path != self.file and os.path.isfile(path) and not os.path.islink(path):
                     with open(path, "rb") as file:
                         yield file.read(2 * KEPT)
-                except OSError:
-                    continue
 
 
 def _die_with_parent() -> None:
@@ -278,7 +276,7 @@ class Solvers:
                         yield self._ended(number, run)
         finally:
             for number, run in list(self._running.items()):
-                run.what = LATE
+                run.what, run.seconds = LATE, min(run.seconds, time.monotonic() - run.began)
                 self.rest.append(self._ended(number, run))
             self._selector.close()
 
