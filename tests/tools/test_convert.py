@@ -1,4 +1,5 @@
 """What convert reads, and what it must never do."""
+import base64
 import os
 
 from tests.tools.helping import ONE, SAMPLES, Case
@@ -13,6 +14,9 @@ def rows_of(text):
 
 def letters_of(text):
     return {record.level: record.letters.decode() for record in answers.read(text).records}
+
+
+LONG = "#######\n#@ $ .#\n#######\n"
 
 
 class Inputs(Case):
@@ -293,6 +297,63 @@ def titles_of(text):
 
 class Kept(Case):
     """Titles, comments and attributions are kept."""
+
+    def test_what_a_heading_says_more_stays(self):
+        """Words in the heading of a solution that are no counts stay as text."""
+        for text in ("Solution (by NAME, 2003-05-01): rRR", "Solution: rRR by NAME",
+                     "Solution 3/2 by NAME, 1 May 2003\nrRR",
+                     "Solution: rRR ; proved optimal by NAME"):
+            result, found, solved = self.convert(LONG + text + "\n\n" + ONE)
+            self.assertEqual((result.status, letters_of(solved)), (0, {1: "rRR"}), text)
+            self.assertIn(text.split("\n")[0].encode() + b"\n", found)
+            self.assertEqual(titles_of(found), ["mine.txt", ""])
+        result, found, _ = self.convert(LONG + "Solution: unknown; hint: push right first\n")
+        self.assertIn(b"hint: push right first\n", found)
+        for text in ("Solution: rRR", "Solution 3/2:\nrRR", "; Best solution (3 moves): rRR",
+                     "[Solution]\nrRR"):
+            _, found, solved = self.convert(LONG + text + "\n")
+            self.assertEqual((letters_of(solved), b"olution" in found), ({1: "rRR"}, False), text)
+
+    def test_letters_under_a_soft_heading(self):
+        for text in ("L\u00f6sung: rRl", "Moves: rRl", "Answer: rRl", "Solution of One: rR"):
+            result, _, _ = self.convert(LONG + text + "\n")
+            self.assertEqual(result.status, 1, text)
+            self.assertIn("line 4: the solution of level 1 leaves 1 box", result.err)
+        for text in ("Moves: 12", "Answer: unknown", "My solution is by R. Durr"):
+            self.assertEqual(self.convert(LONG + text + "\n")[0].status, 0, text)
+
+    def test_bullets(self):
+        for bullet in ("* ", ". "):
+            text = "".join(bullet + row + "\n" for row in LONG.splitlines())
+            result, found, _ = self.convert(text)
+            self.assertEqual(rows_of(found), [LONG.strip()])
+            self.assertIn("line 1: each row has a bullet in front", result.err)
+
+    def test_forms_that_are_not_read(self):
+        """They are reported beside a readable level too."""
+        rows = LONG.splitlines()
+        for text in ("".join(f'"{row}",\n' for row in rows), "'" + "\\n".join(rows) + "'\n",
+                     "".join(";".join(row) + "\n" for row in rows),
+                     base64.b64encode(LONG.encode() * 3).decode() + "\n",
+                     "".join("1111111\n" for row in rows)):
+            result, found, _ = self.convert(LONG + "\n" + text)
+            self.assertEqual((result.status, rows_of(found)), (1, [LONG.strip()]), text)
+            self.assertIn("line 5: ", result.err)
+
+    def test_titles_of_many_kinds(self):
+        for text, wanted in (
+                (f"Titel: First\n{ONE}", "First"), (f"{ONE}Titre : First\n", "First"),
+                (f"{ONE}Name: First\n", "First"), (f"{ONE}Level: 1\n", "1"),
+                (f"{ONE}\u6807\u9898\uff1a\u7b2c\u4e00\n\u89e3\u7b54\uff1aR\n", "\u7b2c\u4e00"),
+                (f"; First\n; by NAME\n{ONE}", "First"),
+                (f";LEVEL 1\n;AUTHOR NAME\n{ONE}", "LEVEL 1"),
+                *((f"First\n{line}\n{ONE}", "First") for line in (
+                    "```xsb", "<pre>", "{{{", "------", "____", "[/spoiler]",
+                    "\u89e3\u7b54\uff1aR")),
+                (f"{ONE}Title: First\n\nLevel: 2\n", "First"),
+                (f"{ONE}- title: First\n", "First"), (f"First\nAuthor: NAME\n{ONE}", "First")):
+            _, found, _ = self.convert(text)
+            self.assertEqual(titles_of(found), [wanted], text)
 
     def test_titles(self):
         above = f"Title: First\n{ONE}\nTitle: Second\n{OTHER}"

@@ -203,8 +203,8 @@ class Reading(Case):
         self.assertEqual(self.tool("convert", "again", "exports/a.txt", "exports/sub").status, 0)
 
     def test_what_is_in_folders(self):
-        """Links to parents end, a pipe isn't opened, a file that can't be read is reported, and none
-        of the files that are written is read."""
+        """Links to parents end, a pipe isn't opened, a file that can't be read is reported, and
+        none of the files that are written is read."""
         os.makedirs("in/sub")
         self.write("in/a.txt", ONE)
         self.write("in/sub/b.txt", OTHER)

@@ -7,11 +7,22 @@ from . import alphabet, texts
 
 MOST_LEVELS = 10_000
 CHARACTERS = alphabet.ROW.encode()
-_TITLE = re.compile(rb"[ \t]*title[ \t]*:[ \t]*(.*)", re.I | re.S)
-_KEY = re.compile(rb"[;\s]*[A-Za-z\x80-\xff-]+[ \t]*:")
+# the colon, and the full-width one
+_COLON = rb"[ \t]*(?::|\xef\xbc\x9a)"
+_NAMES = "|".join((
+    "titel", "titre", "titolo", "t\u00edtulo", "titulo", "tytu\u0142", "name", "nom", "nome",
+    "level", "(?:\u043d|\u041d)\u0430\u0437\u0432\u0430\u043d\u0438\u0435", "\u6807\u9898",
+    "\u6a19\u984c", "\u30bf\u30a4\u30c8\u30eb")).encode()
+_TITLE, _NAME = (re.compile(rb"[-*> \t]*(?:" + keys + rb")" + _COLON + rb"[ \t]*(.*)", re.I | re.S)
+                 for keys in (b"title", _NAMES))
+_KEY = re.compile(rb"[-*>;\s]*[A-Za-z\x80-\xff-]+" + _COLON)
+_TAGS = re.compile(rb"(?:</?[A-Za-z][^<>]*>|\[/?[A-Za-z]+(?:=[^\]]*)?\]|```.*|~~~.*"
+                   rb"|[^A-Za-z0-9\x80-\xff])*", re.S)
+_AUTHOR = re.compile(rb"(?:by|author)\b", re.I)
 _LETTERS = re.compile(rb"[lurdLURD0-9() \t]*")
-_SOLUTION = re.compile(rb"\W*(?:[A-Za-z'\x80-\xff]+\s+){0,2}solution\b[^:=]*[:=]", re.I)
-_OTHER, _ROW, _BELOW, _ABOVE = range(4)
+_SOLUTION = re.compile(rb"\W*(?:[A-Za-z'\x80-\xff]+\s+){0,2}solution\b(?:[^:=]*[:=]|\W*[0-9(])",
+                       re.I)
+_OTHER, _ROW, _BELOW, _ABOVE, _NAMED = range(5)
 _ROWS = re.compile(b"%b+" % bytes([_ROW]))
 
 
@@ -30,8 +41,9 @@ def is_row(line: bytes) -> bool:
 
 
 def _kind_of(line: bytes) -> int:
-    """Returns the kind of a line: a row, a title below or above a level, or neither."""
-    return (_ROW if is_row(line) else _BELOW if _TITLE.match(line)
+    """Returns the kind of a line: a row, a title with its key, a title above a level, or neither.
+    """
+    return (_ROW if is_row(line) else _BELOW if _TITLE.match(line) else _NAMED if _NAME.match(line)
             else _ABOVE if title_in(line) else _OTHER)
 
 
@@ -52,32 +64,45 @@ def read(data: bytes, most: int = sys.maxsize) -> List[Level]:
         spans.append(match.span())
     firsts = [first for first, _ in spans] + [len(lines)]
     ends = [0] + [end for _, end in spans]
-    titles = [_title_of(lines, kinds.rfind(_BELOW, *gap)) for gap in zip(ends, firsts)]
+    titles = [_title_of(lines, kinds, *gap) for gap in zip(ends, firsts)]
     are_above = bool(titles[0]) and not titles[-1] and (len(spans) == 1 or any(titles[1:-1]))
     keyed = titles[:-1] if are_above else titles[1:]
-    return [Level(number, lines[first:end], first + 1, title
-                  or texts.shown(title_in(_line(lines, kinds.rfind(_ABOVE, above, first)))))
+    return [Level(number, lines[first:end], first + 1,
+                  title or texts.shown(_title_above(lines, kinds, above, first)))
             for number, ((first, end), title, above) in enumerate(zip(spans, keyed, ends), 1)]
 
 
-def _line(lines: List[bytes], at: int) -> bytes:
-    return lines[at] if at >= 0 else b""
+def _title_above(lines: List[bytes], kinds: bytes, end: int, first: int) -> bytes:
+    """Returns the last line of text between two lines, or of several comment lines the first that
+    names no author."""
+    at = last = kinds.rfind(_ABOVE, end, first)
+    while at > end and kinds[at - 1] == _ABOVE and lines[at - 1].startswith(b";") and (
+            lines[at].startswith(b";")):
+        at -= 1
+    found = [title_in(line) for line in lines[at:last + 1]] if at >= 0 else [b""]
+    return next((title for title in found if not _AUTHOR.match(title)), found[-1])
 
 
-def _title_of(lines: List[bytes], at: int) -> str:
-    match = _TITLE.match(_line(lines, at))
-    return texts.shown(match.group(1)).strip() if match else ""
+def _title_of(lines: List[bytes], kinds: bytes, end: int, first: int) -> str:
+    """Returns the last title with its key between two lines; of the keys `Title` comes first."""
+    for kind, key in ((_BELOW, _TITLE), (_NAMED, _NAME)):
+        at = kinds.rfind(kind, end, first)
+        match = key.match(lines[at]) if at >= 0 else None
+        if match:
+            return texts.shown(match.group(1)).strip()
+    return ""
 
 
 def title_in(line: bytes) -> bytes:
     """Returns the title that a line of text is, or nothing.
 
-    A line with a key such as `Author: ..`, a solution, and the heading of one are no titles.
+    A line with a key such as `Author: ..`, a solution, the heading of one, tags and a line without
+    a letter or digit are no titles.
     """
     text = line.lstrip(b"; \t").rstrip()
-    if _KEY.match(line) or _LETTERS.fullmatch(line) or _SOLUTION.match(line) or is_row(text):
+    if _KEY.match(line) or _TAGS.fullmatch(text) or _LETTERS.fullmatch(line):
         return b""
-    return text
+    return b"" if _SOLUTION.match(line) or is_row(text) else text
 
 
 def read_file(name: str) -> List[Level]:

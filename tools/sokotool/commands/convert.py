@@ -123,6 +123,8 @@ def _read_levels(collection: Collection, data: bytes, waiting: lists.Lists) -> N
         return
     if collection.file != "-":
         collection.add_text("; " + texts.shown(collection.published))
+        if text.startswith(";"):
+            collection.add_lines([""])
     count = collection.total
     if slc.is_slc(text):
         slc.read(collection, data, text)

@@ -121,7 +121,8 @@ class Below:
         """Tries the letters of a line, and remembers a heading."""
         found = letters.among_words(self.lines[at])
         is_solved = self.collection.level is not None and self._try_words(at, found, kind)
-        if kind == HEADING and self.collection.level is not None:
+        if (kind == HEADING and self.collection.level is not None
+                and not headings.says_more(self.lines[at])):
             self._keep(at)
             self._drop(at + 1)
         if not is_solved and (kind in (HEADING, SOFT, SAVED) or found and goes_on):
@@ -172,7 +173,8 @@ class Below:
         if self.collection.level is None:
             if heading.front and heading.kind == HEADING:
                 self._report_no_level(heading.at)
-        elif heading.front and (heading.kind == HEADING or len(heading.front) >= LONG):
+        elif heading.front and (heading.kind == HEADING or len(heading.front) >= LONG
+                                or headings.ends_in_letters(self.lines[heading.at])):
             attempt = self._attempt(heading.front)
             if attempt:
                 self.collection.add_try(heading.at + 1, attempt)

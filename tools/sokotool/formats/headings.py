@@ -16,6 +16,9 @@ _HEADING = re.compile(r"((?:[A-Za-z]+ ){0,2})(?:solution(?![A-Za-z])|lurd(?=\s*[
                       re.I | re.S)
 _FIRST_WORDS = {"best", "shortest", "optimal", "optimized", "first", "second", "other", "my",
                 "move", "moves", "push", "pushes"}
+_PLAIN_WORDS = _FIRST_WORDS | {"solution", "solutions", "lurd", "box", "boxes", "change", "changes",
+                               "line", "lines", "m", "p", "and", "with", "in", "of", "no", "nr"}
+_ANY_WORD = re.compile(r"[^\W\d_]+")
 # other headings, which may mean something else if no letters follow
 _SOFT = re.compile(r"(?:moves|answers?|soln?)\s*(?:[0-9]+\s*)?[:=)\]}]|.{0,40}(?:solution"
                    r"|l(?:\u00f6|oe)sung|soluci[o\u00f3]n|solu[c\u00e7][a\u00e3]o|soluzione"
@@ -81,6 +84,17 @@ def is_plain_heading(bare: str) -> bool:
     rest = rest.strip(" \t*_`")
     return (_FIRST_WORDS.issuperset(before.lower().split())
             and (not rest or rest[0] in ":=/([#-0123456789]})" or letters.are_alone(rest)))
+
+
+def says_more(line: str) -> bool:
+    """Returns whether the heading of a solution has other words than counts and letters."""
+    words = _ANY_WORD.findall(letters.untagged(line).lower())
+    return any(word not in _PLAIN_WORDS and word.strip("lurd") for word in words)
+
+
+def ends_in_letters(line: str) -> bool:
+    """Returns whether a heading has nothing but letters after its colon."""
+    return letters.are_alone(re.split("[:=]", line)[-1]) and bool(_KEY.match(line))
 
 
 def is_heading(tag: str) -> bool:

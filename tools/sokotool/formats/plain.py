@@ -4,7 +4,7 @@ from typing import Dict, Iterator, List, NamedTuple, Optional, Sequence, Tuple
 
 from .. import game, levels, texts
 from ..collection import Collection
-from . import below, headings, maze, rows
+from . import below, headings, letters, maze, rows
 from .below import Reason
 from .rows import Row
 
@@ -16,6 +16,11 @@ _IN_COMMENT = bytes(
     for kind in range(256))
 _RUN = re.compile(b"\1+")
 FEWEST_ROWS = 3
+# forms of levels that aren't read: rows of digits, and base64
+FEWEST_DIGITS, FEWEST_CODED = 5, 60
+_BASE64 = re.compile("[A-Za-z0-9+/]+={0,2}")
+_CODES = re.compile("ddd+|b+")
+_CODE_WORDS = {"d": "rows of digits", "b": "looks like base64"}
 NOTES = {"spaced": "no-break spaces were read as floor",
          "marked": "floor outside the walls is marked, and was read as floor"}
 
@@ -49,6 +54,7 @@ def read(collection: Collection, lines: List[str]) -> None:
         text.read(head, first)
         at = end
     text.read(at, len(lines))
+    _report_codes(collection, lines)
 
 
 # ---- which lines are rows
@@ -322,6 +328,27 @@ def _levels_of(run: Rows, first: int) -> Iterator[Tuple[List[str], int, str]]:
 
 
 def _add_level(collection: Collection, drawn: List[str], at: int, note: str) -> None:
+    bullets = {row[:2] for row in drawn}
+    if len(drawn) > 2 and bullets in ({"* "}, {". "}):
+        drawn = [row[2:] for row in drawn]
+        note = note or "each row has a bullet in front, which is left out"
     collection.add_level(drawn, at + 1)
     if note:
         collection.note(at + 1, note)
+
+
+def _report_codes(collection: Collection, lines: Sequence[str]) -> None:
+    """Reports runs of lines that may have levels in a form that isn't read."""
+    kinds = "".join(map(texts.Cache(_code_in).__getitem__, lines))
+    for match in _CODES.finditer(kinds):
+        collection.fault(match.start() + 1, _CODE_WORDS[match.group()[0]] + ", which is not read")
+
+
+def _code_in(line: str) -> str:
+    """Returns a letter for a line in a code, or a blank."""
+    core = line.strip(" \t\"',;")
+    if len(core) >= FEWEST_DIGITS and not core.strip("0123456789"):
+        return "d"
+    if len(core) >= FEWEST_CODED and _BASE64.fullmatch(core) and not letters.are_alone(core):
+        return "b"
+    return " "

@@ -27,6 +27,8 @@ _NOT_CODED = re.compile(f"[^{ROW}0-9|bBpPo()]")
 _NOT_MARKED = re.compile(f"[^{ROW}{OUTER}]")
 _NOT_ROW_LIKE = re.compile(f"[^{ROW}\t0-9|bBpPo(){OUTER}]")
 _WORDS = re.compile(r"[\w(\"'][\w .,:;'\"!?()&/-]*")
+# a square a cell, as in a table
+_CELLS = re.compile(f"(?:[{ROW}][;,\t|])+[{ROW}]")
 _LEAD = re.compile(r"\t+|(?:> ?)+")
 _BREAK = re.compile(r"<br */?>(?=.)", re.I)
 _TAG = re.compile(r"</?[A-Za-z][^<>]*>|\[/?[A-Za-z]+\]")
@@ -177,9 +179,11 @@ def why_no_row(line: str, is_between: bool) -> Optional[str]:
 
 
 def _looks_like_row(line: str) -> bool:
-    line = line.strip()
+    line = line.strip(" \t\"',;()").replace("\\n", "|")
     if line.count("#") < 2 or _is_heading(line):
         return False
+    if _CELLS.fullmatch(line):
+        return True
     usual = len(_NOT_ROW_LIKE.sub("", line))
     return 3 * usual >= 2 * len(line)
 
