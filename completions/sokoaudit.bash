@@ -11,6 +11,11 @@ _sokoaudit() {
             *) files=$((files + 1)) ;;
         esac
     done
+    if [ -z "$is_plain" ] && [[ $word == -* ]]; then
+        mapfile -t -O ${#COMPREPLY[@]} COMPREPLY < <(compgen -W "-h --help" -- "$word")
+        [ "$COMP_CWORD" != 1 ] || mapfile -t -O ${#COMPREPLY[@]} COMPREPLY < <(compgen -W "-V --version" -- "$word")
+        return
+    fi
     case $COMP_CWORD:${COMP_WORDS[1]}:$files in
         1:* | 2:help:*) mapfile -t COMPREPLY < <(compgen -W "$commands" -- "$word") ;;
         *:audit:[01] | *:make:0 | *:dead:0)
@@ -18,9 +23,5 @@ _sokoaudit() {
             mapfile -t COMPREPLY < <(compgen -f -- "$word")
             ;;
     esac
-    if [ -z "$is_plain" ] && [[ $word == -* ]]; then
-        mapfile -t -O ${#COMPREPLY[@]} COMPREPLY < <(compgen -W "-h --help" -- "$word")
-        [ "$COMP_CWORD" != 1 ] || mapfile -t -O ${#COMPREPLY[@]} COMPREPLY < <(compgen -W "-V --version" -- "$word")
-    fi
 }
 complete -F _sokoaudit sokoaudit
