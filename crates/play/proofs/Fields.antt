@@ -95,8 +95,7 @@ module _ (level : Level) (sides : HasSides level.shape.width level.shape.height)
   pub field_put : {boxes : Cells} {field : List ℕ} {to : Cell} → IsFloor level to → IsFieldOf level boxes field
       → IsFieldOf level (cells.insert boxes to) (set field (place_of to) BOX)
   field_put {boxes} {to} floor before = field_set floor.0
-      (λ c f. cells.contains-insert cells_total boxes to c ∙ ap (λ b. b || cells.contains boxes c) f)
-      (inr (inr (refl, floor, inserted boxes to))) before
+      (λ c f. cells.contains-insert cells_total boxes to c ∙ ap (λ b. b || cells.contains boxes c) f) (inr (inr (refl, floor, inserted boxes to))) before
 
   field_taken : (boxes : Cells) (field : List ℕ) (from : Cell) → IsFloor level from → IsFieldOf level boxes field
       → IsFieldOf level (cells.remove boxes from) (set field (place_of from) FREE)

@@ -66,13 +66,10 @@ both floor = lanes (floor % 256) 0 8 ++ lanes (floor / 256) 0 8
 
 pub sixteen : (floor : ℕ) {k : ℕ} → k < 16 → get_or (both floor) k 0 ≡ cond (bit floor k) FREE WALL
 sixteen floor {k} lt = elim (cases_lt k 8) [
-  | inl low ↦
-      get_or_append_left (lanes (floor % 256) 0 8) (lanes (floor / 256) 0 8) 0 k low
+  | inl low ↦ get_or_append_left (lanes (floor % 256) 0 8) (lanes (floor / 256) 0 8) 0 k low
       ∙ eight (floor % 256) low ∙ (λ i. cond (low_bit floor low i) FREE WALL)
   | inr high ↦
       let there : 8 + (k - 8) ≡ k = omega arith in
-      get_or-append_right (lanes (floor % 256) 0 8) (lanes (floor / 256) 0 8) 8 k 0 refl high
-      ∙ eight (floor / 256) (omega arith)
-      ∙ (λ i. cond (bit_down floor 8 (k - 8) i) FREE WALL)
-      ∙ ap (λ j. cond (bit floor j) FREE WALL) there
+      get_or-append_right (lanes (floor % 256) 0 8) (lanes (floor / 256) 0 8) 8 k 0 refl high ∙ eight (floor / 256) (omega arith)
+      ∙ (λ i. cond (bit_down floor 8 (k - 8) i) FREE WALL) ∙ ap (λ j. cond (bit floor j) FREE WALL) there
 ]

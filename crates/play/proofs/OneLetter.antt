@@ -1,7 +1,7 @@
 -- What a letter does on a field. Its step leads from the player's place to that of the cell beside it. The byte there
 -- says whether the letter is a legal step of its case, and if not, why. A blank stays on the player's own cell, which
 -- is free, so it is never a fault.
-use Rattle.std.proofs.Common.{◌≡◌, ◌≢◌, ◌⊎◌, ℕ, ◌+◌, ◌%◌, ◌^◌, ◌<◌, true, false, nat_eq, ltb, ◌||◌, List, [], ◌∷◌, ◌++◌, length, get_or, set, refl, sym, ◌∙◌}
+use Rattle.std.proofs.Common.{◌≡◌, ◌≢◌, ◌⊎◌, ℕ, ◌+◌, ◌%◌, ◌^◌, ◌<◌, true, false, ltb, List, [], ◌∷◌, ◌++◌, length, get_or, set, refl, sym, ◌∙◌}
 use Rattle.std.proofs.Common.{ap, subst, inl, inr, arith}
 use Rattle.std.proofs.lemmas.Bool.{eqb-true}
 use Rattle.std.proofs.lemmas.List.{append-nil}
@@ -9,8 +9,7 @@ use Rattle.cellset.proofs.Truth.{or_cases}
 use Rattle.cellset.specs.Cell.{neighbor, IsOn}
 use Rattle.cellset.specs.declared.dir.Dir.{Dir}
 use Rattle.cellset.specs.declared.dir.Dir.TheVariants.{L, U, R, D}
-use Rattle.board.specs.Game.{Level, State, Steps}
-use Rattle.play.specs.State.{IsWall}
+use Rattle.board.specs.Game.{Level}
 use Rattle.play.specs.Spelling.{is_blank, letters, small, capital}
 use Rattle.play.specs.FirstFault.{Names, IsCause, FailsAt}
 use Rattle.play.specs.Field.{place_of, stride, IsShown}

@@ -1,7 +1,7 @@
 -- Places. Rows are 256 apart and no side is above 255, so cells of the grid have different places, and no cell beyond
 -- the grid shares one with them: those are in row 0, in column 0, or where one of these begins again. So a step onto
 -- any cell beside one of the grid is one addition.
-use Rattle.std.proofs.Common.{◌≡◌, ℕ, ◌+◌, ◌*◌, ◌%◌, ◌^◌, ◌<◌, ◌≤◌, min, inl, inr, arith}
+use Rattle.std.proofs.Common.{◌≡◌, ℕ, ◌+◌, ◌*◌, ◌%◌, ◌^◌, ◌<◌, ◌≤◌, min, arith}
 use Rattle.std.proofs.lemmas.Bool.{cases_lt}
 use Rattle.cellset.specs.Shape.{Extent, HasSides}
 use Rattle.cellset.specs.Cell.{neighbor, IsOn}

@@ -118,10 +118,8 @@ apart_in_order : (xs : List Cell) (n m : ℕ) {c : Cell} → IsStrictlySortedBy 
 unfolding IsStrictlySortedBy
 apart_in_order [] n m {c} sorted x y = absurd (none-some c x)
 apart_in_order (z ∷ xs) zero zero sorted x y = refl
-apart_in_order (z ∷ xs) zero (suc m) {c} sorted x y = before_itself c
-    (below_at (Before c) xs m (rw (same_Some z c x) at sorted.0) y)
-apart_in_order (z ∷ xs) (suc n) zero {c} sorted x y = before_itself c
-    (below_at (Before c) xs n (rw (same_Some z c y) at sorted.0) x)
+apart_in_order (z ∷ xs) zero (suc m) {c} sorted x y = before_itself c (below_at (Before c) xs m (rw (same_Some z c x) at sorted.0) y)
+apart_in_order (z ∷ xs) (suc n) zero {c} sorted x y = before_itself c (below_at (Before c) xs n (rw (same_Some z c y) at sorted.0) x)
 apart_in_order (z ∷ xs) (suc n) (suc m) sorted x y = ap suc (apart_in_order xs n m sorted.1 x y)
 
 listed_at : (xs : List Cell) (n : ℕ) {c : Cell} → slice_get xs n ≡ Some c → list_any (same c) xs ≡ true

@@ -4,7 +4,7 @@
 -- keeps.
 -- After a letter that isn't legal no longer text spells anything, because each of its plays would pass through this
 -- state.
-use Rattle.std.proofs.Common.{◌≡◌, ◌≢◌, ℕ, get_or, ◌+◌, ◌-◌, ◌<◌, ◌≤◌, ◌^◌, Bool, false, cond, nat_eq, Option, Some, List, [], ◌∷◌, ◌++◌, length, take, drop, set}
+use Rattle.std.proofs.Common.{◌≡◌, ◌≢◌, ℕ, get_or, ◌+◌, ◌-◌, ◌<◌, ◌≤◌, ◌^◌, false, cond, nat_eq, Some, List, [], ◌∷◌, ◌++◌, length, take, drop, set}
 use Rattle.std.proofs.Common.{append_assoc, refl, sym, ◌∙◌, ap, subst, inl, inr, arith, length-append, length-drop, length-take}
 use Rattle.std.specs.Prelude.{slice_get, option_to_list}
 use Rattle.std.specs.FinSet as finset
@@ -95,18 +95,15 @@ module _ (level : Level) where
       other_number i j other = elim (eqb_tells i j) [ inl is ↦ absurd (other is.1) | inr is ↦ is.0 ]
 
   counted_changes : (sides : HasSides level.shape.width level.shape.height) {boxes : List Cell} {s : Cells} {numbers : List ℕ} {last : ℕ} (k : ℕ) {ahead : Cell}
-      → AreNumbered boxes s
-      → ((c : Cell) → Has s c → IsOn level.shape c) → IsLast boxes numbers last → slice_get boxes k ≡ Some ahead
+      → AreNumbered boxes s → ((c : Cell) → Has s c → IsOn level.shape c) → IsLast boxes numbers last → slice_get boxes k ≡ Some ahead
       → changes numbers + cond (nat_eq last (place_of ahead)) 0 1 ≡ changes (numbers ++ k ∷ [])
   counted_changes sides {numbers} {last} k {ahead} numbered on (inl (none, zero_last)) at_k =
       let other : nat_eq last (place_of ahead) ≡ false =
       elim (eqb_tells last (place_of ahead)) [
-        | inl is ↦ absurd
-            (place_some level.shape sides (on ahead (numbered.each k ahead at_k)) (sym is.1 ∙ zero_last))
+        | inl is ↦ absurd (place_some level.shape sides (on ahead (numbered.each k ahead at_k)) (sym is.1 ∙ zero_last))
         | inr is ↦ is.0
       ] in
-      ap (λ v. changes numbers + cond v 0 1) other
-      ∙ (ap (λ ns. changes ns + 1) none ∙ sym (ap (λ ns. changes (ns ++ k ∷ [])) none))
+      ap (λ v. changes numbers + cond v 0 1) other ∙ (ap (λ ns. changes ns + 1) none ∙ sym (ap (λ ns. changes (ns ++ k ∷ [])) none))
   counted_changes sides {numbers} k {ahead} numbered on (inr (before, m, c, is, at_m, e)) at_k =
       let same_count = is_change sides m k numbered (on c (numbered.each m c at_m)) (on ahead (numbered.each k ahead at_k)) at_m at_k in
       ap (λ n. changes numbers + cond (nat_eq n (place_of ahead)) 0 1) e
@@ -156,8 +153,7 @@ module _ (level : Level) (done field : List ℕ) (run : Run) (before : Progress 
 
   -- ---- a push
   pub progress_push : {b : ℕ} (d : Dir) {new : Run} → Has before.state.boxes (neighbor before.state.player d)
-      → IsFloor level (neighbor (neighbor before.state.player d) d)
-      → Lacks before.state.boxes (neighbor (neighbor before.state.player d) d) → b ≡ capital d
+      → IsFloor level (neighbor (neighbor before.state.player d) d) → Lacks before.state.boxes (neighbor (neighbor before.state.player d) d) → b ≡ capital d
       → CountsPush run (place_of (neighbor before.state.player d)) (place_of (neighbor (neighbor before.state.player d) d)) new
       → Progress level (done ++ b ∷ []) (set (set field (place_of (neighbor before.state.player d)) FREE)
       (place_of (neighbor (neighbor before.state.player d) d)) BOX) new
@@ -218,8 +214,7 @@ module _ (level : Level) (done field : List ℕ) (run : Run) (before : Progress 
 
       one_pushed : (rest : List Dir) → pushed_numbers before.state.player before.boxes (d ∷ rest) ≡ (k ∷ []) ++ pushed_numbers ahead
           (stepped before.boxes ahead d) rest
-      one_pushed rest = ap (λ o. option_to_list o ++ pushed_numbers ahead (stepped before.boxes ahead d) rest)
-          (number_some before.numbered at)
+      one_pushed rest = ap (λ o. option_to_list o ++ pushed_numbers ahead (stepped before.boxes ahead d) rest) (number_some before.numbered at)
 
   -- ---- what the counts need at a letter
   pub room_left : run.tally.moves + 1 < 2 ^ 64 → HasRoom run
@@ -238,8 +233,7 @@ module _ (level : Level) where
   cause_stuck : (s : State) (b : ℕ) (why : MoveWhy) (d : Dir) (t : State) → IsCause level s b why → SpellsStep level s b d t → ⊥
   cause_stuck s b Letter d t cause (inl (walk, x)) = cause d (inl x)
   cause_stuck s b Letter d t cause (inr (push, x)) = cause d (inr x)
-  cause_stuck s b Wall d t (e, name, wall) step = wall.stuck t
-      (rw (named_by s name step) at (step_steps level s d step))
+  cause_stuck s b Wall d t (e, name, wall) step = wall.stuck t (rw (named_by s name step) at (step_steps level s d step))
   cause_stuck s b Blocked d t (e, name, blocked) step = grind (arith, blocked_stuck, named_by, step_steps)
   cause_stuck s b Case d t (e, u, inl (walk, x)) (inl (other, y)) = small_not_capital d e y x
   cause_stuck s b Case d t (e, u, inl (walk, x)) (inr (other, y)) = grind (arith, not_both, names_one)
@@ -328,11 +322,9 @@ played_on {text} {i} j {n} first second =
 
 -- the letters of a line up to a place and the letters from there up to another place lead on together
 pub continues_up : (f g h : List ℕ) (a b c : Run) (line : List ℕ) (i j : ℕ) → i ≤ j → Continues f a (letters (take i line)) g b
-    → Continues g b (letters (take (j - i) (drop i line))) h c
-    → Continues f a (letters (take j line)) h c
+    → Continues g b (letters (take (j - i) (drop i line))) h c → Continues f a (letters (take j line)) h c
 continues_up f g h a b c line i j le first second =
-    subst (λ xs. Continues f a xs h c) (sym (letters_between line le))
-    (continues_then first second)
+    subst (λ xs. Continues f a xs h c) (sym (letters_between line le)) (continues_then first second)
 
 -- letters that fail after others that were played make all of them fail
 pub fails_then : (f g : List ℕ) (a b : Run) (bs cs : List ℕ) (n : ℕ) (why : MoveWhy) → Continues f a bs g b → FailsBy g b cs n why
@@ -361,8 +353,7 @@ pub played_more : {f g h : List ℕ} {a b c : Run} {text : List ℕ} {i : ℕ} �
 played_more {text} inside before moves one = record {
   within = omega arith;
   moves = let first = before.moves in omega arith;
-  continues = rw (letters_more text inside)
-      (continues_then before.continues one);
+  continues = rw (letters_more text inside) (continues_then before.continues one);
 }
 
 -- a fault in the next byte, after bytes that are played, is a fault of the text

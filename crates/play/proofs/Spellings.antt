@@ -1,7 +1,7 @@
 -- A text spells at most one play. The eight letters differ, so a letter names one direction and says whether its step
 -- is a walk or a push, and each of these leads to one state only. So the letters of a text determine the directions and
 -- the last state, letter by letter. One text after another spells one play after another, and conversely.
-use Rattle.std.proofs.Common.{◌≡◌, ℕ, cond, nat_eq, ◌||◌, ◌≤◌, lit≤, suc, List, [], ◌∷◌, ◌++◌, length, refl, sym, ◌∙◌, ap, subst, inl, inr, arith}
+use Rattle.std.proofs.Common.{◌≡◌, ℕ, cond, nat_eq, ◌||◌, ◌≤◌, lit≤, suc, List, [], ◌∷◌, ◌++◌, length, refl, sym, ◌∙◌, ap, inl, inr, arith}
 use Rattle.cellset.specs.Cell.{neighbor}
 use Rattle.cellset.specs.declared.dir.Dir.{Dir}
 use Rattle.cellset.specs.declared.dir.Dir.TheVariants.{L, U, R, D}

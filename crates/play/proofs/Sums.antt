@@ -16,7 +16,7 @@ use Rattle.board.specs.Game.{Level}
 use Rattle.play.specs.Spelling.{letters}
 use Rattle.play.specs.Field.{HasMask, stride}
 use Rattle.play.specs.Letter.{IsAdded}
-use Rattle.play.specs.Progress.{Progress, Continues, WalksOn}
+use Rattle.play.specs.Progress.{Progress, WalksOn}
 use Rattle.play.specs.declared.run.Run.{Run}
 use Rattle.play.specs.declared.letters.Letter.{Letter as ReadLetter}
 use Rattle.play.specs.declared.letters.TheConstants.{WALK, LETTER, NO_WALK}
@@ -61,11 +61,7 @@ masked field (k, small, long) n = grind (arith, and_mask)
 place_masked : (field : List ℕ) → HasMask field → (n p : ℕ) → p ≡ n % 65536 → p < length field → n % length field ≡ p
 place_masked field (k, small, long) n p is within =
     let whole : 16 - k + k ≡ 16 = omega arith in
-    ap (λ m. n % m) long
-    ∙ sym (mod-mod-pow n (16 - k) k)
-    ∙ ap (λ j. n % 2 ^ j % 2 ^ k) whole
-    ∙ ap (λ q. q % 2 ^ k) (sym is)
-    ∙ mod-eq_of_lt (rw long at within)
+    ap (λ m. n % m) long ∙ sym (mod-mod-pow n (16 - k) k) ∙ ap (λ j. n % 2 ^ j % 2 ^ k) whole ∙ ap (λ q. q % 2 ^ k) (sym is) ∙ mod-eq_of_lt (rw long at within)
 
 -- a walk by one letter more
 module _ (level : Level) (done field : List ℕ) (run : Run) (has_mask : HasMask field) (before : Progress level done field run) (b e sum m : ℕ) where
@@ -133,8 +129,7 @@ walked_more {field} has_mask player group i sum met e few within adds before = r
         let first = le_or_l met next in let second = le_or_r met next in (omega arith, omega arith)
 
 pub walked_all : {field : List ℕ} {player : ℕ} {group : List ℕ} {i sum met n : ℕ} → length group ≤ i → met ≡ FREE → sum < NO_WALK → n ≡ sum / LETTER
-    → i ≤ length group → IsWalked field player group i sum met
-    → (n ≤ length group) × WalksOn field player (letters group) (sum % 65536) n
+    → i ≤ length group → IsWalked field player group i sum met → (n ≤ length group) × WalksOn field player (letters group) (sum % 65536) n
 walked_all {group} {i} past free walk is within whole = (
   let most = whole.count free walk in omega arith,
   rw is (rw (take_all i group past) at (whole.walks free walk)),

@@ -1,9 +1,9 @@
 -- The letters of a text that is read byte by byte, and of lines that are read one after the other. The letters of two
 -- texts, one after the other, are the letters of the first followed by the letters of the second.
-use Rattle.std.proofs.Common.{◌≡◌, ℕ, zero, suc, ◌+◌, ◌-◌, ◌<◌, ◌≤◌, true, false, not, cond, List, [], ◌∷◌, ◌++◌, length, take, drop, take-take, get_or, refl, sym, ◌∙◌}
+use Rattle.std.proofs.Common.{◌≡◌, ℕ, zero, suc, ◌+◌, ◌-◌, ◌<◌, ◌≤◌, true, false, List, [], ◌∷◌, ◌++◌, length, take, drop, take-take, get_or, refl, sym, ◌∙◌}
 use Rattle.std.proofs.Common.{ap, append_assoc, arith}
 use Rattle.std.specs.Borrow.{Bor}
-use Rattle.std.proofs.lemmas.List.{append-nil, take-append-drop}
+use Rattle.std.proofs.lemmas.List.{append-nil}
 use Rattle.std.proofs.Math.Seq.{take-add}
 use Rattle.std.proofs.lemmas.List.Elements.{filter-append}
 use Rattle.std.proofs.lemmas.Grind.{flat_map-append}
@@ -54,11 +54,6 @@ pub letters_on : (bs : List ℕ) (i n m : ℕ) → n ≤ m → letters (take (i 
 letters_on bs i n m le =
     ap letters (take-add i n bs) ∙ (letters_join (take i bs) (take n (drop i bs))
     ∙ ap (λ xs. letters (take i bs) ++ letters xs) (sym (take-take n m (drop i bs) le)))
-
--- a text has the letters before a part, in the part and after it
-pub letters_beside : (bs : List ℕ) (i j : ℕ) → i ≤ j → letters bs ≡ (letters (take i bs) ++ letters (take (j - i) (drop i bs))) ++ letters (drop j bs)
-letters_beside bs i j le =
-    ap letters (sym (take-append-drop j bs)) ∙ (letters_join (take j bs) (drop j bs) ∙ ap (λ xs. xs ++ letters (drop j bs)) (letters_between bs le))
 
 -- ---- lines
 joined_join : (a b : List (Bor (List ℕ))) → joined (a ++ b) ≡ joined a ++ joined b

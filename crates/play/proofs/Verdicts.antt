@@ -2,18 +2,15 @@
 -- letter can be the first that fails. If it doesn't, the letters before the first that fails spell a play. Two such
 -- places are equal, because past the first of them nothing is spelled, and the reasons are equal because they exclude
 -- each other. So apart from running out of memory, the text allows only one result.
-use Rattle.std.proofs.Common.{◌≡◌, ◌≢◌, ◌⊎◌, ℕ, ◌+◌, Result, Ok, Err, List, [], ◌∷◌, ◌++◌, length, append_assoc, refl, sym, ◌∙◌, ap, subst, inl, inr, arith}
+use Rattle.std.proofs.Common.{◌≡◌, ◌≢◌, ◌⊎◌, ℕ, ◌+◌, Result, Ok, Err, List, [], ◌∷◌, ◌++◌, length, append_assoc, refl, sym, ◌∙◌, ap, inl, inr, arith}
 use Rattle.std.specs.Prelude.{IfOk, IfErr}
-use Rattle.std.specs.FinSet as set
-use Rattle.cellset.specs.declared.cell.Cell.{Cell}
 use Rattle.cellset.specs.declared.dir.Dir.{Dir}
 use Rattle.cellset.proofs.Places.{places}
-use Rattle.board.specs.Game.{Level, State, Walks, Pushes, Steps, start, IsSolved}
-use Rattle.play.specs.State.{IsBlocked}
+use Rattle.board.specs.Game.{Level, State, Walks, Pushes, Steps, start}
 use Rattle.play.specs.Spelling.{letters, small, capital, SpellsPlay}
-use Rattle.play.specs.Counts.{Counts, pushed_numbers, changes}
+use Rattle.play.specs.Counts.{Counts}
 use Rattle.play.specs.Solution.{Solves}
-use Rattle.play.specs.FirstFault.{Names, IsCause, FailsAt, IsFirstSolutionFault, off_goals}
+use Rattle.play.specs.FirstFault.{Names, IsCause, FailsAt, IsFirstSolutionFault}
 use Rattle.play.specs.declared.tally.Tally.{Tally}
 use Rattle.play.specs.declared.fault.MoveWhy.{MoveWhy}
 use Rattle.play.specs.declared.fault.MoveWhy.TheVariants.{Letter, Wall, Blocked, Case}
@@ -83,8 +80,7 @@ module _ (level : Level) where
   no_whole : {G : Type 0} {all : List ℕ} {n : ℕ} {why : MoveWhy} (fails : FailsAt level all n why) (ds : List Dir) (t : State)
       → SpellsPlay level (start level) all ds t → G
   no_whole {all} {n} {why} fails ds t spelled =
-      no_longer all n why fails fails.after ds t
-      (rw (fails.split ∙ sym (append_assoc fails.before (fails.letter ∷ []) fails.after)) at spelled)
+      no_longer all n why fails fails.after ds t (rw (fails.split ∙ sym (append_assoc fails.before (fails.letter ∷ []) fails.after)) at spelled)
 
   fails_one : (all : List ℕ) (n m : ℕ) (why other : MoveWhy) → FailsAt level all n why → FailsAt level all m other → (n ≡ m) × (why ≡ other)
   fails_one all n m why other x y =
@@ -93,8 +89,7 @@ module _ (level : Level) where
       let alike = spells_alike level (start level) y.before x.directions y.directions x.reached y.reached
       (rw e at x.spelled) y.spelled in (
         x.number ∙ (ap (λ bs. length bs + 1) e ∙ sym y.number),
-        cause_one y.reached y.letter why other
-            (rw (alike.1, f) at x.cause) y.cause,
+        cause_one y.reached y.letter why other (rw (alike.1, f) at x.cause) y.cause,
       ))
       (λ zs e. no_longer all n why x zs y.directions y.reached (rw e at y.spelled))
       (λ zs e. no_longer all m other y zs x.directions x.reached

@@ -2,10 +2,8 @@
 -- byte is in the field, and it is `BOX` exactly if a box is on the goal (`Fields.antt`). Then one box fewer is off the goals; otherwise
 -- their number stays the same (`OffGoals.antt`). In the end all goals are passed. The clause is about every set of boxes that the field
 -- shows, and so is the invariant; the precondition names one such set, for the bounds.
-use Rattle.std.proofs.Common.{rules, List, [], ◌++◌, ◌<◌, length, get_or, sym, ◌∙◌, ap, subst}
+use Rattle.std.proofs.Common.{rules, [], ◌<◌, length, get_or, sym, ◌∙◌, ap, subst}
 use Rattle.std.specs.FinSet.{len}
-use Rattle.cellset.specs.Members.{AreMembersOf}
-use Rattle.cellset.specs.declared.cell.Cell.{Cell}
 use Rattle.cellset.proofs.MemberLists.{next_has, next_came}
 use Rattle.play.specs.Field.{place_of}
 use Rattle.play.proofs.Places.{near_on}
@@ -45,8 +43,7 @@ loop-goal-preserved-then-field-place-eq-BOX g c =
       all = next_came c.loop-goal.yielded c.next.new.self q whole;
       counted = λ boxes shown many.
           counted_box level.shape level.goals boxes c.loop-goal.yielded q c.next.new.self whole c.loop-goal.count
-          (c.loop-goal.invariant.counted boxes shown many)
-          (box_by level boxes q (get_or c.args.field.now (place_of q) 0) (shown.shown q near) is).1;
+          (c.loop-goal.invariant.counted boxes shown many) (box_by level boxes q (get_or c.args.field.now (place_of q) 0) (shown.shown q near) is).1;
     }
 
 pub loop-goal-preserved : goal.loop-goal-preserved

@@ -2,12 +2,10 @@
 -- is left is the bits of the part, shifted down to the first of these columns; columns off the grid are no floor. So the sixteen bytes
 -- show their cells without boxes (`bytes_drawn` in `Fields.antt`), and with them the cells up to the next columns are drawn
 -- (`drawn_next`). The columns begin at a multiple of 64 and rise by 16, so no turn goes past the part.
-use Rattle.std.proofs.Common.{◌≡◌, ℕ, ◌+◌, ◌-◌, ◌*◌, ◌/◌, ◌^◌, ◌≤◌, pow-add, sym, ◌∙◌, ap, subst, arith}
+use Rattle.std.proofs.Common.{◌≡◌, ℕ, ◌+◌, ◌-◌, ◌*◌, ◌/◌, ◌^◌, ◌≤◌, pow-add, sym, ◌∙◌, ap, arith}
 use Rattle.std.proofs.Math.Nat.{div-div-eq-div-mul}
-use Rattle.play.specs.Field.{IsDrawnBelow}
 use Rattle.play.proofs.Fields.{AreBytesOf, drawn_next, bytes_drawn}
 use Rattle.play.proofs.field.draw_part.Goals as goal
-use lib.Lanes.{put_chunk}
 
 shifted : (w s : ℕ) {m : ℕ} → m ≡ s + 16 → w / 2 ^ s / 65536 ≡ w / 2 ^ m
 shifted w s next = div-div-eq-div-mul w (2 ^ s) (2 ^ 16) ∙ ap (λ p. w / p) (sym (pow-add 2 s 16) ∙ ap (λ n. 2 ^ n) (sym next))

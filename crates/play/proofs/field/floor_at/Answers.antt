@@ -1,7 +1,6 @@
 -- Beyond the last row or column of the grid there is no floor, so no bit is set.
-use Rattle.std.proofs.Common.{ℕ, sym, ◌∙◌, ap, arith}
+use Rattle.std.proofs.Common.{ℕ, ◌∙◌, ap, arith}
 use Rattle.std.specs.Prelude.{◌↔◌}
-use Rattle.cellset.specs.Shape.{Extent}
 use Rattle.cellset.specs.CellSet.{Cells, Has}
 use Rattle.cellset.specs.RowBits.{row_cell, IsRowOf}
 use Rattle.cellset.specs.declared.cell.Cell.{Cell}

@@ -1,14 +1,6 @@
-use Rattle.std.proofs.Common.{List, ◌++◌, sym, subst}
-use Rattle.std.proofs.Math.ListN.{set}
-use Rattle.std.specs.FinSet.{insert}
-use Rattle.cellset.specs.CellSet.{Cells}
-use Rattle.cellset.specs.Members.{AreMembersOf}
-use Rattle.cellset.specs.declared.cell.Cell.{Cell}
 use Rattle.cellset.proofs.MemberLists.{next_has, next_came, all_came}
-use Rattle.play.specs.Field.{IsFieldOf}
-use Rattle.play.specs.declared.field.TheConstants.{BOX}
 use Rattle.play.proofs.Fields.{field_put}
-use Rattle.play.proofs.OffGoals.{set_of, came_more, all_came_set}
+use Rattle.play.proofs.OffGoals.{came_more, all_came_set}
 use Rattle.play.proofs.field.put_boxes.Goals as goal
 
 pub loop-cell-preserved : goal.loop-cell-preserved

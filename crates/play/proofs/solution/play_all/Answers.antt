@@ -2,11 +2,9 @@
 -- letters of all lines are progress too, or one of them is the first that fails. At the end the field shows the boxes of the last state,
 -- so the count of boxes off the goals is that state's. With none the text solves the level (`solves_end`), otherwise it is unsolved
 -- (`unsolved_end`).
-use Rattle.std.proofs.Common.{◌≡◌, [], sym, ap, subst, arith}
+use Rattle.std.proofs.Common.{◌≡◌, [], ap, arith}
 use Rattle.std.proofs.lemmas.Result.{err_from_is_err_and}
 use Rattle.play.specs.Spelling.{joined}
-use Rattle.play.specs.Field.{HasMask, IsFieldOf}
-use Rattle.play.specs.declared.run.Run.{Run}
 use Rattle.play.proofs.Replays.{progress_start, fails_first, solves_end, unsolved_end}
 use Rattle.play.proofs.solution.play_all.Goals as goal
 
@@ -67,5 +65,4 @@ returns-clause-found g c =
     c.begin-run.ensures in
     let last = c.in_ok-play_lines.ensures.ok level [] first in
     let off = c.boxes_off_goals-boxes.ensures last.state.boxes last.shown last.as_many in
-    solves_end level (joined c.args.lines.now) c.play_lines.new.field c.play_lines.new.run last c.boxes_off_goals-boxes.result off
-    (omega arith)
+    solves_end level (joined c.args.lines.now) c.play_lines.new.field c.play_lines.new.run last c.boxes_off_goals-boxes.result off (omega arith)
