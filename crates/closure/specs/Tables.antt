@@ -21,6 +21,7 @@ pub record AreTables {S : Type 0} (tables : Tables S) : Type 0 where
   pub formed : IsWellFormed tables.board.now
   pub lawful : AreLawful tables.board.now (list_of tables.groups)
   pub trap : IsTrapOf tables.board.now (list_of tables.groups) tables.trap
+  pub trapless : IsTrue tables.trapless → tables.trap.members ≡ set.empty
   pub grouped : IsGrouped tables.groups
   pub regions : AreRegions tables.board.now tables.trap.members tables.groups tables.regions
 

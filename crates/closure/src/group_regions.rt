@@ -57,12 +57,13 @@ pub(crate) fn find_regions<S: CellSet>(
     ensures { IfOk result (AreRegions board.now trap.now.members groups.now) }
 {
     let room = board.rows();
+    let trapless = trap.is_empty();
     let mut sides = vec![in alloc; Sides::default(); groups.arena.boxes.len()]?;
     let mut of = Vec::with_capacity(alloc, groups.spans.len())?;
     let mut flood = Flood::new(alloc, board.shape())?;
     for group in 0..groups.spans.len() {
         let boxes = groups.boxes(group);
-        if is_trapped(boxes, trap) {
+        if !trapless && is_trapped(boxes, trap) {
             of.push_reserved(Region {
                 has_root: false,
                 whole: false,

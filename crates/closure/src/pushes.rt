@@ -23,7 +23,6 @@ use crate::hints::{TRIES, hash_of, hash_with, hash_without};
 use crate::lookup::{Scratch, is_any_covering};
 use crate::sides::Sides;
 use crate::tables::Tables;
-use crate::trap::is_trapped;
 use board::Board;
 use cellset::{Cell, CellSet, Dir};
 use reach::Push;
@@ -79,7 +78,7 @@ fn covers_pushes_of<S: CellSet>(
     ensures covered { IsTrue result → CoversPushesOf tables.now.board.now (list_of tables.now.groups) (position_at tables.now.board.now tables.now.groups group) }
 {
     let boxes = tables.groups.boxes(group);
-    if is_trapped(boxes, &tables.trap) {
+    if tables.is_trapped(boxes) {
         return true;
     }
     load_boxes(tables, boxes, scratch);
@@ -165,7 +164,7 @@ fn covers_toward<S: CellSet>(
     let Some(push) = push_of(tables, pushed, dir) else {
         return true;
     };
-    if tables.trap.has(push.to) {
+    if tables.is_on_trap(push.to) {
         return true;
     }
     is_hinted(tables, pushed, push) || is_found(tables, pushed.boxes, push, scratch)

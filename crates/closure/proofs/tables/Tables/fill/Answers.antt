@@ -7,7 +7,7 @@ pub returns-clause-filled : goal.returns-clause-filled
 returns-clause-filled g c =
     let tables = c.in_ok-find_trapped.ensures.tables in
     record {
-      are = record { formed = tables.formed; lawful = tables.lawful; trap = tables.trap; grouped = tables.grouped; regions = tables.regions };
+      are = record { formed = tables.formed; lawful = tables.lawful; trap = tables.trap; trapless = tables.trapless; grouped = tables.grouped; regions = tables.regions };
       off = c.in_ok-find_trapped.ensures.off;
       tree = c.in_ok-self.ensures;
       buckets = c.in_ok-self-2.ensures;

@@ -9,6 +9,7 @@ returns-clause-tables g c = record {
   lawful = c.requires.lawful;
   trap = no_trap c.args.self.now.board.now (list_of c.args.self.now.groups) c.clear.new.self (c.clear.ensures.extent ∙ c.requires.trap.extent)
       c.clear.ensures.members;
+  trapless = λ _. c.clear.ensures.members;
   grouped = c.requires.grouped;
   regions = c.in_ok-self.ensures;
 }
