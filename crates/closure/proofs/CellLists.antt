@@ -41,7 +41,7 @@ pub each_in : (P : Cell → Type 0) (xs : List Cell) → All P xs → (c : Cell)
 each_in P [] all c has = has_empty c has
 each_in P (x ∷ xs) all c has =
     elim (has_insert (set.from_list xs) x c has) [
-      | inl e ↦ subst P (sym e) (All-head P x xs all)
+      | inl e ↦ rw e (All-head P x xs all)
       | inr rest ↦ each_in P xs (All-tail P x xs all) c rest
     ]
 

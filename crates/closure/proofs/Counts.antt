@@ -25,7 +25,7 @@ module _ (P : Cells → Type 0) (none : P set.empty) (more : (s : Cells) (k : Ce
       let is_empty : set.empty ≡ s = same_members set.empty s (λ q h. has_empty q h) (λ q h. absurd (false≢true (within q h))) in
       subst P is_empty none
   within_list (k ∷ ks) s within = has_or_lacks s k
-      (λ has. subst P (put_back s k has) (more (set.remove s k) k (removed_lacks s k)
+      (λ has. rw (put_back s k has) at (more (set.remove s k) k (removed_lacks s k)
       (within_list ks (set.remove s k) (λ q h. let old = has_remove s k q h in rest q old.0 (within q old.1)))))
       (λ lacks. within_list ks s (λ q h. rest q (other_member s q k h lacks) (within q h)))
     where
@@ -80,18 +80,18 @@ shared_adds s t k has lacks adds =
     (λ c h. elim (has_union s (set.insert t k) c h) [
       | inl in_s ↦ in_union_left s t c in_s
       | inr new ↦ elim (has_insert t k c new) [
-        | inl e ↦ in_union_left s t c (subst (Has s) (sym e) has)
+        | inl e ↦ in_union_left s t c (rw e has)
         | inr in_t ↦ in_union_right s t c in_t
       ]
     ])
     (λ c h. elim (has_union s t c h) [ inl in_s ↦ in_union_left s _ c in_s | inr in_t ↦ in_union_right s _ c (kept_by_insert t k c in_t) ]) in
     let one_common : set.intersection s (set.insert t k) ≡ set.insert (set.intersection s t) k = same_members _ _
     (λ c h. let both = has_intersection s (set.insert t k) c h in elim (has_insert t k c both.1) [
-      | inl e ↦ subst (Has (set.insert (set.intersection s t) k)) (sym e) (inserted (set.intersection s t) k)
+      | inl e ↦ rw e (inserted (set.intersection s t) k)
       | inr in_t ↦ kept_by_insert (set.intersection s t) k c (in_intersection s t c both.0 in_t)
     ])
     (λ c h. elim (has_insert (set.intersection s t) k c h) [
-      | inl e ↦ subst (Has (set.intersection s (set.insert t k))) (sym e) (in_intersection s (set.insert t k) k has (inserted t k))
+      | inl e ↦ rw e (in_intersection s (set.insert t k) k has (inserted t k))
       | inr old ↦ let both = has_intersection s t c old in in_intersection s (set.insert t k) c both.0 (kept_by_insert t k c both.1)
     ]) in
     let union_len = ap set.len same_union in
@@ -108,17 +108,17 @@ apart_adds s t k off lacks adds =
     (λ c h. elim (has_union s (set.insert t k) c h) [
       | inl in_s ↦ kept_by_insert (set.union s t) k c (in_union_left s t c in_s)
       | inr new ↦ elim (has_insert t k c new) [
-        | inl e ↦ subst (Has (set.insert (set.union s t) k)) (sym e) (inserted (set.union s t) k)
+        | inl e ↦ rw e (inserted (set.union s t) k)
         | inr in_t ↦ kept_by_insert (set.union s t) k c (in_union_right s t c in_t)
       ]
     ])
     (λ c h. elim (has_insert (set.union s t) k c h) [
-      | inl e ↦ subst (Has (set.union s (set.insert t k))) (sym e) (in_union_right s (set.insert t k) k (inserted t k))
+      | inl e ↦ rw e (in_union_right s (set.insert t k) k (inserted t k))
       | inr old ↦ elim (has_union s t c old) [ inl in_s ↦ in_union_left s _ c in_s | inr in_t ↦ in_union_right s _ c (kept_by_insert t k c in_t) ]
     ]) in
     let same_common : set.intersection s (set.insert t k) ≡ set.intersection s t = same_members _ _
     (λ c h. let both = has_intersection s (set.insert t k) c h in elim (has_insert t k c both.1) [
-      | inl e ↦ not_both s k (subst (Has s) e both.0) off
+      | inl e ↦ not_both s k (rw e at both.0) off
       | inr in_t ↦ in_intersection s t c both.0 in_t
     ])
     (λ c h. let both = has_intersection s t c h in in_intersection s (set.insert t k) c both.0 (kept_by_insert t k c both.1)) in

@@ -27,7 +27,7 @@ lacks_within few many c within lacks = has_or_lacks few c (λ has. not_both many
 moved_within : (few many : Cells) (from to : Cell) → IsWithin few many → IsWithin (moved few from to) (moved many from to)
 moved_within few many from to within c h =
     elim (has_insert (set.remove few from) to c h) [
-      | inl e ↦ subst (Has (moved many from to)) (sym e) (inserted (set.remove many from) to)
+      | inl e ↦ rw e (inserted (set.remove many from) to)
       | inr rest ↦
           let old = has_remove few from c rest in
           kept_by_insert (set.remove many from) to c (kept_by_remove many from c old.0 (within c old.1))
@@ -36,7 +36,7 @@ moved_within few many from to within c h =
 -- If a push changes the larger of two sets by a box that the smaller one lacks, the smaller one stays within it.
 moved_beside : (few many : Cells) (from to : Cell) → Lacks few from → IsWithin few many → IsWithin few (moved many from to)
 moved_beside few many from to lacks within c has =
-    kept_by_insert (set.remove many from) to c (kept_by_remove many from c (λ e. not_both few from (subst (Has few) e has) lacks) (within c has))
+    kept_by_insert (set.remove many from) to c (kept_by_remove many from c (λ e. not_both few from (rw e at has) lacks) (within c has))
 
 module _ (level : Level) (patterns : List Pattern) (closed : Closed level patterns) where
   walk_covered : (s : State) (d : Dir) (t : State) → IsCovered level patterns s → Walks level s d t → IsCovered level patterns t

@@ -24,15 +24,15 @@ module _ (level : Level) (s : State) where
   entry_covers pattern entry is = (
     λ covers.
         let P : Cell → Type 0 = λ c. Has s.boxes c × (c ≢ s.player) in
-        let each = λ (c : Cell) (h : Has pattern.boxes c). each_in P entry.boxes covers.boxes c (subst (λ (b : Cells). Has b c) (sym is.boxes) h) in
+        let each = λ (c : Cell) (h : Has pattern.boxes c). each_in P entry.boxes covers.boxes c (rw is.boxes h) in
         let beside = lacks_where pattern.boxes s.player (λ h. (each s.player h).1 refl) in
         record { boxes = λ c h. (each c h).0; player = (is.region s.player).0 (covers.player, beside) },
     λ covers.
         let player = (is.region s.player).1 covers.player in
         record {
           boxes = λ k d lt.
-              let has = subst (λ (b : Cells). Has b (get_or entry.boxes k d)) is.boxes (in_list entry.boxes k d lt) in
-              (covers.boxes _ has, λ e. not_both pattern.boxes s.player (subst (Has pattern.boxes) e has) player.1);
+              let has = rw is.boxes at (in_list entry.boxes k d lt) in
+              (covers.boxes _ has, λ e. not_both pattern.boxes s.player (rw e at has) player.1);
           player = player.0;
         },
   )
@@ -44,7 +44,7 @@ module _ (level : Level) (s : State) where
   covered_by [] (e ∷ es) all found = absurd all
   covered_by (p ∷ ps) (e ∷ es) (head, rest) (entry, listed, covers) =
       elim (first_or_rest e es entry listed) [
-        | inl same ↦ (p, (0, omega arith, refl), (entry_covers p e head).0 (subst (λ x. EntryCovers level.room x s) (sym same) covers))
+        | inl same ↦ (p, (0, omega arith, refl), (entry_covers p e head).0 (rw same covers))
         | inr later ↦
             let found = covered_by ps es rest (entry, later, covers) in
             (found.0, Contains-append_right (p ∷ []) ps found.0 found.1, found.2)
@@ -57,7 +57,7 @@ module _ (level : Level) (s : State) where
   covers_by [] (e ∷ es) all found = absurd all
   covers_by (p ∷ ps) (e ∷ es) (head, rest) (pattern, listed, covers) =
       elim (first_or_rest p ps pattern listed) [
-        | inl same ↦ (e, (0, omega arith, refl), (entry_covers p e head).1 (subst (λ x. Covers level x s) (sym same) covers))
+        | inl same ↦ (e, (0, omega arith, refl), (entry_covers p e head).1 (rw same covers))
         | inr later ↦
             let found = covers_by ps es rest (pattern, later, covers) in
             (found.0, Contains-append_right (e ∷ []) es found.0 found.1, found.2)
@@ -86,4 +86,4 @@ zip_push R (a ∷ xs) (b ∷ ys) x y (head, rest) r = (head, zip_push R xs ys x 
 pub zip_more : {X Y : Type 0} (R : X → Y → Type 0) (xs : List X) (ys : List Y) (i : ℕ) (x : X) (y : Y) → i < length xs → x ≡ get_or xs i x →
     AllZip R (take i xs) ys → R x y → AllZip R (take (i + 1) xs) (ys ++ y ∷ [])
 zip_more R xs ys i x y lt is all r =
-    subst (λ l. AllZip R l (ys ++ y ∷ [])) (sym (take_more xs i x lt)) (zip_push R (take i xs) ys (get_or xs i x) y all (subst (λ z. R z y) is r))
+    rw (take_more xs i x lt) (zip_push R (take i xs) ys (get_or xs i x) y all (rw is at r))

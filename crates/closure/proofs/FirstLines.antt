@@ -29,7 +29,7 @@ each_pattern P patterns n d past each pattern (k, lt, is) = subst P (at_any patt
 pub one_more : (P : ℕ → Type 0) (n : ℕ) → ((j : ℕ) → j < n → P j) → P n → (j : ℕ) → j < n + 1 → P j
 one_more P n each here j lt = elim (cases_lt j n) [
   | inl before ↦ each j before
-  | inr past ↦ let same : n ≡ j = omega (arith, lt, past) in subst P same here
+  | inr past ↦ let same : n ≡ j = omega (arith, lt, past) in rw same at here
 ]
 
 -- A line at fault, with fine lines before it, is the first line at fault.
@@ -55,7 +55,7 @@ first_line IsFine IsFaulty (l ∷ ls) (suc i) p d lt fine faulty =
       list = ap (λ (xs : List PatternLine). l ∷ xs) rest.list;
       number_is = rest.number_is;
       fine = λ earlier listed. elim (first_or_rest l rest.before earlier listed) [
-        | inl same ↦ subst (λ (x : PatternLine). IsFine (pattern_of x)) same (fine 0 (omega arith))
+        | inl same ↦ rw same at (fine 0 (omega arith))
         | inr later ↦ rest.fine earlier later
       ];
       faulty = rest.faulty;
@@ -76,7 +76,7 @@ unlawful_not level pattern Goals (board, off, fair, all) lawful =
 -- the pattern of the line at fault is in the list
 pub line_listed : (before : List PatternLine) (line : PatternLine) (after lines : List PatternLine) → lines ≡ before ++ line ∷ after →
     Contains (patterns_of lines) (pattern_of line)
-line_listed before line after lines is = subst (λ l. Contains (patterns_of l) (pattern_of line)) (sym is) (middle before)
+line_listed before line after lines is = rw is (middle before)
   where
     middle : (xs : List PatternLine) → Contains (patterns_of (xs ++ line ∷ after)) (pattern_of line)
     middle [] = (0, omega arith, refl)

@@ -38,7 +38,7 @@ use Rattle.closure.proofs.Traps.{onto_trap, trapped_push}
 -- A push of the box on a cell to a free cell of the grid is a push of one of the boxes.
 pub push_in_box : (shape : Extent) (boxes : Cells) (cell : Cell) (dir : Dir) (push : Push) → Has boxes cell → Lacks boxes push.to →
     IsPushAt shape cell dir push → IsPushOf shape boxes push
-push_in_box shape boxes cell dir push has free at = record { box = subst (Has boxes) (sym at.from) has; to_on = at.to_on; to_free = free; back = at.back }
+push_in_box shape boxes cell dir push has free at = record { box = rw at.from has; to_on = at.to_on; to_free = free; back = at.back }
 
 module _ (level : Level) (pattern : Pattern) (cell : Cell) (dir : Dir) where
   player_behind : (push : Push) → PushesOut level pattern push → push.from ≡ cell → push.dir ≡ dir → push.player ≡ neighbor cell (opposite dir)
@@ -48,12 +48,11 @@ module _ (level : Level) (pattern : Pattern) (cell : Cell) (dir : Dir) where
       ∙ (ap (λ q. neighbor q (opposite push.dir)) (sym out.next_cell ∙ from) ∙ ap (λ e. neighbor cell (opposite e)) toward)
 
   pub unreached : (InPatternRegion level pattern (neighbor cell (opposite dir)) → ⊥) → HasNoPush level pattern cell dir
-  unreached lacks push out from toward = lacks (subst (InPatternRegion level pattern) (player_behind push out from toward) out.standing)
+  unreached lacks push out from toward = lacks (rw (player_behind push out from toward) at out.standing)
 
   pub barred : (IsFree level.shape level.walls pattern.boxes (neighbor cell dir) → ⊥) → HasNoPush level pattern cell dir
   barred bar push out from toward =
-      bar (subst (IsFree level.shape level.walls pattern.boxes) (out.cell_behind ∙ (ap (λ q. neighbor q push.dir) from ∙ ap (λ e. neighbor cell e) toward))
-      out.free)
+      bar (rw (out.cell_behind ∙ (ap (λ q. neighbor q push.dir) from ∙ ap (λ e. neighbor cell e) toward)) at out.free)
 
   -- If the result of one push of a box in a direction is covered, so is that of each push that moves the box that way.
   pub covered_one : (patterns : List Pattern) (p : Push) → IsPushAt level.shape cell dir p → IsCovered level patterns (after_push pattern p) →
@@ -62,7 +61,7 @@ module _ (level : Level) (pattern : Pattern) (cell : Cell) (dir : Dir) where
       let from_same : p.from ≡ q.from = at.from ∙ sym from in
       let to_same : p.to ≡ q.to = at.to ∙ sym (out.cell_behind ∙ (ap (λ c. neighbor c q.dir) from ∙ ap (λ e. neighbor cell e) toward)) in
       subst (λ (f : Cell). IsCovered level patterns (record { player = f; boxes = moved pattern.boxes f q.to })) from_same
-      (subst (λ (t : Cell). IsCovered level patterns (record { player = p.from; boxes = moved pattern.boxes p.from t })) to_same covered)
+      (rw to_same at covered)
 
 -- The results of a box's pushes are covered if those in each direction are.
 pub covered_each_way : (level : Level) (patterns : List Pattern) (pattern : Pattern) (cell : Cell)
@@ -82,7 +81,7 @@ pub covered_each_box : (level : Level) (patterns : List Pattern) (pattern : Patt
     cells_in boxes ≡ pattern.boxes
     → ((i : ℕ) → i < n → CoversFrom level patterns pattern (cell_no boxes i)) → CoversPushesOf level patterns pattern
 covered_each_box level patterns pattern boxes n past own each push out =
-    let q = of_list boxes push.from (subst (λ (s : Cells). Has s push.from) (sym own) out.box) in
+    let q = of_list boxes push.from (rw own out.box) in
     let low = q.1 in
     each q.0 (omega (arith, low, past)) push out (sym (at_any boxes q.0 no_cell push.from low ∙ q.2))
 
@@ -96,16 +95,16 @@ pattern_of_group level groups grouped j lt covers push out =
     subst (λ (b : Cells). IsCovered level (list_of groups) (state_after b push)) (sym same) (covers push (record {
       standing = of_line level groups grouped g j lt refl push.player out.standing;
       next_cell = out.next_cell;
-      box = subst (λ (b : Cells). Has b push.from) same out.box;
+      box = rw same at out.box;
       cell_behind = out.cell_behind;
-      free = subst (λ (b : Cells). IsFree level.shape level.walls b push.to) same out.free;
+      free = rw same at out.free;
     }))
 
 -- A cell has a number in a list exactly if it is in the set of the list.
 pub has_number : (cells : List Cell) (cell : Cell) (number : Option ℕ)
     → MatchOption number (Lacks (cells_in cells) cell) (λ n. (n < length cells) × (cell_no cells n ≡ cell)) → is_some number ≡ contains (cells_in cells) cell
 has_number cells cell None found = sym found
-has_number cells cell (Some n) found = sym (subst (Has (cells_in cells)) found.1 (in_list cells n no_cell found.0))
+has_number cells cell (Some n) found = sym (rw found.1 at (in_list cells n no_cell found.0))
 
 -- ---- the facts about a group
 module _ {S : Type 0} (tables : Tables S) (is : AreTables tables) (g : ℕ) where
@@ -118,7 +117,7 @@ module _ {S : Type 0} (tables : Tables S) (is : AreTables tables) (g : ℕ) wher
       covered_of_group tables.board.now tables.groups is.grouped (state_after before push) g (record {
         boxes = stand;
         player =
-            subst (InPatternRegion tables.board.now (position_at tables.board.now tables.groups g)) back side;
+            rw back at side;
       })
 
   -- ---- the trap
@@ -138,7 +137,7 @@ module _ {S : Type 0} (tables : Tables S) (is : AreTables tables) (g : ℕ) wher
     toward_trap cell dir p at has push out from toward =
         onto_trap tables.board.now is.formed (list_of tables.groups) tables.trap is.trap position (box_floor tables.board.now tables.groups is.lawful is.grouped g lt)
         (group_in_room tables.board.now is.formed tables.groups is.grouped is.lawful g) push out
-        (subst (Has tables.trap.members) (at.to ∙ sym (out.cell_behind ∙ (ap (λ c. neighbor c push.dir) from ∙ ap (λ e. neighbor cell e) toward))) has)
+        (rw (at.to ∙ sym (out.cell_behind ∙ (ap (λ c. neighbor c push.dir) from ∙ ap (λ e. neighbor cell e) toward))) at has)
 
 -- ---- notes
 module _ (level : Level) (groups : Groups) (noted : List Bool) (are : AreNoted level groups noted) where
@@ -152,16 +151,14 @@ module _ (level : Level) (groups : Groups) (noted : List Bool) (are : AreNoted l
         let long = are.long in
         let low_old : k < length noted = omega (arith, low, was) in
         let other = λ (ne : k ≢ g) (true_there : IsTrue (get_or (set noted g b) k false)).
-        are.covers k low_old (subst IsTrue (get_or-set_other noted g k b false ne) true_there) in
+        are.covers k low_old (rw (get_or-set_other noted g k b false ne) at true_there) in
         elim (cases_lt k g) [
           | inl before ↦ other (λ e. omega (arith, before, e))
           | inr from ↦ elim (cases_lt g k) [
             | inl past ↦ other (λ e. omega (arith, past, e))
             | inr until ↦
                 let same : g ≡ k = omega (arith, from, until) in
-                λ true_there. subst (λ (j : ℕ). CoversPushesOf level (list_of groups) (position_at level groups j)) same
-                (here (subst IsTrue (get_or-set_same noted g b false (omega (arith, lt, long)))
-                (subst (λ (j : ℕ). IsTrue (get_or (set noted g b) j false)) (sym same) true_there)))
+                λ true_there. rw same at (here (rw (← same, get_or-set_same noted g b false (omega (arith, lt, long))) at true_there))
           ]
         ];
   }

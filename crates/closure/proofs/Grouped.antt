@@ -35,8 +35,8 @@ module _ (level : Level) (g : ℕ) where
   seeded_in [] of j lt low is c has = absurd (omega (arith, lt))
   seeded_in (p ∷ ps) [] j lt low is c has = absurd (omega (arith, low))
   seeded_in (p ∷ ps) (k ∷ of) zero lt low is c has =
-      in_union_left _ (seeds_with level g ps of) c (subst (λ (s : Cells). Has s c) (sym (cond-true (nat_eq k g) (seed_cells level p.boxes p.seeds) set.empty
-      (eq-eqb k g is))) has)
+      in_union_left _ (seeds_with level g ps of) c (rw (cond-true (nat_eq k g) (seed_cells level p.boxes p.seeds) set.empty
+      (eq-eqb k g is)) has)
   seeded_in (p ∷ ps) (k ∷ of) (suc j) lt low is c has =
       in_union_right _ (seeds_with level g ps of) c (seeded_in ps of j (omega (arith, lt)) (omega (arith, low)) is c has)
 
@@ -100,9 +100,9 @@ module _ (level : Level) (groups : Groups) (grouped : IsGrouped groups) where
         InPatternRegion level (pattern_at (list_of groups) j) c → InPatternRegion level (position_at level groups g) c
     of_line j lt is c (region.at_seed seed free) =
         region.at_seed (seed_of_line c (record { line = j; within = lt; grouped = is; fact = seed }))
-        (subst (λ (s : Cells). IsFree level.shape level.walls s c) (line_boxes j lt is) free)
+        (rw (line_boxes j lt is) at free)
     of_line j lt is c (region.beside {c = b} d before free) =
-        region.beside d (of_line j lt is b before) (subst (λ (s : Cells). IsFree level.shape level.walls s (neighbor b d)) (line_boxes j lt is) free)
+        region.beside d (of_line j lt is b before) (rw (line_boxes j lt is) at free)
 
     pub line_of : (c : Cell) → InPatternRegion level (position_at level groups g) c → HasLine groups g (λ p. InPatternRegion level p c)
     line_of c (region.at_seed seed free) =
@@ -111,8 +111,7 @@ module _ (level : Level) (groups : Groups) (grouped : IsGrouped groups) where
           line = line.line;
           within = line.within;
           grouped = line.grouped;
-          fact = region.at_seed line.fact (subst (λ (s : Cells). IsFree level.shape level.walls s c) (sym (line_boxes line.line line.within line.grouped))
-              free);
+          fact = region.at_seed line.fact (rw (line_boxes line.line line.within line.grouped) free);
         }
     line_of c (region.beside {c = b} d before free) =
         let line = line_of b before in
@@ -120,8 +119,7 @@ module _ (level : Level) (groups : Groups) (grouped : IsGrouped groups) where
           line = line.line;
           within = line.within;
           grouped = line.grouped;
-          fact = region.beside d line.fact (subst (λ (s : Cells). IsFree level.shape level.walls s (neighbor b d))
-              (sym (line_boxes line.line line.within line.grouped)) free);
+          fact = region.beside d line.fact (rw (line_boxes line.line line.within line.grouped) free);
         }
 
   -- the list covers a state exactly if the position of a group does
@@ -135,8 +133,8 @@ module _ (level : Level) (groups : Groups) (grouped : IsGrouped groups) where
         (
           grouped.all.into k lt,
           record {
-            boxes = λ c has. covers.boxes c (subst (λ (x : Cells). Has x c) (sym (line_boxes g k lt refl) ∙ ap (λ (p : Pattern). p.boxes) here) has);
-            player = of_line g k lt refl s.player (subst (λ (p : Pattern). InPatternRegion level p s.player) (sym here) covers.player);
+            boxes = λ c has. covers.boxes c (rw (sym (line_boxes g k lt refl) ∙ ap (λ (p : Pattern). p.boxes) here) at has);
+            player = of_line g k lt refl s.player (rw here covers.player);
           },
         ),
       )
@@ -147,7 +145,7 @@ module _ (level : Level) (groups : Groups) (grouped : IsGrouped groups) where
         pattern_at (list_of groups) line.line,
         listed_at groups.arena line.line line.within,
         record {
-          boxes = λ c has. covers.boxes c (subst (λ (x : Cells). Has x c) (line_boxes g line.line line.within line.grouped) has);
+          boxes = λ c has. covers.boxes c (rw (line_boxes g line.line line.within line.grouped) at has);
           player = line.fact;
         },
       )
@@ -184,7 +182,7 @@ module _ (level : Level) (groups : Groups) (lawful : AreLawful level (list_of gr
   box_floor c has =
       let at = grouped.all.first g lt in
       let lawful_line = lawful _ (listed_at groups.arena line at.1) in
-      let box = subst (λ (s : Cells). Has s c) (sym (line_boxes level groups grouped g line at.1 at.2)) has in
+      let box = rw (← (line_boxes level groups grouped g line at.1 at.2)) at has in
       (lawful_line.board c (inl box), lawful_line.wall c box)
 
   -- the boxes of a group are on the grid
@@ -193,14 +191,14 @@ module _ (level : Level) (groups : Groups) (lawful : AreLawful level (list_of gr
 
   -- A list that is the boxes of a group is on the grid.
   pub boxes_on : (boxes : List Cell) → boxes ≡ boxes_of groups g → (c : Cell) → Has (cells_in boxes) c → IsOn level.shape c
-  boxes_on boxes is c has = box_on c (subst (λ (l : List Cell). Has (cells_in l) c) is has)
+  boxes_on boxes is c has = box_on c (rw is at has)
 
   -- a group has a box
   pub some_box : (c : Cell) × Has (cells_in (boxes_of groups g)) c
   some_box =
       let at = grouped.all.first g lt in
       let off = (lawful _ (listed_at groups.arena line at.1)).goals in
-      (off.0, subst (λ (s : Cells). Has s off.0) (line_boxes level groups grouped g line at.1 at.2) off.1)
+      (off.0, rw (line_boxes level groups grouped g line at.1 at.2) at off.1)
 
 -- ---- the region of a position
 module _ (level : Level) (formed : IsWellFormed level) (groups : Groups) (grouped : IsGrouped groups) (lawful : AreLawful level (list_of groups)) (g : ℕ)
@@ -222,7 +220,7 @@ module _ (level : Level) (formed : IsWellFormed level) (groups : Groups) (groupe
       let line = seed.1 in
       let p = pattern_at (list_of groups) line.line in
       let both = (free c).0 seed.0 in
-      let lacks = subst (λ (s : Cells). Lacks s c) (sym (line_boxes level groups grouped g line.line line.within line.grouped)) both.1 in
+      let lacks = rw (← (line_boxes level groups grouped g line.line line.within line.grouped)) at both.1 in
       region.at_seed (seed_of_line level groups grouped g c (record {
         line = line.line;
         within = line.within;
@@ -230,7 +228,7 @@ module _ (level : Level) (formed : IsWellFormed level) (groups : Groups) (groupe
         fact = seed_is level p.boxes p.seeds c both.0 lacks line.fact;
       })) (is_free c seed.0)
   there c (by_step b before step) =
-      subst In (sym step.next) (region.beside step.dir (there b before) (is_free (neighbor b step.dir) (subst Free step.next step.free)))
+      subst In (sym step.next) (region.beside step.dir (there b before) (is_free (neighbor b step.dir) (rw step.next at step.free)))
 
   back : (c : Cell) → In c → Reached (WalksTo Free) Seed c
   back c (region.at_seed seed f) =

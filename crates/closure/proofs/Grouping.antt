@@ -37,9 +37,7 @@ module _ (arena : Arena) (j : ℕ) (lt : j < length arena.lines.items) where
 -- the boxes of a line come after those of the lines before it
 lines_apart : (arena : Arena) (i j : ℕ) → i < j → j < length arena.lines.items → (line_at arena i).boxes.to ≤ (line_at arena j).boxes.from
 lines_apart arena i j less lt =
-    subst (λ (s : Span). s.to ≤ (line_at arena j).boxes.from) (span_of_line arena i (omega (arith, less, lt)))
-    (subst (λ (s : Span). (span_at (map (λ (line : StoredLine). line.boxes) arena.lines.items) i).to ≤ s.from) (span_of_line arena j lt)
-    (arena.within.boxes_in.apart j i (many arena j lt) less))
+    rw (span_of_line arena j lt, span_of_line arena i (omega (arith, less, lt))) at (arena.within.boxes_in.apart j i (many arena j lt) less)
 
 module _ (arena : Arena) (of : List ℕ) (spans : List Span) (n g : ℕ) (so_far : AreGroups arena of spans n) where
   -- A line more gets a group, and the groups so far stay.
@@ -54,7 +52,7 @@ module _ (arena : Arena) (of : List ℕ) (spans : List Span) (n g : ℕ) (so_far
       (λ j lt.
       let into = so_far.into j (omega (arith, lt, was)) in
       (omega (arith, into, grown), ap (part arena.boxes.items) (keep (slice_index of j) into) ∙ so_far.same j (omega (arith, lt, was))))
-      (subst (λ (j : ℕ). IsOf j g) (sym was) (low, here)) in
+      (rw was (low, here)) in
       record {
         long = length_more of g ∙ ap (λ (k : ℕ). k + 1) was;
         inside = inside;
@@ -86,11 +84,10 @@ module _ (arena : Arena) (of : List ℕ) (spans : List Span) (n g : ℕ) (so_far
         within = λ h low. each_more (λ _. IsWithin (length arena.boxes.items)) spans new no_span so_far.inside.within (line_within arena n lt) h
             (omega (arith, low, longer));
         apart = λ h k low. each_more IsAfter spans new no_span
-            (λ i less k before. subst (λ (s : Span). s.to ≤ (span_at spans i).from) (sym (kept k (omega (arith, before, less))))
-            (so_far.inside.apart i k less before))
+            (λ i less k before. rw (kept k (omega (arith, before, less))) (so_far.inside.apart i k less before))
             (λ k before.
             let at = so_far.first k before in
-            subst (λ (s : Span). s.to ≤ new.from) (sym (kept k before ∙ at.3)) (lines_apart arena at.0 n at.1 lt))
+            rw (sym (kept k before ∙ at.3)) at (lines_apart arena at.0 n at.1 lt))
             h (omega (arith, low, longer)) k;
       })
       kept
@@ -121,7 +118,7 @@ module _ (groups : Groups) (g : ℕ) (free region : Cells) where
       line = star.line;
       within = star.within;
       grouped = star.grouped;
-      fact = subst (λ (s : Seeds). IsSeed s c) (sym star.fact) tt;
+      fact = rw star.fact tt;
     },
   ))
 

@@ -25,7 +25,7 @@ pub step_decides : (level : Level) (pattern : Pattern) (c : Cell) (d : Dir) → 
 step_decides level pattern c d here there =
     let back : neighbor (neighbor c d) (opposite d) ≡ c = neighbor_back c d here.on.top here.on.left in (
       λ inside. beside d inside there,
-      λ inside. subst (InPatternRegion level pattern) back (beside (opposite d) inside (subst (IsFree level.shape level.walls pattern.boxes) (sym back) here)),
+      λ inside. rw back at (beside (opposite d) inside (rw back here)),
     )
 
 module _ (level : Level) (formed : IsWellFormed level) (boxes : Cells) (player : Cell) where
@@ -37,8 +37,7 @@ module _ (level : Level) (formed : IsWellFormed level) (boxes : Cells) (player :
     onward : (pattern : Pattern) → Lacks pattern.boxes last → Lacks pattern.boxes next → InPatternRegion level pattern last ↔ InPatternRegion level pattern next
     onward pattern free ahead =
         subst (λ (q : Cell). InPatternRegion level pattern last ↔ InPatternRegion level pattern q) to
-        (step_decides level pattern last dir (free_at pattern last here free) (subst (IsFree level.shape level.walls pattern.boxes) (sym to)
-        (free_at pattern next there ahead)))
+        (step_decides level pattern last dir (free_at pattern last here free) (rw to (free_at pattern next there ahead)))
 
     -- A step to a cell without a box adds no hit.
     pub hits_on : Lacks boxes next → AreHits level boxes player next hits
@@ -57,27 +56,21 @@ module _ (level : Level) (formed : IsWellFormed level) (boxes : Cells) (player :
         let old = so_far pattern within lacks in
         let shorter = λ (none : (i : ℕ) (e : Hit) → i < length (hits ++ m ∷ []) → Lacks pattern.boxes (get_or (hits ++ m ∷ []) i e).cell) (i : ℕ) (e : Hit)
         (lt : i < length hits).
-        subst (λ (x : Hit). Lacks pattern.boxes x.cell) (old_item hits m i e lt) (none i e (omega (arith, lt, length_more hits m))) in
+        rw (old_item hits m i e lt) at (none i e (omega (arith, lt, length_more hits m))) in
         let ahead = λ (none : (i : ℕ) (e : Hit) → i < length (hits ++ m ∷ []) → Lacks pattern.boxes (get_or (hits ++ m ∷ []) i e).cell).
-        subst (Lacks pattern.boxes) cell_is (subst (λ (x : Hit). Lacks pattern.boxes x.cell) (new_item hits m (length hits) m refl)
-        (none (length hits) m (omega (arith, length_more hits m)))) in
+        rw (new_item hits m (length hits) m refl, cell_is) at (none (length hits) m (omega (arith, length_more hits m))) in
         record {
           free = ahead;
           passed = λ none. through (old.passed (shorter none)) (onward pattern (old.free (shorter none)) (ahead none));
           first = λ i e lt before has. elim (cases_lt i (length hits)) [
             | inl low ↦
                 let same = old_item hits m i e low in
-                subst (λ (x : Hit). InPatternRegion level pattern player ↔ InPatternRegion level pattern (neighbor x.cell x.side)) (sym same)
-                (old.first i e low (λ j f lt_j. subst (λ (x : Hit). Lacks pattern.boxes x.cell) (old_item hits m j f (omega (arith, lt_j, low)))
-                (before j f lt_j))
-                (subst (λ (x : Hit). Has pattern.boxes x.cell) same has))
+                rw same (old.first i e low (λ j f lt_j. rw (old_item hits m j f (omega (arith, lt_j, low))) at (before j f lt_j))
+                (rw same at has))
             | inr past ↦
                 let here : i ≡ length hits = omega (arith, past, lt, length_more hits m) in
-                let none = λ (j : ℕ) (f : Hit) (lt_j : j < length hits). subst (λ (x : Hit). Lacks pattern.boxes x.cell) (old_item hits m j f lt_j)
-                (before j f (omega (arith, lt_j, here))) in
-                subst (λ (x : Hit). InPatternRegion level pattern player ↔ InPatternRegion level pattern (neighbor x.cell x.side))
-                (sym (new_item hits m i e here))
-                (subst (λ (q : Cell). InPatternRegion level pattern player ↔ InPatternRegion level pattern q) (sym back) (old.passed none))
+                let none = λ (j : ℕ) (f : Hit) (lt_j : j < length hits). rw (old_item hits m j f lt_j) at (before j f (omega (arith, lt_j, here))) in
+                rw (new_item hits m i e here, back) (old.passed none)
           ];
         }
       where

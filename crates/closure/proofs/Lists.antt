@@ -26,8 +26,8 @@ length_more (y ∷ xs) x = let more = length_more xs x in omega (arith, more)
 pub each_more : {X : Type 0} (P : ℕ → X → Type 0) (xs : List X) (x d : X) → ((i : ℕ) → i < length xs → P i (get_or xs i d)) → P (length xs) x
     → (i : ℕ) → i < length xs + 1 → P i (get_or (xs ++ x ∷ []) i d)
 each_more P xs x d old new i lt = elim (cases_lt i (length xs)) [
-  | inl before ↦ subst (P i) (sym (old_item xs x i d before)) (old i before)
+  | inl before ↦ rw (old_item xs x i d before) (old i before)
   | inr past ↦
       let here : i ≡ length xs = omega (arith, lt, past) in
-      subst (P i) (sym (new_item xs x i d here)) (subst (λ (k : ℕ). P k x) (sym here) new)
+      rw (new_item xs x i d here, here) new
 ]

@@ -53,7 +53,7 @@ bucket_more groups keys new n key long is old c has at k lt = elim (cases_lt k n
       let here : k ≡ n = omega (arith, lt, past) in
       record {
         cell = c;
-        has = subst (λ (j : ℕ). Has (cells_in (boxes_of groups j)) c) (sym here) has;
+        has = rw here has;
         key = ap (λ (l : List ℕ). slice_index l k) is ∙ new_item keys key k 0 (omega (arith, here, long)) ∙ at;
       }
 ]

@@ -14,6 +14,6 @@ AreOnFloor level boxes = (c : Cell) → Has boxes c → IsFloor level c
 pub moved_on_floor : (level : Level) (boxes : Cells) (from to : Cell) → AreOnFloor level boxes → IsFloor level to → AreOnFloor level (moved boxes from to)
 moved_on_floor level boxes from to floor here c h =
     elim (has_insert (set.remove boxes from) to c h) [
-      | inl e ↦ subst (IsFloor level) (sym e) here
+      | inl e ↦ rw e here
       | inr rest ↦ floor c (has_remove boxes from c rest).1
     ]

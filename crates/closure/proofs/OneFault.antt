@@ -124,7 +124,7 @@ module _ (level : Level) (lines : List PatternLine) where
       n m
       (λ l fine faulty. unlawful_not level (pattern_of l) why faulty fine) (λ l fine faulty. unlawful_not level (pattern_of l) other faulty fine) x y in (
         sym x.number_is ∙ ap (λ (l : PatternLine). l.line) here ∙ y.number_is,
-        why_one level (pattern_of y.line) why other (subst (λ (l : PatternLine). IsUnlawful level (pattern_of l) why) here x.faulty) y.faulty,
+        why_one level (pattern_of y.line) why other (rw here at x.faulty) y.faulty,
       )
 
   covers_not : (c : Cell) (d : Dir) (l : PatternLine) → CoversPushesOf level (patterns_of lines) (pattern_of l) →
@@ -137,7 +137,7 @@ module _ (level : Level) (lines : List PatternLine) where
       let IsAt : Cell → Dir → PatternLine → Type 0 = λ c d l. HasFirstUncovered level (patterns_of lines) (pattern_of l) c d in
       let here = same_line (λ l. CoversPushesOf level (patterns_of lines) (pattern_of l)) (IsAt c d) (IsAt k e) lines n m (covers_not c d) (covers_not k e) x
       y in
-      let one = push_one level (patterns_of lines) (pattern_of y.line) c k d e (subst (IsAt c d) here x.faulty) y.faulty in
+      let one = push_one level (patterns_of lines) (pattern_of y.line) c k d e (rw here at x.faulty) y.faulty in
       (sym x.number_is ∙ ap (λ (l : PatternLine). l.line) here ∙ y.number_is, one.0, one.1)
 
   pub one_pattern_fault : (a b : CheckFault) → IsFirstPatternFault level lines a → IsFirstPatternFault level lines b → a ≡ b

@@ -28,11 +28,10 @@ module _ (level : Level) (lines : List PatternLine) (l : PatternLine) where
   -- Lawful patterns and one more are lawful.
   pub lawful_more : AreLawful level (patterns_of lines) → IsLawful level (pattern_of l) → AreLawful level (patterns_of (lines ++ l ∷ []))
   lawful_more lawful new pattern listed =
-      elim (Contains-append_cases (patterns_of lines) (pattern_of l ∷ []) pattern (subst (λ (ps : List Pattern). Contains ps pattern)
-      (map-append pattern_of lines (l ∷ [])) listed)) [
+      elim (Contains-append_cases (patterns_of lines) (pattern_of l ∷ []) pattern (rw (map-append pattern_of lines (l ∷ [])) at listed)) [
         | inl before ↦ lawful pattern before
         | inr last ↦ elim (first_or_rest (pattern_of l) [] pattern last) [
-          | inl same ↦ subst (IsLawful level) same new
+          | inl same ↦ rw same at new
           | inr none ↦ let lt = none.1 in absurd (omega (arith, lt))
         ]
       ]

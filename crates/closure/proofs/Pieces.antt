@@ -40,10 +40,10 @@ module _ (Free : Cell → Type 0) where
     pub step_back : (b : Cell) (d : Dir) → Free b → Free (neighbor b d) → IsJoined (neighbor b d) b
     step_back b d here there =
         let back = neighbor_back b d (inside b here).top (inside b here).left in
-        subst (IsJoined (neighbor b d)) back (beside (opposite d) (at_seed refl there) (subst Free (sym back) here))
+        subst (IsJoined (neighbor b d)) back (beside (opposite d) (at_seed refl there) (rw back here))
 
     pub joined_back : (x y : Cell) → IsJoined x y → IsJoined y x
-    joined_back x y (at_seed is free) = at_seed (sym is) (subst Free is free)
+    joined_back x y (at_seed is free) = at_seed (sym is) (rw is at free)
     joined_back x y (beside {c = b} d before free) =
         joined_on (neighbor b d) b x (step_back b d (joined_free (λ seed. seed ≡ x) b before) free) (joined_back x b before)
 
@@ -55,7 +55,7 @@ module _ (Free : Cell → Type 0) where
       by_corner d e same linked free =
           let (next, corner) = linked free in
           joined_on (neighbor c d) (neighbor (neighbor c d) e) (neighbor c e) (beside e (at_seed refl free) corner)
-          (subst (λ (q : Cell). IsJoined q (neighbor c e)) (sym same) (step_back (neighbor c e) d next (subst Free same corner)))
+          (rw same (step_back (neighbor c e) d next (rw same at corner)))
 
       abbrev LeadsTo : Dir → Dir → Type 0
       LeadsTo d e = Free (neighbor c d) → IsJoined (neighbor c d) (neighbor c e)
@@ -112,12 +112,11 @@ module _ (Free New : Cell → Type 0) (k : Cell) (shape : Extent) (inside : (c :
   ComesTo x z = ((z ≡ k → ⊥) → IsJoined New x z) × (z ≡ k → (d : Dir) → New (neighbor k d) → IsJoined New x (neighbor k d))
 
   comes : (x z : Cell) → New x → IsJoined Free x z → ComesTo x z
-  comes x z new (at_seed is free) = (λ _. at_seed is (subst New (sym is) new), λ here. absurd (((turn x).0 new).1 (sym is ∙ here)))
+  comes x z new (at_seed is free) = (λ _. at_seed is (rw is new), λ here. absurd (((turn x).0 new).1 (sym is ∙ here)))
   comes x z new (beside {c = b} d before free) =
       let so_far = comes x b new before in (
         λ other. same_or_other b k
-            (λ at. subst (λ (q : Cell). IsJoined New x (neighbor q d)) (sym at)
-            (so_far.1 at d (subst (λ (q : Cell). New (neighbor q d)) at ((turn (neighbor b d)).1 (free, other)))))
+            (λ at. rw at (so_far.1 at d (subst (λ (q : Cell). New (neighbor q d)) at ((turn (neighbor b d)).1 (free, other)))))
             (λ off. beside d (so_far.0 (other_cell b k off)) ((turn (neighbor b d)).1 (free, other))),
         λ here e next. same_or_other b k
             (λ at. so_far.1 at e next)
@@ -127,7 +126,7 @@ module _ (Free New : Cell → Type 0) (k : Cell) (shape : Extent) (inside : (c :
             let on = inside b before_free in
             let back : neighbor k (opposite d) ≡ b = ap (λ (q : Cell). neighbor q (opposite d)) (sym here) ∙ neighbor_back b d on.top on.left in
             joined_on New x b (neighbor k e) (so_far.0 (other_cell b k off))
-            (subst (λ (q : Cell). IsJoined New q (neighbor k e)) back (sides (opposite d) e (subst New (sym back) is_new) next))),
+            (rw back at (sides (opposite d) e (rw back is_new) next))),
       )
 
   pub one_piece_without : IsOnePiece Free → IsOnePiece New
@@ -138,7 +137,7 @@ module _ (Free New : Cell → Type 0) (k : Cell) (shape : Extent) (inside : (c :
 -- ---- the room of a board is in one piece
 module _ (level : Level) (formed : IsWellFormed level) where
   from_player : (c : Cell) → Joined (IsFloor level) (λ seed. seed ≡ level.player) c → IsJoined (Has level.room) level.player c
-  from_player c (at_seed is floor) = at_seed is (subst (Has level.room) (sym is) formed.here)
+  from_player c (at_seed is floor) = at_seed is (rw is formed.here)
   from_player c (beside {c = b} d before floor) =
       let chain = from_player b before in
       beside d chain (formed.goes_on b d (joined_free (Has level.room) (λ seed. seed ≡ level.player) b chain) floor)
@@ -152,5 +151,5 @@ module _ (level : Level) (formed : IsWellFormed level) where
 -- ---- what is in one piece is reached from each of its cells
 pub reached_whole : (Free Begins : Cell → Type 0) → IsOnePiece Free → (x : Cell) → Begins x → Free x → (c : Cell) → Free c → Reached (WalksTo Free) Begins c
 reached_whole Free Begins whole x begun free c to =
-    walked_more Free Free (λ q. (q ≡ x) × Free q) Begins (λ _ h. h) (λ q both. subst Begins (sym both.0) begun) c
+    walked_more Free Free (λ q. (q ≡ x) × Free q) Begins (λ _ h. h) (λ q both. rw both.0 begun) c
     ((joined_is Free (λ q. q ≡ x) c).0 (whole x c free to))

@@ -12,7 +12,7 @@ use Rattle.cellset.proofs.Members.{cells_total, same, same_itself, same_or_other
 use Rattle.cellset.proofs.Truth.{left_true, right_true, or_cases, and_parts, not_true}
 
 pub other_member : (s : Cells) (c k : Cell) → Has s c → Lacks s k → c ≢ k
-other_member s c k has lacks e = not_both s k (subst (Has s) e has) lacks
+other_member s c k has lacks e = not_both s k (rw e at has) lacks
 
 pub removed_lacks : (s : Cells) (c : Cell) → Lacks (set.remove s c) c
 removed_lacks s c = lacks_where (set.remove s c) c (λ h. (has_remove s c c h).0 refl)
@@ -20,9 +20,9 @@ removed_lacks s c = lacks_where (set.remove s c) c (λ h. (has_remove s c c h).0
 -- a member that is removed and inserted again leaves the set as it was
 pub put_back : (s : Cells) (c : Cell) → Has s c → set.insert (set.remove s c) c ≡ s
 put_back s c has = same_members _ s
-    (λ q h. elim (has_insert (set.remove s c) c q h) [ inl e ↦ subst (Has s) (sym e) has | inr r ↦ (has_remove s c q r).1 ])
+    (λ q h. elim (has_insert (set.remove s c) c q h) [ inl e ↦ rw e has | inr r ↦ (has_remove s c q r).1 ])
     (λ q h. same_or_other q c {G = Has (set.insert (set.remove s c) c) q}
-    (λ e. subst (Has (set.insert (set.remove s c) c)) (sym e) (inserted (set.remove s c) c))
+    (λ e. rw e (inserted (set.remove s c) c))
     (λ f. kept_by_insert (set.remove s c) c q (kept_by_remove s c q (λ e. false≢true (sym f ∙ (ap (λ x. same x c) e ∙ same_itself c))) h)))
 
 -- ---- unions, intersections and differences
@@ -30,7 +30,7 @@ and_both : (a b : Bool) → a ≡ true → b ≡ true → (a && b) ≡ true
 and_both a b h k = ap (λ v. v && b) h ∙ k
 
 pub other_where : (s : Cells) (c k : Cell) → Lacks s c → Has s k → c ≢ k
-other_where s c k lacks has e = not_both s k has (subst (Lacks s) e lacks)
+other_where s c k lacks has e = not_both s k has (rw e at lacks)
 
 pub has_intersection : (s t : Cells) (c : Cell) → Has (set.intersection s t) c → Has s c × Has t c
 has_intersection s t c h = and_parts _ _ (sym (contains-intersection cells_total s t c) ∙ h)
@@ -85,13 +85,13 @@ moved_back s from to has lacks =
     let there = set.insert (set.remove s from) to in
     same_members _ s
     (λ c h. elim (has_insert (set.remove there to) from c h) [
-      | inl e ↦ subst (Has s) (sym e) has
+      | inl e ↦ rw e has
       | inr kept ↦
           let old = has_remove there to c kept in
           elim (has_insert (set.remove s from) to c old.1) [ inl e ↦ absurd (old.0 e) | inr rest ↦ (has_remove s from c rest).1 ]
     ])
     (λ c h. same_or_other c from {G = Has (set.insert (set.remove there to) from) c}
-    (λ e. subst (Has (set.insert (set.remove there to) from)) (sym e) (inserted (set.remove there to) from))
+    (λ e. rw e (inserted (set.remove there to) from))
     (λ f. kept_by_insert (set.remove there to) from c
     (kept_by_remove there to c (other_member s c to h lacks)
     (kept_by_insert (set.remove s from) to c (kept_by_remove s from c (λ e. false≢true (sym f ∙ (ap (λ x. same x from) e ∙ same_itself from))) h)))))

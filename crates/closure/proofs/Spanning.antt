@@ -25,7 +25,7 @@ use Rattle.closure.proofs.Sets.{removed_lacks}
 
 -- Cells that don't compare equal are two cells.
 pub other_cell : (a b : Cell) → same a b ≡ false → a ≡ b → ⊥
-other_cell a b other e = false≢true (sym other ∙ subst (λ (q : Cell). same a q ≡ true) e (same_itself a))
+other_cell a b other e = false≢true (sym other ∙ rw (← e) (same_itself a))
 
 pub lacks_remove : (s : Cells) (k c : Cell) → Lacks s c → Lacks (finset.remove s k) c
 lacks_remove s k c lacks = lacks_where (finset.remove s k) c (λ h. not_both s c (has_remove s k c h).1 lacks)
@@ -51,24 +51,23 @@ module _ (level : Level) (root : Cell) (room : Has level.room root) (player : ro
       → get_or new.numbers.items (index_of root) 0 ≡ 0 → IsGrowing level left new
   root_alone left s new left_is cell_is steps_is long number = record {
     nodes = record {
-      some = subst (λ (l : List Node). 0 < length l) (sym steps_is) (omega arith);
-      begin = λ d. subst (λ (l : List Node). (get_or l 0 d).cell ≡ level.player) (sym steps_is) (cell_is ∙ player);
-      room = λ i d lt. only_one (λ x. Has level.room x.cell) i d lt (subst (Has level.room) (sym cell_is) room);
+      some = rw steps_is (omega arith);
+      begin = λ d. rw steps_is (cell_is ∙ player);
+      room = λ i d lt. only_one (λ x. Has level.room x.cell) i d lt (rw cell_is room);
       down = λ i d up lt. absurd (first_alone i up lt);
       leads = λ i d up lt. absurd (first_alone i up lt);
     };
     long = long;
-    in_room = λ c h. (has_remove level.room root c (subst (λ (t : Cells). Has t c) left_is h)).1;
+    in_room = λ c h. (has_remove level.room root c (rw left_is at h)).1;
     each = λ c inside lacks.
         same_or_other c root
-        (λ same. subst (IsNumbered new.numbers.items new.nodes.items) (sym same) (record {
-          within = subst (λ (l : List Node). get_or new.numbers.items (index_of root) 0 < length l) (sym steps_is) (omega (arith, number));
-          same = λ d. subst (λ (k : ℕ). (get_or new.nodes.items k d).cell ≡ root) (sym number) (subst (λ (l : List Node). (get_or l 0 d).cell ≡ root)
-              (sym steps_is) cell_is);
+        (λ same. rw same (record {
+          within = rw steps_is (omega (arith, number));
+          same = λ d. rw (number, steps_is) cell_is;
         }))
-        (λ other. absurd (not_both left c (subst (λ (t : Cells). Has t c) (sym left_is) (kept_by_remove level.room root c (other_cell c root other) inside))
+        (λ other. absurd (not_both left c (rw left_is (kept_by_remove level.room root c (other_cell c root other) inside))
         lacks));
-    begun = subst (Lacks left) player (subst (λ (t : Cells). Lacks t root) (sym left_is) (removed_lacks level.room root));
+    begun = rw (← left_is, player) at (removed_lacks level.room root);
   }
     where
       one : length new.nodes.items ≡ 1
@@ -81,7 +80,7 @@ module _ (level : Level) (root : Cell) (room : Has level.room root) (player : ro
       only_one P i d lt p =
           let long_is = one in
           let none : i ≡ 0 = omega (arith, lt, long_is) in
-          subst (λ (k : ℕ). P (get_or new.nodes.items k d)) (sym none) (subst (λ (l : List Node). P (get_or l 0 d)) (sym steps_is) p)
+          rw (none, steps_is) p
 
 module _ (level : Level) (formed : IsWellFormed level) (left : Cells) (old : Tree) (growing : IsGrowing level left old) where
   abbrev nodes : List Node
@@ -129,7 +128,7 @@ module _ (level : Level) (formed : IsWellFormed level) (left : Cells) (old : Tre
           begin = λ d. kept_item (λ x. x.cell ≡ level.player) 0 d some (growing.nodes.begin d);
           room = λ i d below. low_or_last i below
               (λ low. kept_item (λ x. Has level.room x.cell) i d low (growing.nodes.room i d low))
-              (λ last. last_item (λ x. Has level.room x.cell) i d last (subst (Has level.room) (sym cell_is) (growing.in_room cell has)));
+              (λ last. last_item (λ x. Has level.room x.cell) i d last (rw (← cell_is) at (growing.in_room cell has)));
           down = λ i d up below. low_or_last i below
               (λ low. kept_item (λ x. x.parent < i) i d low (growing.nodes.down i d up low))
               (λ last. last_item (λ x. x.parent < i) i d last (omega (arith, next_is, last, lt)));
@@ -140,7 +139,7 @@ module _ (level : Level) (formed : IsWellFormed level) (left : Cells) (old : Tre
               (kept_item (λ y. neighbor (get_or nodes i d).cell (get_or nodes i d).dir ≡ y.cell) (get_or nodes i d).parent d (omega (arith, before, low))
               (growing.nodes.leads i d up low)))
               (λ last. last_item (λ x. neighbor x.cell x.dir ≡ (get_or more x.parent d).cell) i d last
-              (subst (λ (k : ℕ). neighbor s.cell s.dir ≡ (get_or more k d).cell) (sym next_is) (kept_item (λ y. neighbor s.cell s.dir ≡ y.cell) from d lt
+              (rw (← next_is) at (kept_item (λ y. neighbor s.cell s.dir ≡ y.cell) from d lt
               (back_to d))));
         }
 
@@ -153,9 +152,9 @@ module _ (level : Level) (formed : IsWellFormed level) (left : Cells) (old : Tre
         same_or_other c cell
         (λ same.
         let number = get_or-set_same numbers (index_of cell) (length nodes) 0 here.0 in
-        subst (IsNumbered (set numbers (index_of cell) (length nodes)) more) (sym same) (record {
+        rw same (record {
           within = omega (arith, number, long);
-          same = λ d. subst (λ (k : ℕ). (get_or more k d).cell ≡ cell) (sym number) (last_item (λ x. x.cell ≡ cell) (length nodes) d refl cell_is);
+          same = λ d. rw number (last_item (λ x. x.cell ≡ cell) (length nodes) d refl cell_is);
         }))
         (λ other.
         let ne : index_of c ≢ index_of cell = λ e. other_cell c cell other (same_index c cell there.1 here.1 e) in
@@ -166,18 +165,17 @@ module _ (level : Level) (formed : IsWellFormed level) (left : Cells) (old : Tre
         let within = was.within in
         record {
           within = omega (arith, number, within, long);
-          same = λ d. subst (λ (k : ℕ). (get_or more k d).cell ≡ c) (sym number) (kept_item (λ x. x.cell ≡ c) (get_or numbers (index_of c) 0) d within
+          same = λ d. rw number (kept_item (λ x. x.cell ≡ c) (get_or numbers (index_of c) 0) d within
               (was.same d));
         })
 
     pub laid_more : (new : Tree) → new.numbers.items ≡ set old.numbers.items (index_of cell) (length nodes) → new.nodes.items ≡ more →
         IsGrowing level (finset.remove left cell) new
     laid_more new numbers_is steps_is = record {
-      nodes = subst (AreNodes level) (sym steps_is) more_steps;
+      nodes = rw steps_is more_steps;
       long = ap (λ (l : List ℕ). length l) numbers_is ∙ length-set old.numbers.items (index_of cell) (length nodes) ∙ growing.long;
       in_room = λ c h. growing.in_room c (has_remove left cell c h).1;
-      each = λ c room lacks. subst (λ (n : List ℕ). IsNumbered n new.nodes.items c) (sym numbers_is)
-          (subst (λ (l : List Node). IsNumbered (set old.numbers.items (index_of cell) (length nodes)) l c) (sym steps_is) (numbered c room lacks));
+      each = λ c room lacks. rw (numbers_is, steps_is) (numbered c room lacks);
       begun = lacks_remove left cell level.player growing.begun;
     }
 
@@ -191,10 +189,10 @@ module _ (level : Level) (formed : IsWellFormed level) (left : Cells) (old : Tre
         let number = growing.each c room lacks in
         let i = get_or old.numbers.items (index_of c) 0 in
         subst (λ (q : Cell). Lacks left (neighbor q d)) (number.same default)
-        (joined i default d number.within (subst (λ (q : Cell). Has level.room (neighbor q d)) (sym (number.same default)) ahead))
+        (joined i default d number.within (rw (number.same default) ahead))
 
     along : (c : Cell) → Joined (IsFloor level) (λ q. q ≡ level.player) c → Has level.room c × Lacks left c
-    along c (at_seed seed floor) = (subst (Has level.room) (sym seed) formed.here, subst (Lacks left) (sym seed) growing.begun)
+    along c (at_seed seed floor) = (rw seed formed.here, rw seed growing.begun)
     along _ (beside {c = b} d before floor) =
         let was = along b before in
         let room = formed.goes_on b d was.0 floor in
@@ -226,18 +224,18 @@ module _ (level : Level) (from : ℕ) (a b c e f : Cells) (p q r u v : List Node
   at_turn s U room =
       let same = one.same_item from s lt in
       let P : Node → Type 0 = λ x. Lacks f (neighbor x.cell U) in
-      subst P same (four.kept _ (three.kept _ (two.joined s (subst (λ (x : Node). Has level.room (neighbor x.cell U)) (sym same) room))))
+      subst P same (four.kept _ (three.kept _ (two.joined s (rw same room))))
   at_turn s R room =
       let n = one.longer in
       let same = two.same_item from s (omega (arith, lt, n)) ∙ one.same_item from s lt in
       let P : Node → Type 0 = λ x. Lacks f (neighbor x.cell R) in
-      subst P same (four.kept _ (three.joined s (subst (λ (x : Node). Has level.room (neighbor x.cell R)) (sym same) room)))
+      subst P same (four.kept _ (three.joined s (rw same room)))
   at_turn s D room =
       let n = one.longer in
       let m = two.longer in
       let same = three.same_item from s (omega (arith, lt, n, m)) ∙ (two.same_item from s (omega (arith, lt, n)) ∙ one.same_item from s lt) in
       let P : Node → Type 0 = λ x. Lacks f (neighbor x.cell D) in
-      subst P same (four.joined s (subst (λ (x : Node). Has level.room (neighbor x.cell D)) (sym same) room))
+      subst P same (four.joined s (rw same room))
 
   pub turned : AreJoinedBeside level a p from → AreJoinedBeside level f v (from + 1)
   turned before i s d below room =
@@ -246,9 +244,9 @@ module _ (level : Level) (from : ℕ) (a b c e f : Cells) (p q r u v : List Node
       elim (cases_lt i from) [
         | inl low ↦
             let same = first_item i s (omega (arith, low, lt)) in
-            subst P (sym same) (four.kept _ (three.kept _ (two.kept _ (one.kept _ (before i s d low (subst Q same room))))))
+            rw same (four.kept _ (three.kept _ (two.kept _ (one.kept _ (before i s d low (rw same at room))))))
         | inr past ↦
             let here : i ≡ from = omega (arith, past, below) in
             let same = ap (λ (k : ℕ). get_or v k s) here ∙ first_item from s lt in
-            subst P (sym same) (at_turn s d (subst Q same room))
+            rw same (at_turn s d (rw same at room))
       ]

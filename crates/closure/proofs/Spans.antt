@@ -61,18 +61,15 @@ spans_push n m le spans are =
     let longer = length_more spans new in
     record {
       within = λ g lt. elim (cases_lt g (length spans)) [
-        | inl before ↦ subst (IsWithin m) (sym (old_item spans new g no_span before)) (within_more n m le _ (are.within g before))
-        | inr past ↦ subst (IsWithin m) (sym (new_item spans new g no_span (omega (arith, lt, longer, past)))) (record { up = le; end = omega arith })
+        | inl before ↦ rw (old_item spans new g no_span before) (within_more n m le _ (are.within g before))
+        | inr past ↦ rw (new_item spans new g no_span (omega (arith, lt, longer, past))) (record { up = le; end = omega arith })
       ];
       apart = λ g h lt before. elim (cases_lt g (length spans)) [
         | inl low ↦
-            subst (λ (x : Span). x.to ≤ (span_at more g).from) (sym (old_item spans new h no_span (omega (arith, before, low))))
-            (subst (λ (x : Span). (span_at spans h).to ≤ x.from) (sym (old_item spans new g no_span low)) (are.apart g h low before))
+            rw (old_item spans new h no_span (omega (arith, before, low)), old_item spans new g no_span low) (are.apart g h low before)
         | inr past ↦
             let early : h < length spans = omega (arith, before, lt, longer) in
-            subst (λ (x : Span). x.to ≤ (span_at more g).from) (sym (old_item spans new h no_span early))
-            (subst (λ (x : Span). (span_at spans h).to ≤ x.from) (sym (new_item spans new g no_span (omega (arith, lt, longer, past))))
-            (are.within h early).end)
+            rw (old_item spans new h no_span early, new_item spans new g no_span (omega (arith, lt, longer, past))) (are.within h early).end
       ];
     }
 
@@ -135,8 +132,7 @@ pub some_said : (was seeds : List Cell) (coords : List Coord) → seeds ≡ was 
     → AreSaid was seeds (Some (record { from = length was; to = length seeds })) (Some coords)
 some_said was seeds coords is = record {
   grown = (map cell_of coords, is);
-  within = λ s told. subst (IsWithin (length seeds)) (ap (λ (o : Option Span). unwrap_or o no_span) told)
-      (record { up = grown_longer was seeds (map cell_of coords, is); end = omega arith });
+  within = λ s told. rw (← (ap (λ (o : Option Span). unwrap_or o no_span) told)) (record { up = grown_longer was seeds (map cell_of coords, is); end = omega arith });
   named = ap Some (part_named was seeds coords is);
 }
 
@@ -151,8 +147,7 @@ module _ (was_boxes boxes was_seeds seeds : List Cell) (lines : List StoredLine)
 
   pub pushed_within : (ok : Bool) → AreWithin boxes seeds (if ok then lines ++ new_line ∷ [] else lines)
   pushed_within true = record {
-    boxes_in = subst (AreSpans (length boxes)) (sym (map_push (λ l. l.boxes) lines new_line))
-        (spans_push _ _ (grown_longer was_boxes boxes (map cell_of coords, added)) _ are.boxes_in);
+    boxes_in = rw (map_push (λ l. l.boxes) lines new_line) (spans_push _ _ (grown_longer was_boxes boxes (map cell_of coords, added)) _ are.boxes_in);
     seeds_in = λ l s listed is. elim (Contains-push_cases lines new_line l listed) [
       | inl old ↦ old_within.seeds_in l s old is
       | inr new ↦ are_said.within s (ap (λ (x : StoredLine). x.seeds) new ∙ is)

@@ -25,19 +25,19 @@ use Rattle.closure.proofs.Spanning.{other_cell}
 
 -- No box is on a trap without cells.
 pub none_off : (trap : Cells) → trap ≡ set.empty → (boxes : List Cell) → AreOff trap boxes
-none_off trap none boxes c has = lacks_where trap c (λ on. has_empty c (subst (λ (s : Cells). Has s c) none on))
+none_off trap none boxes c has = lacks_where trap c (λ on. has_empty c (rw none at on))
 
 -- No cells are a trap of any list.
 pub no_trap : (level : Level) (patterns : List Pattern) (trap : CellsOn) → trap.extent ≡ level.shape → trap.members ≡ set.empty → IsTrapOf level patterns trap
 no_trap level patterns trap extent none =
-    let never = λ (c : Cell) (has : Has trap.members c). has_empty c (subst (λ (s : Cells). Has s c) none has) in
+    let never = λ (c : Cell) (has : Has trap.members c). has_empty c (rw none at has) in
     record { extent = extent; singles = λ c has. absurd (never c has); closed = λ b c has _. absurd (never b has) }
 
 -- Boxes that are off the trap are so after a push to a cell off it.
 pub off_after : (trap : Cells) (boxes : List Cell) (from to : Cell) → AreOff trap boxes → Lacks trap to → (c : Cell) → Has (moved (cells_in boxes) from to) c →
     Lacks trap c
 off_after trap boxes from to off free c has = either (has_insert (set.remove (cells_in boxes) from) to c has)
-    (λ same. subst (Lacks trap) (sym same) free)
+    (λ same. rw same free)
     (λ rest. off c (has_remove (cells_in boxes) from c rest).1)
 
 module _ (level : Level) (formed : IsWellFormed level) (patterns : List Pattern) (trap : CellsOn) (is : IsTrapOf level patterns trap) where
@@ -46,7 +46,7 @@ module _ (level : Level) (formed : IsWellFormed level) (patterns : List Pattern)
     single c,
     is.singles c has,
     record {
-      boxes = λ q named. subst (Has s.boxes) (sym (has_only c q named)) box;
+      boxes = λ q named. rw (has_only c q named) box;
       player = (room_outside level formed (only c) s.player).0 (inside, lacks_only c s.player other);
     },
   )
@@ -59,10 +59,10 @@ module _ (level : Level) (formed : IsWellFormed level) (patterns : List Pattern)
     from_room : Has level.room push.from
     from_room =
         subst (Has level.room) (sym out.next_cell) (formed.goes_on push.player push.dir (room push.player out.standing)
-        (subst (IsFloor level) out.next_cell (floor push.from out.box)))
+        (rw out.next_cell at (floor push.from out.box)))
 
     to_room : Has level.room (neighbor push.from push.dir)
-    to_room = formed.goes_on push.from push.dir from_room (subst (IsFloor level) out.cell_behind (out.free.on, out.free.no_wall))
+    to_room = formed.goes_on push.from push.dir from_room (rw (← out.cell_behind) (out.free.on, out.free.no_wall))
 
     behind : neighbor push.from (opposite push.dir) ≡ push.player
     behind =
@@ -77,11 +77,11 @@ module _ (level : Level) (formed : IsWellFormed level) (patterns : List Pattern)
     -- So is that of each push of a pattern with a box on the trap.
     pub trapped_push : (c : Cell) → Has pattern.boxes c → Has trap.members c → IsCovered level patterns (after_push pattern push)
     trapped_push c box has = same_or_other c push.from
-        (λ same. onto_trap (is.closed push.from push.to (subst (Has trap.members) same has) (record {
+        (λ same. onto_trap (is.closed push.from push.to (rw same at has) (record {
           dir = push.dir;
           next = out.cell_behind;
-          behind = subst (Has level.room) (sym behind) (room push.player out.standing);
-          ahead = subst (Has level.room) (sym out.cell_behind) to_room;
+          behind = rw behind (room push.player out.standing);
+          ahead = rw out.cell_behind to_room;
         })))
         (λ other.
         let apart = other_cell c push.from other in

@@ -12,12 +12,12 @@ use Rattle.closure.specs.Pattern.{cells_of}
 -- A turn adds its cell if another set has it, and adds nothing if that set lacks it.
 pub one_in : (In Other New : Cell → Type 0) (q : Cell) → Other q → ((c : Cell) → New c ↔ (In c ⊎ (c ≡ q))) → (c : Cell) → New c ↔ (In c ⊎ ((c ≡ q) × Other c))
 one_in In Other New q other turn c = (
-  λ h. either ((turn c).0 h) (λ old. inl old) (λ same. inr (same, subst Other (sym same) other)),
+  λ h. either ((turn c).0 h) (λ old. inl old) (λ same. inr (same, rw same other)),
   λ h. (turn c).1 (either h (λ old. inl old) (λ new. inr new.0)),
 )
 
 pub none_in : (In Other : Cell → Type 0) (q : Cell) → (Other q → ⊥) → (c : Cell) → In c ↔ (In c ⊎ ((c ≡ q) × Other c))
-none_in In Other q never c = (λ h. inl h, λ h. either h (λ old. old) (λ new. absurd (never (subst Other new.0 new.1))))
+none_in In Other q never c = (λ h. inl h, λ h. either h (λ old. old) (λ new. absurd (never (rw new.0 at new.1))))
 
 -- ---- the cells of a list, one after another
 lacks_insert : (s : Cells) (k c : Cell) → (c ≡ k → ⊥) → Lacks s c → Lacks (set.insert s k) c
@@ -32,7 +32,7 @@ module _ (passed after : Cells) (q : Cell) (one_more : after ≡ set.insert pass
         (λ h. let now = (turn c).0 h in let old = (so_far c).0 now.0 in (old.0, lacks_insert passed q c now.1 old.1)),
         (λ both. (turn c).1 (
           (so_far c).1 (both.0, lacks_where passed c (λ has. not_both next c (kept_by_insert passed q c has) both.1)),
-          (λ same. not_both next c (subst (Has next) (sym same) (inserted passed q)) both.1),
+          (λ same. not_both next c (rw same (inserted passed q)) both.1),
         )),
       )
 
@@ -44,7 +44,7 @@ module _ (passed after : Cells) (q : Cell) (one_more : after ≡ set.insert pass
       subst (λ (s : Cells). New c ↔ (Old c ⊎ (Has s c × Other c))) (sym one_more) (
         (λ h. either ((turn c).0 h)
             (λ now. either ((so_far c).0 now) (λ old. inl old) (λ both. inr (kept_by_insert passed q c both.0, both.1)))
-            (λ new. inr (subst (Has next) (sym new.0) (inserted passed q), new.1))),
+            (λ new. inr (rw new.0 (inserted passed q), new.1))),
         (λ h. either h
             (λ old. (turn c).1 (inl ((so_far c).1 (inl old))))
             (λ both. either (has_insert passed q c both.0)

@@ -25,12 +25,12 @@ moved_inside zone boxes from to in_from in_to box free =
     let before = set.intersection zone boxes in
     let after : set.intersection zone (moved boxes from to) ≡ set.insert (set.remove before from) to = same_members _ _
     (λ c h. let both = has_intersection zone (moved boxes from to) c h in elim (has_insert (set.remove boxes from) to c both.1) [
-      | inl e ↦ subst (Has (set.insert (set.remove before from) to)) (sym e) (inserted (set.remove before from) to)
+      | inl e ↦ rw e (inserted (set.remove before from) to)
       | inr rest ↦ let old = has_remove boxes from c rest in
           kept_by_insert (set.remove before from) to c (kept_by_remove before from c old.0 (in_intersection zone boxes c both.0 old.1))
     ])
     (λ c h. elim (has_insert (set.remove before from) to c h) [
-      | inl e ↦ subst (Has (set.intersection zone (moved boxes from to))) (sym e) (in_intersection zone (moved boxes from to) to in_to
+      | inl e ↦ rw e (in_intersection zone (moved boxes from to) to in_to
           (inserted (set.remove boxes from) to))
       | inr rest ↦ let old = has_remove before from c rest in let both = has_intersection zone boxes c old.1 in
           in_intersection zone (moved boxes from to) c both.0 (kept_by_insert (set.remove boxes from) to c (kept_by_remove boxes from c old.0 both.1))
@@ -43,7 +43,7 @@ moved_outside : (zone boxes : Cells) (from to : Cell) → Lacks zone from → co
 moved_outside zone boxes from to outside = len-within (set.intersection zone boxes) (set.intersection zone (moved boxes from to))
     (λ c h. let both = has_intersection zone boxes c h in
     in_intersection zone (moved boxes from to) c both.0
-    (kept_by_insert (set.remove boxes from) to c (kept_by_remove boxes from c (λ e. not_both zone from (subst (Has zone) e both.0) outside) both.1)))
+    (kept_by_insert (set.remove boxes from) to c (kept_by_remove boxes from c (λ e. not_both zone from (rw e at both.0) outside) both.1)))
 
 module _ (level : Level) (zone : Cells) (formed : IsWellFormed level) (closed : IsClosedZone level zone) where
   -- A box of a closed zone that is pushed stays in the zone.
@@ -68,7 +68,7 @@ module _ (level : Level) (zone : Cells) (formed : IsWellFormed level) (closed : 
       let stands = formed.room s.player keeps.room in
       let back = neighbor_back s.player d stands.0.top stands.0.left in
       let no_fewer : count_in zone s.boxes ≤ count_in zone (moved s.boxes from to) = has_or_lacks zone from
-      (λ inside. let same = moved_inside zone s.boxes from to inside (stays from d inside (subst (Has level.room) (sym back) keeps.room) floor) box free in
+      (λ inside. let same = moved_inside zone s.boxes from to inside (stays from d inside (rw back keeps.room) floor) box free in
       omega (arith, same))
       (λ outside. moved_outside zone s.boxes from to outside) in
       let before = keeps.count in

@@ -30,5 +30,5 @@ returns-clause-exact c =
     let all = take_all c.loop-at.at-index c.args.coords.now c.loop-at-test.false in (
       λ i. record { from = from i; to = to i },
       c.loop-at.invariant.same ∙ ap (λ (l : List Coord). c.args.cells.now.items ++ map cell_of l) all,
-      each_in (IsOn c.args.shape) _ (subst (λ (l : List Coord). All (IsOn c.args.shape) (map cell_of l)) all c.loop-at.invariant.on),
+      each_in (IsOn c.args.shape) _ (rw all at c.loop-at.invariant.on),
     )

@@ -22,7 +22,7 @@ module _ (keys first next : List ℕ) (count item : ℕ) (far : item < length ke
         let back : item + 1 - 1 ≡ item = omega arith in
         let read = ap (λ (j : ℕ). get_or (set first (slice_index keys item) (item + 1)) j 0) same ∙
         get_or-set_same first (slice_index keys item) (item + 1) 0 (omega (arith, low, firsts)) in
-        subst (IsLast keys k (item + 1)) (sym read) (record {
+        rw read (record {
           within = omega arith;
           has_key = λ _. ap (λ (i : ℕ). slice_index keys i) back ∙ sym same;
           others = λ j past less _. absurd (omega (arith, past, less));
@@ -30,7 +30,7 @@ module _ (keys first next : List ℕ) (count item : ℕ) (far : item < length ke
     | inr apart ↦
         let was = lasts k lt in
         let within = was.within in
-        subst (IsLast keys k (item + 1)) (sym (get_or-set_other first (slice_index keys item) k (item + 1) 0 apart)) (record {
+        rw (get_or-set_other first (slice_index keys item) k (item + 1) 0 apart) (record {
           within = omega (arith, within);
           has_key = was.has_key;
           others = λ j past less here. elim (cases_lt j item) [
@@ -46,13 +46,12 @@ module _ (keys first next : List ℕ) (count item : ℕ) (far : item < length ke
       ((j : ℕ) → j < item → IsLast keys (slice_index keys j) j (slice_index next j))
       → (j : ℕ) → j < item + 1 → IsLast keys (slice_index keys j) j (slice_index new j)
   before_more new is before j lt = elim (cases_lt j item) [
-    | inl less ↦ subst (IsLast keys (slice_index keys j) j) (sym (ap (λ (l : List ℕ). slice_index l j) is ∙
-        old_item next (slice_index first (slice_index keys item)) j 0 (omega (arith, less, nexts)))) (before j less)
+    | inl less ↦ rw (sym (ap (λ (l : List ℕ). slice_index l j) is ∙
+        old_item next (slice_index first (slice_index keys item)) j 0 (omega (arith, less, nexts)))) at (before j less)
     | inr after ↦
         let at : j ≡ item = omega (arith, lt, after) in
         let read = ap (λ (l : List ℕ). slice_index l j) is ∙ new_item next (slice_index first (slice_index keys item)) j 0 (omega (arith, at, nexts)) in
-        subst (IsLast keys (slice_index keys j) j) (sym read)
-        (subst (λ (i : ℕ). IsLast keys (slice_index keys i) i (slice_index first (slice_index keys item))) (sym at) (lasts (slice_index keys item) low))
+        rw read (rw at (lasts (slice_index keys item) low))
   ]
 
   firsts_more : length (set first (slice_index keys item) (item + 1)) ≡ count
@@ -78,7 +77,7 @@ loop-item-preserved c =
     record {
       firsts = firsts_more keys first next c.args.count item far low inv.firsts inv.nexts inv.lasts;
       nexts = nexts_more keys first next c.args.count item far low inv.firsts inv.nexts inv.lasts c.index.result.now c.push_reserved.new.self.items pushed;
-      roomy = subst (λ (k : ℕ). length keys ≤ k) (sym c.push_reserved.ensures.capacity) inv.roomy;
+      roomy = rw c.push_reserved.ensures.capacity inv.roomy;
       lasts = lasts_more keys first next c.args.count item far low inv.firsts inv.nexts inv.lasts;
       before = before_more keys first next c.args.count item far low inv.firsts inv.nexts inv.lasts c.push_reserved.new.self.items (pushed ∙
           ap (λ (k : ℕ). next ++ k ∷ []) read) inv.before;
@@ -94,7 +93,7 @@ returns c =
     record {
       firsts = inv.firsts;
       nexts = inv.nexts ∙ all;
-      lasts = λ k lt. subst (λ (n : ℕ). IsLast c.args.keys.now k n (slice_index first k)) all (inv.lasts k lt);
+      lasts = λ k lt. rw all at (inv.lasts k lt);
       before = λ j lt. inv.before j (omega (arith, lt, all));
     }
 

@@ -7,7 +7,7 @@ use Rattle.closure.proofs.checking.add_player.Goals as goal
 pub returns-then-contains-clause-inside : goal.returns-then-contains-clause-inside
 returns-then-contains-clause-inside g c = rw c.insert.ensures.members (λ q has.
     elim (has_insert (g.S.CellSet.members c.args.players.now) c.in-Some.player q has) [
-      | inl here ↦ subst (Has (g.S.CellSet.members c.args.region.now)) (sym here) (sym c.contains.ensures ∙ c.if-contains.true)
+      | inl here ↦ rw here (sym c.contains.ensures ∙ c.if-contains.true)
       | inr old ↦ c.requires.inside q old
     ])
 
@@ -17,4 +17,4 @@ returns-then-contains-clause-kept g c = rw c.insert.ensures.members (kept_by_ins
 pub returns-then-contains-clause-added : goal.returns-then-contains-clause-added
 returns-then-contains-clause-added g c = λ _.
     let players = g.S.CellSet.members c.args.players.now in
-    rw c.insert.ensures.members (subst (Has (set.insert players c.in-Some.player)) c.in-Some.ensures.1 (inserted players c.in-Some.player))
+    rw (c.insert.ensures.members, ← c.in-Some.ensures.1) (inserted players c.in-Some.player)

@@ -36,8 +36,7 @@ returns-in-Some-clause-exact g c = λ _.
     let low : line < length (lines_in arena) = rw (length-map arena.lines.items here) within in (
       c.requires.tables.are.lawful,
       c.requires.start,
-      subst (IsFirstFaultyLine (λ l. CoversPushesOf level patterns (pattern_of l)) (λ l. Faulty (pattern_of l)) (lines_in arena)) number
-          (first_line (CoversPushesOf level patterns) Faulty (lines_in arena) line _ read low c.loop-line.invariant.covered
+      rw number at (first_line (CoversPushesOf level patterns) Faulty (lines_in arena) line _ read low c.loop-line.invariant.covered
           (push, refl, refl, c.in-Some.ensures.exact)),
     )
 
@@ -79,5 +78,5 @@ loop-line-preserved-then-covered-index g c =
       lookup = c.loop-line.invariant.lookup;
       covered = one_more (λ (j : ℕ). CoversPushesOf level (list_of groups) (pattern_at (list_of groups) j)) line c.loop-line.invariant.covered
           (pattern_of_group level groups grouped line lt (c.requires.covered.covers (slice_index of line) (omega (arith, into, notes))
-          (subst (λ (k : ℕ). IsTrue (get_or c.args.covered.now k false)) read c.if-covered-index.true)));
+          (rw read at c.if-covered-index.true)));
     }

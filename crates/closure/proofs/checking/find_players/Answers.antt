@@ -18,7 +18,7 @@ loop-from-init g c =
     record {
       can_next = tt;
       is_finite = tt;
-      all = subst (AreMembersOf (g.S.CellSet.extent c.args.boxes.now) boxes) (sym c.into_iter-from-iterator.ensures.into_iter_gives) c.new-from-items.ensures;
+      all = rw c.into_iter-from-iterator.ensures.into_iter_gives c.new-from-items.ensures;
       extent = c.clear.ensures.extent;
       inside = λ q has. has_empty q (rw c.clear.ensures.members at has);
       beside = λ b came. let low = came.1 in absurd (omega (arith, low));
@@ -28,8 +28,7 @@ loop-from-init g c =
 from_on : (g : _) (c : In-Some g) → IsOn (g.S.CellSet.extent c.args.region.now) c.in-Some.from
 from_on g c =
     let shape = g.S.CellSet.extent c.args.boxes.now in
-    let whole = subst (λ (left : List Cell). AreMembersOf shape (g.S.CellSet.members c.args.boxes.now) (c.loop-from.yielded ++ left))
-    c.in-Some.ensures.steps c.loop-from.invariant.all in
+    let whole = rw c.in-Some.ensures.steps at c.loop-from.invariant.all in
     subst (λ (e : Extent). IsOn e c.in-Some.from) (c.requires.boxes ∙ sym c.requires.region)
     (next_has c.loop-from.yielded c.next.new.self c.in-Some.from whole).1
 
@@ -49,9 +48,7 @@ pub returns-clause-beside : goal.returns-clause-beside
 returns-clause-beside g c = λ q d on within box.
     let members = g.S.CellSet.members in
     let shape = g.S.CellSet.extent c.args.boxes.now in
-    let whole = subst (λ (left : List Cell). AreMembersOf shape (members c.args.boxes.now) (c.loop-from.yielded ++ left))
-    c.in-None.ensures.steps.0 c.loop-from.invariant.all in
+    let whole = rw c.in-None.ensures.steps.0 at c.loop-from.invariant.all in
     let came = ((all_came shape (members c.args.boxes.now) c.loop-from.yielded whole).exact (neighbor q d)).1 box in
     let back = neighbor_back q d on.top on.left in
-    subst (Has (members c.loop-from.players)) back
-    (c.loop-from.invariant.beside (neighbor q d) came (opposite d) (subst (Has (members c.args.region.now)) (sym back) within))
+    rw back at (c.loop-from.invariant.beside (neighbor q d) came (opposite d) (rw back within))

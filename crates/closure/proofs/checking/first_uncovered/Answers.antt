@@ -59,7 +59,7 @@ returns-then-not-is_covered_after-clause-exact g c =
     record {
       out = next_out g at.In-Some;
       astray = λ good. false≢true (c.if-not-is_covered_after.ensures.covered.1
-          (subst (λ (s : Cells). covered (state_after s push)) (sym c.loop-push.invariant.same) good));
+          (rw c.loop-push.invariant.same good));
       first = λ earlier out before. All-contains (λ p. covered (state_after (members c.args.boxes.now) p)) c.loop-push.yielded earlier
           c.loop-push.invariant.good
           (came_before (all_pushes g at.After-into_iter-push-iterator) c.loop-push.yielded c.loop-push.push-iterator c.loop-push.yielded_by push
@@ -75,7 +75,7 @@ loop-push-preserved g c =
       moving = c.is_covered_after.ensures.extent;
       same = c.is_covered_after.ensures.same ∙ c.loop-push.invariant.same;
       good = All-push (λ p. covered (state_after (g.S.CellSet.members c.args.boxes.now) p)) c.loop-push.yielded push c.loop-push.invariant.good
-          (subst (λ (s : Cells). covered (state_after s push)) c.loop-push.invariant.same (c.if-not-is_covered_after.ensures.covered.0 refl));
+          (rw c.loop-push.invariant.same at (c.if-not-is_covered_after.ensures.covered.0 refl));
     }
 
 pub returns-clause-exact : goal.returns-clause-exact

@@ -72,16 +72,16 @@ pub take_out-requires : goal.take_out-requires
 take_out-requires g c =
     let groups = c.args.groups.now in
     let formed = c.shape.ensures.formed in
-    let lt = subst (λ (k : ℕ). c.loop-group.group < k) (c.len-group-end.ensures ∙ groups.spans.ok.0) c.loop-group-test.true in
+    let lt = rw (c.len-group-end.ensures ∙ groups.spans.ok.0) at c.loop-group-test.true in
     let to = sym c.loop-group.invariant.free_on in
     let room_on : (q : Cell) → Has c.rows-room.result.now.members q → IsOn c.loop-group.flood.free.extent q = λ q has.
-    subst (λ (e : Extent). IsOn e q) to (formed.room q (subst (λ (s : Cells). Has s q) c.rows-room.ensures.members has)).0 in
+    rw to at (formed.room q (rw c.rows-room.ensures.members at has)).0 in
     record {
       room = c.rows-room.ensures.extent ∙ to;
       on = λ q has. either has (room_on q)
           (boxes_within c.args.board.now groups c.requires.lawful c.requires.groups c.loop-group.group lt
           c.boxes-boxes.result.now c.boxes-boxes.ensures c.loop-group.flood.free.extent to q);
-      whole = subst (λ (s : Cells). IsOnePiece (Has s)) (sym c.rows-room.ensures.members) (room_is_one c.args.board.now formed);
+      whole = rw c.rows-room.ensures.members (room_is_one c.args.board.now formed);
     }
 
 pub find_region-whole-requires : goal.find_region-whole-requires
@@ -91,17 +91,16 @@ find_region-whole-requires g c =
     let to = sym (out.same.0 ∙ inv.free_on) in
     record {
       region = ap (λ (s : CellsOn). s.extent) out.same.1 ∙ (inv.region_on ∙ to);
-      on = λ q has. subst (λ (e : Extent). IsOn e q) to
-          (c.shape.ensures.formed.room q (subst (λ (s : Cells). Has s q) c.rows-room.ensures.members ((out.free q).0 has).0)).0;
+      on = λ q has. rw to at (c.shape.ensures.formed.room q (rw c.rows-room.ensures.members at ((out.free q).0 has).0)).0;
       whole = out.whole;
-      group = subst (λ (k : ℕ). c.loop-group.group < k) (c.len-group-end.ensures ∙ c.args.groups.now.spans.ok.0) c.loop-group-test.true;
+      group = rw (c.len-group-end.ensures ∙ c.args.groups.now.spans.ok.0) at c.loop-group-test.true;
       groups = c.requires.groups;
     }
 
 pub note_sides-requires : goal.note_sides-requires
 note_sides-requires g c =
     let groups = c.args.groups.now in
-    let lt = subst (λ (k : ℕ). c.loop-group.group < k) (c.len-group-end.ensures ∙ groups.spans.ok.0) c.loop-group-test.true in
+    let lt = rw (c.len-group-end.ensures ∙ groups.spans.ok.0) at c.loop-group-test.true in
     let on : c.find_region-whole.new.self.region.extent ≡ c.args.board.now.shape = c.find_region-whole.ensures.same.1
     ∙ (ap (λ (s : CellsOn). s.extent) c.take_out.ensures.same.1 ∙ c.loop-group.invariant.region_on) in
     record {
@@ -147,7 +146,7 @@ loop-group-preserved g c =
     let here : IsRegionAt level trap groups n new = record {
       root_in = λ _. subst (λ (q : Cell). IsTrue c.has-has_root.result ↔ InPatternRegion level (position_at level groups n) q) c.player.ensures.value
           (through c.has-has_root.ensures (position c.player.result));
-      all = λ yes q in_room lacks. (position q).0 (subst (λ (s : Cells). Has s q) (sym (found.all yes)) ((is_free q).1 (in_room, lacks)));
+      all = λ yes q in_room lacks. (position q).0 (rw (← (found.all yes)) at ((is_free q).1 (in_room, lacks)));
     } in
     record {
       free_on = ap (λ (s : CellsOn). s.extent) found.same.0 ∙ (out.0 ∙ inv.free_on);
@@ -159,14 +158,12 @@ loop-group-preserved g c =
         | inl before ↦ λ off i within.
             let end = span_end cells spans inside k (omega (arith, before, lt)) in
             let apart = inside.apart n k lt before in
-            subst (IsAround (InPatternRegion level (position_at level groups k)) (cell_no (boxes_of groups k) i))
-            (sym (c.note_sides.ensures.kept ((span_at spans k).from + i) (omega (arith, end, apart, within, from)))) (inv.sides k before off i within)
+            rw (← (c.note_sides.ensures.kept ((span_at spans k).from + i) (omega (arith, end, apart, within, from)))) at (inv.sides k before off i within)
         | inr past ↦
             let same : n ≡ k = omega (arith, low, past) in
             subst (λ (j : ℕ). AreSidesAt level trap groups j sides) same (λ _ i within d. through (noted i within d) (position (neighbor (cell_no (boxes_of groups n) i) d)))
       ];
-      each = λ k r low. subst (λ (l : List Region). IsRegionAt level trap groups k (get_or l k r)) (sym c.push_reserved-in-loop-group.ensures.items)
-          (each_more (IsRegionAt level trap groups) of new r (λ i before. inv.each i r (omega (arith, before, count)))
+      each = λ k r low. rw (← c.push_reserved-in-loop-group.ensures.items) at (each_more (IsRegionAt level trap groups) of new r (λ i before. inv.each i r (omega (arith, before, count)))
           (subst (λ (i : ℕ). IsRegionAt level trap groups i new) (sym count) here) k (omega (arith, low, count)));
     }
 
@@ -179,7 +176,7 @@ loop-group-preserved-then-is_trapped g c =
     let inv = c.loop-group.invariant in
     let met = c.if-is_trapped.ensures in
     let on : AreOff trap (boxes_of groups n) → ⊥ = λ off. not_both trap met.0 met.2
-    (off met.0 (subst (λ (l : List Cell). Has (cells_in l) met.0) c.boxes-boxes.ensures met.1)) in
+    (off met.0 (rw c.boxes-boxes.ensures at met.1)) in
     let of = c.loop-group.of.items in
     let new : Region = record { has_root = false; whole = false } in
     let count = inv.count in
@@ -189,22 +186,21 @@ loop-group-preserved-then-is_trapped g c =
       region_on = inv.region_on;
       long = inv.long;
       count = ap (λ (l : List Region). length l) c.push_reserved.ensures.items ∙ (length_more of new ∙ ap (λ (k : ℕ). k + 1) count);
-      roomy = subst (λ (k : ℕ). length groups.spans.items ≤ k) (sym c.push_reserved.ensures.capacity) inv.roomy;
+      roomy = rw c.push_reserved.ensures.capacity inv.roomy;
       sides = λ k low. elim (cases_lt k n) [
         | inl before ↦ inv.sides k before
         | inr past ↦
             let same : n ≡ k = omega (arith, low, past) in
-            λ off. absurd (on (subst (λ (j : ℕ). AreOff trap (boxes_of groups j)) (sym same) off))
+            λ off. absurd (on (rw same off))
       ];
-      each = λ k r low. subst (λ (l : List Region). IsRegionAt level trap groups k (get_or l k r)) (sym c.push_reserved.ensures.items)
-          (each_more (IsRegionAt level trap groups) of new r (λ i before. inv.each i r (omega (arith, before, count)))
-          (subst (λ (i : ℕ). IsRegionAt level trap groups i new) (sym count) here) k (omega (arith, low, count)));
+      each = λ k r low. rw c.push_reserved.ensures.items (each_more (IsRegionAt level trap groups) of new r (λ i before. inv.each i r (omega (arith, before, count)))
+          (rw count here) k (omega (arith, low, count)));
     }
 
 pub boxes-boxes-requires : goal.boxes-boxes-requires
 boxes-boxes-requires g c = record {
   groups = c.requires.groups;
-  group = subst (λ (k : ℕ). c.loop-group.group < k) (c.len-group-end.ensures ∙ c.args.groups.now.spans.ok.0) c.loop-group-test.true;
+  group = rw (c.len-group-end.ensures ∙ c.args.groups.now.spans.ok.0) at c.loop-group-test.true;
 }
 
 pub returns : goal.returns
@@ -221,6 +217,6 @@ pub push_reserved-requires : goal.push_reserved-requires
 push_reserved-requires g c =
     let count = c.loop-group.invariant.count in
     let roomy = c.loop-group.invariant.roomy in
-    let lt = subst (λ (k : ℕ). c.loop-group.group < k) (c.len-group-end.ensures ∙ c.args.groups.now.spans.ok.0) c.loop-group-test.true in
+    let lt = rw (c.len-group-end.ensures ∙ c.args.groups.now.spans.ok.0) at c.loop-group-test.true in
     let len = c.loop-group.of.ok.0 in
     omega (arith, count, roomy, lt, len)

@@ -31,7 +31,7 @@ loop-at-init c =
     let at = c.index-at.result.now in
     let chains = c.requires.groups.chained in
     let read = c.index-at.ensures ∙ at_any c.args.groups.now.chains.first.items c.args.group at 0 (omega (arith, c.requires.group, chains.firsts)) in
-    let last = subst (IsLast of c.args.group (length of)) (sym read) (chains.lasts c.args.group c.requires.group) in
+    let last = rw (← read) at (chains.lasts c.args.group c.requires.group) in
     let long = c.requires.groups.all.long in
     record {
       extent = c.requires.extent;
@@ -56,7 +56,7 @@ loop-at-preserved c =
     let next = c.index-at-in-loop-at.result.now in
     let nexts = c.requires.groups.chained.nexts in
     let read = c.index-at-in-loop-at.ensures ∙ at_any c.args.groups.now.chains.next.items (at - 1) next 0 (omega (arith, up, bound, nexts)) in
-    let last = subst (IsLast of (get_or of (at - 1) 0) (at - 1)) (sym read) (c.requires.groups.chained.before (at - 1) (omega (arith, up, bound))) in
+    let last = rw (← read) at (c.requires.groups.chained.before (at - 1) (omega (arith, up, bound))) in
     let near = last.within in
     let Free = Has c.args.free.now.members in
     let New = Has c.add_seeds.new.region.members in
@@ -73,7 +73,7 @@ loop-at-preserved c =
               line = at - 1;
               within = within;
               grouped = key;
-              fact = subst (λ (s : Seeds). IsSeed s q) (sym says) new.0;
+              fact = rw says new.0;
             },
           ));
       found = λ j from lt is. elim (cases_lt j at) [
@@ -81,9 +81,7 @@ loop-at-preserved c =
           | inl lower ↦ absurd (last.others j from lower (is ∙ sym key))
           | inr past ↦
               let here : j ≡ at - 1 = omega (arith, low, past) in
-              subst (λ (k : ℕ). SeedsAreIn (pattern_at (list_of c.args.groups.now) k).seeds (λ q. Free q → New q)) (sym here)
-              (subst (λ (s : Seeds). SeedsAreIn s (λ q. Free q → New q)) (sym says)
-              (λ q has free. (turn q).1 (inr (has, free))))
+              rw (here, says) (λ q has free. (turn q).1 (inr (has, free)))
         ]
         | inr past ↦ seeds_more (pattern_at (list_of c.args.groups.now) j).seeds (λ q. Free q → Was q) (λ q. Free q → New q)
             (λ q old free. (turn q).1 (inl (old free))) (inv.found j past lt is)

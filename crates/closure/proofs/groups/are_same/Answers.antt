@@ -12,6 +12,5 @@ pub returns : goal.returns
 returns c = λ equal.
     (slice_eq-Decides (λ (a b : Cell). (
       λ h. same_cell a b (sym h),
-      λ e. subst (λ (x : Cell). ((a.row == x.row) && (a.column == x.column)) ≡ true) e
-          (itself a),
+      λ e. rw (← e) (itself a),
     )) c.args.left.now c.args.right.now c.eq.result c.eq.ensures).0 equal

@@ -18,13 +18,11 @@ loop-line-preserved c =
     let so_far = c.loop-line.invariant.grouped in
     let Grouped : List Span → Type 0 = λ l. AreGroups arena (of ++ group ∷ []) l (n + 1) in
     record {
-      grouped = subst (λ (l : List ℕ). AreGroups arena l c.group_of.new.spans.items (n + 1)) (sym c.push_reserved.ensures.items)
-          (elim (rw (c.deref.ensures.value, c.deref-line-items.ensures.value) at c.in_ok-group_of.ensures) [
-            | inl old ↦ subst Grouped (sym old.0) (line_more arena of spans n group so_far old.1 old.2)
-            | inr new ↦ subst Grouped (sym new.1)
-                (group_more arena of spans n group so_far (rw c.deref-line-items.ensures.value at c.loop-line-test.true) new.0)
-          ]);
-      roomy = subst (λ (k : ℕ). length arena.lines.items ≤ k) (sym c.push_reserved.ensures.capacity) c.loop-line.invariant.roomy;
+      grouped = rw c.push_reserved.ensures.items (elim (rw (c.deref.ensures.value, c.deref-line-items.ensures.value) at c.in_ok-group_of.ensures) [
+        | inl old ↦ rw old.0 (line_more arena of spans n group so_far old.1 old.2)
+        | inr new ↦ rw new.1 (group_more arena of spans n group so_far (rw c.deref-line-items.ensures.value at c.loop-line-test.true) new.0)
+      ]);
+      roomy = rw c.push_reserved.ensures.capacity c.loop-line.invariant.roomy;
     }
 
 pub returns-clause-groups : goal.returns-clause-groups
@@ -34,6 +32,6 @@ returns-clause-groups c =
     let lines = ap (λ l. length l) c.deref-line-items.ensures.value in
     let all : c.loop-line.line-index ≡ length c.args.arena.lines.items = omega (arith, past, end, lines) in
     record {
-      all = subst (AreGroups c.args.arena c.loop-line.of.items c.loop-line.spans.items) all c.loop-line.invariant.grouped;
+      all = rw all at c.loop-line.invariant.grouped;
       chained = rw (c.deref-2.ensures.value, c.len-3.ensures, c.loop-line.spans.ok.0) at c.in_ok-chains.ensures;
     }

@@ -15,14 +15,14 @@ pub find_in_bucket-requires-clause-cell : goal.find_in_bucket-requires-clause-ce
 find_in_bucket-requires-clause-cell g c =
     let shape = g.S.CellSet.extent c.args.query.now.boxes.now in
     let boxes = g.S.CellSet.members c.args.query.now.boxes.now in
-    let whole = subst (λ (left : List Cell). AreMembersOf shape boxes (c.loop-cell.yielded ++ left)) c.in-Some.ensures.steps c.loop-cell.invariant.all in
+    let whole = rw c.in-Some.ensures.steps at c.loop-cell.invariant.all in
     subst (λ (e : Extent). IsOn e c.in-Some.cell) c.requires.extent (next_has c.loop-cell.yielded c.next.new.self c.in-Some.cell whole).1
 
 pub loop-cell-preserved : goal.loop-cell-preserved
 loop-cell-preserved g c =
     let shape = g.S.CellSet.extent c.args.query.now.boxes.now in
     let boxes = g.S.CellSet.members c.args.query.now.boxes.now in
-    let whole = subst (λ (left : List Cell). AreMembersOf shape boxes (c.loop-cell.yielded ++ left)) c.in-Some.ensures.steps c.loop-cell.invariant.all in
+    let whole = rw c.in-Some.ensures.steps at c.loop-cell.invariant.all in
     record {
       can_next = tt;
       is_finite = tt;
@@ -37,7 +37,7 @@ pub returns-clause-found : goal.returns-clause-found
 returns-clause-found g c = λ k covers.
     let shape = g.S.CellSet.extent c.args.query.now.boxes.now in
     let boxes = g.S.CellSet.members c.args.query.now.boxes.now in
-    let whole = subst (λ (left : List Cell). AreMembersOf shape boxes (c.loop-cell.yielded ++ left)) c.in-None.ensures.steps.0 c.loop-cell.invariant.all in
+    let whole = rw c.in-None.ensures.steps.0 at c.loop-cell.invariant.all in
     let bucket = c.requires.tables.buckets.each k covers.0 in
     c.loop-cell.invariant.passed bucket.cell k (((all_came shape boxes c.loop-cell.yielded whole).exact bucket.cell).1
     (covers.1.boxes bucket.cell bucket.has)) bucket.key covers

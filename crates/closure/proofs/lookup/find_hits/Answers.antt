@@ -27,7 +27,7 @@ loop-at-preserved g c =
     let at = c.loop-at.at in
     let r = c.index-node.result.now in
     let up = c.loop-at-test.true in
-    let falls : r.parent < at = subst (λ (x : Node). x.parent < at) (sym c.index-node.ensures) (linked.down at r up inv.within) in
+    let falls : r.parent < at = rw c.index-node.ensures (linked.down at r up inv.within) in
     let within = inv.within in
     let few = inv.few in
     record {
@@ -41,7 +41,7 @@ loop-at-preserved g c =
           let cell : c.index.result.now.cell ≡ next = ap (λ (x : Node). x.cell) (c.index.ensures ∙
           at_any nodes r.parent c.index.result.now d (omega (arith, falls, within))) in
           let none : Lacks (g.S.CellSet.members c.args.boxes.now) next =
-          subst (Lacks (g.S.CellSet.members c.args.boxes.now)) cell (sym c.if-contains.ensures) in
+          rw cell at (sym c.if-contains.ensures) in
           hits_on level c.shape-shape.ensures.formed (g.S.CellSet.members c.args.boxes.now) c.args.player last next (get_or nodes at r).dir to
           (linked.room at r inv.within) (linked.room r.parent d (omega (arith, falls, within))) c.loop-at.hits.items (inv.hits r) none;
       roomy = inv.roomy;
@@ -57,7 +57,7 @@ loop-at-preserved-then-contains g c =
     let at = c.loop-at.at in
     let r = c.index-node.result.now in
     let up = c.loop-at-test.true in
-    let falls : r.parent < at = subst (λ (x : Node). x.parent < at) (sym c.index-node.ensures) (linked.down at r up inv.within) in
+    let falls : r.parent < at = rw c.index-node.ensures (linked.down at r up inv.within) in
     let within = inv.within in
     let few = inv.few in
     let m : Hit = record { cell = c.index.result.now.cell; side = c.opposite.result } in
@@ -74,8 +74,7 @@ loop-at-preserved-then-contains g c =
           ap (λ (x : Node). x.cell) (at_any nodes r.parent r d (omega (arith, falls, within))) in
           let cell : c.index.result.now.cell ≡ next = ap (λ (x : Node). x.cell) (c.index.ensures ∙
           at_any nodes r.parent c.index.result.now d (omega (arith, falls, within))) in
-          subst (λ (l : List Hit). AreHits level (g.S.CellSet.members c.args.boxes.now) c.args.player next l) (sym c.push_reserved.ensures.items)
-          (hits_to level c.shape-shape.ensures.formed (g.S.CellSet.members c.args.boxes.now) c.args.player last next (get_or nodes at r).dir to
+          rw c.push_reserved.ensures.items (hits_to level c.shape-shape.ensures.formed (g.S.CellSet.members c.args.boxes.now) c.args.player last next (get_or nodes at r).dir to
           (linked.room at r inv.within) (linked.room r.parent d (omega (arith, falls, within))) c.loop-at.hits.items (inv.hits r) m cell
           (c.opposite.ensures ∙ ap (λ (x : Node). opposite x.dir) c.index-node.ensures));
       roomy = omega (arith, room, capacity);
@@ -111,7 +110,7 @@ loop-at-init g c =
     let numbered = c.requires.tables.tree.each c.args.player c.requires.player in
     let read : at ≡ get_or numbers (index_of c.args.player) 0 = c.index-at.ensures ∙ ap (λ (k : ℕ). get_or numbers k at) c.index_of.ensures ∙
     at_any numbers (index_of c.args.player) at 0 (omega (arith, low, long)) in
-    let within : at < length nodes = subst (λ (k : ℕ). k < length nodes) (sym read) numbered.within in
+    let within : at < length nodes = rw read numbered.within in
     let roomy = c.requires.roomy in
     let capacity = c.clear.ensures.capacity in
     let none = ap (λ (l : List Hit). length l) c.clear.ensures.items in
@@ -119,8 +118,7 @@ loop-at-init g c =
       within = within;
       hits = λ d.
           let here = ap (λ (k : ℕ). (get_or nodes k d).cell) read ∙ numbered.same d in
-          subst (λ (q : Cell). AreHits c.args.tables.now.board.now (g.S.CellSet.members c.args.boxes.now) c.args.player q c.clear.new.self.items) (sym here)
-          (λ pattern inside lacks. record {
+          rw here (λ pattern inside lacks. record {
             free = λ _. lacks;
             passed = λ _. (λ h. h, λ h. h);
             first = λ i m lt _ _. absurd (omega (arith, lt, none));
@@ -133,7 +131,7 @@ pub index-requires : goal.index-requires
 index-requires g c =
     let inv = c.loop-at.invariant in
     let within = inv.within in
-    let falls = subst (λ (x : Node). x.parent < c.loop-at.at) (sym c.index-node.ensures) (c.requires.tables.tree.nodes.down c.loop-at.at
+    let falls = rw (← c.index-node.ensures) at (c.requires.tables.tree.nodes.down c.loop-at.at
     c.index-node.result.now c.loop-at-test.true within) in
     let len = c.args.tables.now.tree.nodes.ok.0 in
     omega (arith, falls, within, len)

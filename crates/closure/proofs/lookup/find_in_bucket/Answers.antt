@@ -23,7 +23,7 @@ module _ (keys first next : List ℕ) (count key : ℕ) (chains : AreChains keys
       let nexts = chains.nexts in
       let low : at - 1 < length keys = omega (arith, up, within) in
       subst (IsLast keys key (at - 1)) (sym (read ∙ at_any next (at - 1) got 0 (omega (arith, low, nexts))))
-      (subst (λ (k : ℕ). IsLast keys k (at - 1) (get_or next (at - 1) 0)) here (chains.before (at - 1) low))
+      (rw here at (chains.before (at - 1) low))
 
   none_more : (P : ℕ → Type 0) (at got : ℕ) → 0 < at → IsLast keys key (at - 1) got → (P (at - 1) → ⊥) → ((k : ℕ) → at ≤ k → slice_index keys k ≡ key → P k → ⊥)
       → (k : ℕ) → got ≤ k → slice_index keys k ≡ key → P k → ⊥
@@ -32,7 +32,7 @@ module _ (keys first next : List ℕ) (count key : ℕ) (chains : AreChains keys
     | inr more ↦ elim (cases_lt k at) [
       | inl less ↦
           let here : k ≡ at - 1 = omega (arith, less, more) in
-          not (subst P here holds)
+          not (rw here at holds)
       | inr far ↦ passed k far same holds
     ]
   ]

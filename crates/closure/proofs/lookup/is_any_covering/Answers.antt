@@ -17,8 +17,7 @@ returns-then-not-contains-clause-exact g c =
       λ h. absurd (false≢true h),
       λ covered.
           let inside = player_in_room c.args.tables.now c.requires.tables.are s c.shape-shape.ensures.formed covered in
-          absurd (not_both (g.S.CellSet.members c.room.result.now) c.args.player (subst (λ (t : Cells). Has t c.args.player) (sym c.room.ensures.members)
-          inside) (sym c.if-not-contains.ensures)),
+          absurd (not_both (g.S.CellSet.members c.room.result.now) c.args.player (rw c.room.ensures.members inside) (sym c.if-not-contains.ensures)),
     )
 
 pub returns-then-is_last_covering-clause-exact : goal.returns-then-is_last_covering-clause-exact
@@ -45,4 +44,4 @@ pub is_last_covering-requires-clause-scratch : goal.is_last_covering-requires-cl
 is_last_covering-requires-clause-scratch g c = record { roomy = c.requires.roomy; walked = λ h. absurd (false≢true h) }
 
 pub find_covering-requires-clause-player : goal.find_covering-requires-clause-player
-find_covering-requires-clause-player g c = subst (λ (t : Cells). Has t c.args.player) c.room.ensures.members (sym c.if-not-contains.ensures)
+find_covering-requires-clause-player g c = rw c.room.ensures.members at (sym c.if-not-contains.ensures)

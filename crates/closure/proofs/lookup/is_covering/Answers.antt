@@ -27,13 +27,13 @@ is_inside-requires-clause-outside g c =
     let player = c.args.query.now.player in
     let boxes = boxes_of c.args.tables.now.groups c.args.group in
     let Beside : Cell → Type 0 = λ q. Has (g.S.CellSet.members c.args.query.now.boxes.now) q × (q ≢ player) in
-    let each = subst (All Beside) c.boxes.ensures (c.if-not-stand_beside.ensures.0 refl) in
+    let each = rw c.boxes.ensures at (c.if-not-stand_beside.ensures.0 refl) in
     lacks_where (cells_in boxes) player (λ has. (each_in Beside boxes each player has).1 refl)
 
 pub is_inside-requires-clause-hits : goal.is_inside-requires-clause-hits
 is_inside-requires-clause-hits g c = λ pattern within lacks.
     let Beside : Cell → Type 0 = λ q. Has (g.S.CellSet.members c.args.query.now.boxes.now) q × (q ≢ c.args.query.now.player) in
-    let each = subst (All Beside) c.boxes.ensures (c.if-not-stand_beside.ensures.0 refl) in
+    let each = rw c.boxes.ensures at (c.if-not-stand_beside.ensures.0 refl) in
     subst (λ (l : List Hit). HitsDecide c.args.tables.now.board.now c.args.query.now.player c.args.tables.now.board.now.player l pattern) (sym c.deref.ensures.value)
     (c.walk_to_root.ensures.hits pattern (λ q has. (each_in Beside (boxes_of c.args.tables.now.groups c.args.group) each q (within q has)).0) lacks)
 
@@ -42,7 +42,7 @@ returns-then-is_whole-clause-exact g c =
     let player = c.args.query.now.player in
     let boxes = boxes_of c.args.tables.now.groups c.args.group in
     let Beside : Cell → Type 0 = λ q. Has (g.S.CellSet.members c.args.query.now.boxes.now) q × (q ≢ player) in
-    let each = subst (All Beside) c.boxes.ensures (c.if-not-stand_beside.ensures.0 refl) in
+    let each = rw c.boxes.ensures at (c.if-not-stand_beside.ensures.0 refl) in
     let outside = lacks_where (cells_in boxes) player (λ has. (each_in Beside boxes each player has).1 refl) in (
       λ _. record { boxes = λ q has. (each_in Beside boxes each q has).0; player = c.if-is_whole.ensures refl player c.requires.player outside },
       λ _. refl,
@@ -51,7 +51,7 @@ returns-then-is_whole-clause-exact g c =
 pub returns-clause-exact : goal.returns-clause-exact
 returns-clause-exact g c =
     let Beside : Cell → Type 0 = λ q. Has (g.S.CellSet.members c.args.query.now.boxes.now) q × (q ≢ c.args.query.now.player) in
-    let each = subst (All Beside) c.boxes.ensures (c.if-not-stand_beside.ensures.0 refl) in (
+    let each = rw c.boxes.ensures at (c.if-not-stand_beside.ensures.0 refl) in (
       λ yes. record { boxes = λ q has. (each_in Beside (boxes_of c.args.tables.now.groups c.args.group) each q has).0; player = c.is_inside.ensures.0 yes },
       λ covers. c.is_inside.ensures.1 covers.player,
     )
@@ -67,7 +67,7 @@ returns-then-not-stand_beside-clause-exact g c = (
       let q = get_or boxes k d in
       let has = subst (λ (l : List Cell). Has (cells_in l) q) c.boxes.ensures (in_list boxes k d low) in (
         covers.boxes q has,
-        λ e. not_both position.boxes player (subst (Has position.boxes) e has) (region_lacks c.args.tables.now.board.now position player
+        λ e. not_both position.boxes player (rw (← e) has) (region_lacks c.args.tables.now.board.now position player
             covers.player),
       )))),
 )

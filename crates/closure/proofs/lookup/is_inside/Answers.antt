@@ -28,10 +28,10 @@ returns-in-Some g c =
     let m : Hit = record { cell = record { row = 0; column = 0 }; side = L } in
     let found = get_or c.args.hits.now c.loop-found.found-index m in
     let cell = c.in-Some.ensures.1 in
-    let has = subst (Has (cells_in boxes)) cell (in_list boxes number no_cell c.in-Some.ensures.0) in
+    let has = rw cell at (in_list boxes number no_cell c.in-Some.ensures.0) in
     let told = (c.requires.hits position (λ _ h. h) c.requires.outside).first c.loop-found.found-index m c.loop-found-test.true
-    (λ j e lt. subst (λ (l : List Cell). Lacks (cells_in l) (get_or c.args.hits.now j e).cell) is (c.loop-found.invariant j e lt))
-    (subst (λ (l : List Cell). Has (cells_in l) found.cell) is has) in
+    (λ j e lt. rw is at (c.loop-found.invariant j e lt))
+    (rw is at has) in
     let at = ap (λ (l : List Cell). cell_no l number) (sym is) ∙ cell in
     let side : IsTrue c.has.result ↔ InPatternRegion level position (neighbor found.cell found.side) = rw (c.has.ensures, ← at)
     (c.sides_of.ensures found.side) in
@@ -42,7 +42,7 @@ returns g c =
     let is = c.boxes-boxes.ensures in
     let low = c.loop-found-test.false in
     let told = (c.requires.hits (position_at c.args.tables.now.board.now c.args.tables.now.groups c.args.group) (λ _ h. h) c.requires.outside).passed
-    (λ j e lt. subst (λ (l : List Cell). Lacks (cells_in l) (get_or c.args.hits.now j e).cell) is (c.loop-found.invariant j e (omega (arith, low, lt)))) in
+    (λ j e lt. rw is at (c.loop-found.invariant j e (omega (arith, low, lt)))) in
     through c.has_root.ensures (told.1, told.0)
 
 pub sides_of-requires-clause-off : goal.sides_of-requires-clause-off

@@ -16,9 +16,7 @@ loop-pattern-preserved g c =
     let more = map_more said_pattern patterns i c.pattern-item.result c.loop-pattern-test.true in
     record {
       level = c.add.ensures.level ∙ c.loop-pattern.invariant.level;
-      added = subst (λ (ls : List PatternLine). IsListOf ls c.add.new.self)
-          (ap (λ (p : Pattern). map said_pattern (take i patterns) ++ said_pattern p ∷ []) c.pattern-item.is ∙ sym more)
-          (c.in_ok-add.ensures.added (map said_pattern (take i patterns)) c.loop-pattern.invariant.added);
+      added = rw (ap (λ (p : Pattern). map said_pattern (take i patterns) ++ said_pattern p ∷ []) c.pattern-item.is ∙ sym more) at (c.in_ok-add.ensures.added (map said_pattern (take i patterns)) c.loop-pattern.invariant.added);
     }
 
 pub check-requires : goal.check-requires

@@ -17,7 +17,7 @@ pub returns-then-is_trapped-clause-covered : goal.returns-then-is_trapped-clause
 returns-then-is_trapped-clause-covered g c = λ _.
     let met = c.if-is_trapped.ensures in
     trapped_pushes c.args.tables.now c.requires.tables c.args.group c.requires.group met.0
-    (subst (λ (l : List Cell). Has (cells_in l) met.0) c.boxes-boxes.ensures met.1) met.2
+    (rw c.boxes-boxes.ensures at met.1) met.2
 
 pub load_boxes-requires-clause-boxes : goal.load_boxes-requires-clause-boxes
 load_boxes-requires-clause-boxes g c = boxes_on c.args.tables.now.board.now c.args.tables.now.groups c.requires.tables.lawful c.requires.tables.grouped
@@ -56,8 +56,7 @@ loop-number-preserved g c =
         | inl low ↦ c.loop-number.invariant.covered i low
         | inr past ↦
             let here : n ≡ i = omega (arith, lt, past) in
-            subst (λ k. CoversFrom level (list_of groups) (position_at level groups c.args.group) (cell_no c.boxes-boxes.result.now k)) here
-            (c.if-not-covers_each_way.ensures.covered refl)
+            rw here at (c.if-not-covers_each_way.ensures.covered refl)
       ];
     }
 

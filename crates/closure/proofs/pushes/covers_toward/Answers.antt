@@ -45,7 +45,7 @@ returns-then-is_hinted-clause-covered g c = λ found.
     let groups = c.args.tables.now.groups in
     covered_one level (position_at level groups c.args.pushed.now.group) (pushed_cell c.args.pushed.now) c.args.dir (list_of groups) c.in-Some.push
     c.in-Some.ensures.found
-    (subst (λ (l : List Cell). IsCovered level (list_of groups) (state_after (cells_in l) c.in-Some.push)) c.requires.pushed.boxes (c.is_hinted.ensures found))
+    (rw c.requires.pushed.boxes at (c.is_hinted.ensures found))
 
 pub returns-else-is_hinted-clause-covered : goal.returns-else-is_hinted-clause-covered
 returns-else-is_hinted-clause-covered g c = λ found.
@@ -53,5 +53,4 @@ returns-else-is_hinted-clause-covered g c = λ found.
     let groups = c.args.tables.now.groups in
     covered_one level (position_at level groups c.args.pushed.now.group) (pushed_cell c.args.pushed.now) c.args.dir (list_of groups) c.in-Some.push
     c.in-Some.ensures.found
-    (subst (λ (l : List Cell). IsCovered level (list_of groups) (state_after (cells_in l) c.in-Some.push)) c.requires.pushed.boxes
-    (c.is_found.ensures.covered found))
+    (rw c.requires.pushed.boxes at (c.is_found.ensures.covered found))

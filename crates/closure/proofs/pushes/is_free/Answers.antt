@@ -13,8 +13,7 @@ returns-then-not-has g c = (λ h. absurd (false≢true h), λ free. absurd (fals
 pub returns-in-Some : goal.returns-in-Some
 returns-in-Some g c = (
   λ h. absurd (false≢true h),
-  λ free. absurd (not_both (cells_in c.args.boxes.now) c.args.cell (subst (Has (cells_in c.args.boxes.now)) c.in-Some.ensures.1
-      (in_list c.args.boxes.now _ no_cell c.in-Some.ensures.0)) free.no_bar),
+  λ free. absurd (not_both (cells_in c.args.boxes.now) c.args.cell (rw c.in-Some.ensures.1 at (in_list c.args.boxes.now _ no_cell c.in-Some.ensures.0)) free.no_bar),
 )
 
 pub returns-in-None : goal.returns-in-None

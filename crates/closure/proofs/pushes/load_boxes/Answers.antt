@@ -6,4 +6,4 @@ use Rattle.closure.proofs.pushes.load_boxes.Goals as goal
 pub load-requires : goal.load-requires
 load-requires g c =
     let ready = rw c.in-Some.is at c.requires.ready in
-    λ q has. subst (λ (e : Extent). IsOn e q) (sym ready.2) (c.requires.boxes q has)
+    λ q has. rw ready.2 (c.requires.boxes q has)

@@ -20,7 +20,7 @@ loop-number-preserved-then-is_same c =
     let here = c.if-is_same.ensures in
     record {
       stand = All-more (Has (moved boxes push.from push.to)) c.args.after.now c.loop-number.number no_cell c.loop-number-test.true c.loop-number.invariant.stand
-          (subst (Has (moved boxes push.from push.to)) (sym here) (inserted (set.remove boxes push.from) push.to));
+          (rw here (inserted (set.remove boxes push.from) push.to));
       found = (c.loop-number-test.true, here);
     }
 
@@ -36,7 +36,7 @@ loop-number-preserved c =
     record {
       stand = All-more (Has (moved (cells_in list) push.from push.to)) c.args.after.now c.loop-number.number no_cell c.loop-number-test.true
           c.loop-number.invariant.stand (kept_by_insert (set.remove (cells_in list) push.from) push.to at (kept_by_remove (cells_in list) push.from at
-          c.if-is_same-2.ensures (subst (Has (cells_in list)) box.2 (in_list list box.0 no_cell box.1))));
+          c.if-is_same-2.ensures (rw box.2 at (in_list list box.0 no_cell box.1))));
       found = c.loop-number.invariant.found;
     }
 

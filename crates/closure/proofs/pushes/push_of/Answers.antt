@@ -54,9 +54,7 @@ returns-then-not-is_free-clause-found g c =
     let level = c.args.tables.now.board.now in
     let position = position_at level c.args.tables.now.groups c.args.pushed.now.group in
     barred level position _ c.args.dir (λ free. false≢true (c.if-not-is_free.ensures.1
-    (subst (λ (q : Cell). IsFree level.shape level.walls (cells_in c.args.pushed.now.boxes.now) q) (sym c.in-Some.ensures.1)
-    (subst (λ (l : List Cell). IsFree level.shape level.walls (cells_in l) (neighbor (pushed_cell c.args.pushed.now) c.args.dir)) (sym c.requires.pushed.boxes)
-    free))))
+    (rw (← c.requires.pushed.boxes, ← c.in-Some.ensures.1) at free)))
 
 pub returns-clause-free : goal.returns-clause-free
 returns-clause-free g c =
@@ -67,8 +65,7 @@ returns-clause-free g c =
       | else-not-has-2-via-else-not-has-2 w ↦
           let ahead = neighbor (pushed_cell c.args.pushed.now) c.args.dir in
           let inside = (c.requires.pushed.sides c.args.dir).0 (sym w.if-not-has-2.ensures) in
-          subst (Lacks (cells_in c.args.pushed.now.boxes.now)) (sym c.in-Some.ensures.1)
-          (subst (λ (l : List Cell). Lacks (cells_in l) ahead) (sym c.requires.pushed.boxes) (region_lacks level position ahead inside))
+          rw (← c.requires.pushed.boxes, ← c.in-Some.ensures.1) at (region_lacks level position ahead inside)
     ]
 
 pub returns-clause-found : goal.returns-clause-found
@@ -82,7 +79,6 @@ returns-clause-found g c =
       from = refl;
       dir_is = refl;
       to = c.in-Some.ensures.1;
-      to_on = subst (λ shape. IsOn shape c.in-Some.to) c.shape-shape.ensures.value (subst (IsOn c.shape-shape.result) (sym c.in-Some.ensures.1)
-          c.in-Some.ensures.0);
+      to_on = rw (← c.in-Some.ensures.1, c.shape-shape.ensures.value) at c.in-Some.ensures.0;
       back = ap (λ cell. neighbor cell (opposite c.args.dir)) c.in-Some.ensures.1 ∙ neighbor_back from c.args.dir on.top on.left;
     }

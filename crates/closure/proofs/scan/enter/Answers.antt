@@ -18,14 +18,13 @@ use Rattle.closure.proofs.scan.enter.Goals.{in-None, in-Some+in_ok-region-in-Som
 pub invariant_of-result : goal.invariant_of-result
 invariant_of-result g c =
     let same = c.in_ok-boxes.ensures.items_if_clones_equal (λ x y e. e) in (
-      λ k d lt. rw c.shape-shape.ensures.value (c.requires.lawful.board _ (inl (subst (λ (l : List Cell). Has (cells_in l)
-          (get_or c.in_ok-boxes.boxes.items k d)) same (in_list c.in_ok-boxes.boxes.items k d lt)))),
+      λ k d lt. rw c.shape-shape.ensures.value (c.requires.lawful.board _ (inl (rw (← same) (in_list c.in_ok-boxes.boxes.items k d lt)))),
       λ x is. elim c.match-pattern.branch [
         | in-None w ↦ let none : None ≡ Some x = sym w.region-is ∙ is in cc
         | in-Some+in_ok-region-in-Some w ↦
             let both = sym w.region-is ∙ is in
             let same : w.find.new.region ≡ x = cc in
-            subst (λ y. g.S.CellSet.extent y ≡ c.shape-shape.result) same (w.find.ensures.region ∙ sym c.shape-shape.ensures.value)
+            rw same at (w.find.ensures.region ∙ sym c.shape-shape.ensures.value)
       ],
     )
 
@@ -38,10 +37,7 @@ returns-clause-ok g c =
       boxes = ap cells_in (c.in_ok-boxes.ensures.items_if_clones_equal (λ x y e. e));
       region = λ q. elim c.match-pattern.branch [
         | in-None w ↦
-            rw w.region-is (subst (λ (s : Option (Bor (List Cell))). (Has level.room q × Lacks boxes q) ↔ InPatternRegion level (record {
-              boxes = boxes;
-              seeds = seeds_among s;
-            }) q) (sym w.in-None.is) (room_outside level c.shape-shape.ensures.formed boxes q))
+            rw (w.region-is, w.in-None.is) (room_outside level c.shape-shape.ensures.formed boxes q)
         | in-Some+in_ok-region-in-Some w ↦
             rw w.region-is (region_outside level (pattern_in c.args.pattern) (g.S.CellSet.members w.find.new.region) q (w.find.ensures.exact q))
       ];

@@ -33,8 +33,8 @@ loop-line-preserved g c =
       set = c.in_ok-enter.ensures.set;
       long = ap (λ (l : List (Entry g.row.S.Denot)). length l) c.push_reserved.ensures.items ∙ (length_more c.loop-line.entries.items c.in_ok-enter.field-0 ∙
           ap (λ (k : ℕ). k + 1) old.long);
-      roomy = subst (λ (k : ℕ). length c.args.arena.now.lines.items ≤ k) (sym c.push_reserved.ensures.capacity) old.roomy;
+      roomy = rw c.push_reserved.ensures.capacity old.roomy;
       entries = rw c.push_reserved.ensures.items (zip_more (IsEntryOf level) patterns c.loop-line.entries.items line (pattern_at patterns line)
           c.in_ok-enter.field-0 low (at_any patterns line _ _ low) old.entries
-          (subst (λ (p : Pattern). IsEntryOf level p c.in_ok-enter.field-0) c.pattern.ensures.pattern c.in_ok-enter.ensures.ok));
+          (rw c.pattern.ensures.pattern at c.in_ok-enter.ensures.ok));
     }

@@ -17,13 +17,13 @@ loop-entry-preserved g c =
     let state : State = record { player = c.args.player; boxes = g.S.CellSet.members c.args.boxes.now } in
     let none : EntryCells → Type 0 = λ e. EntryCovers (g.S.CellSet.members c.args.room.now) e state → ⊥ in
     All-more none c.args.entries.now c.loop-entry.entry-index c.entry-item.result c.loop-entry-test.true c.loop-entry.invariant
-    (subst none c.entry-item.is (λ covered. false≢true (sym c.if-covers.false ∙ c.covers.ensures.1 covered)))
+    (rw (← c.entry-item.is) (λ covered. false≢true (sym c.if-covers.false ∙ c.covers.ensures.1 covered)))
 
 pub returns : goal.returns
 returns g c =
     let state : State = record { player = c.args.player; boxes = g.S.CellSet.members c.args.boxes.now } in
     let none : EntryCells → Type 0 = λ e. EntryCovers (g.S.CellSet.members c.args.room.now) e state → ⊥ in
-    let each = subst (All none) (take_all c.loop-entry.entry-index c.args.entries.now c.loop-entry-test.false) c.loop-entry.invariant in
+    let each = rw (take_all c.loop-entry.entry-index c.args.entries.now c.loop-entry-test.false) at c.loop-entry.invariant in
     (λ yes. absurd (false≢true yes), λ covered. absurd (All-contains none c.args.entries.now covered.0 each covered.1 covered.2))
 
 pub covers-requires-clause-room : goal.covers-requires-clause-room

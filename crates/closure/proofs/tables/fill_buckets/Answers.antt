@@ -25,7 +25,7 @@ loop-group-preserved g c =
     let pushed = ap (λ (l : List ℕ). length l) c.push_reserved.ensures.items ∙ length_more c.loop-group.keys.items c.first_of.result in
     record {
       long = pushed ∙ ap (λ (k : ℕ). k + 1) inv.long;
-      roomy = subst (λ (k : ℕ). length groups.spans.items ≤ k) (sym c.push_reserved.ensures.capacity) inv.roomy;
+      roomy = rw c.push_reserved.ensures.capacity inv.roomy;
       each = each;
     }
 

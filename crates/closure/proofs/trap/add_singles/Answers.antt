@@ -29,7 +29,7 @@ is_single p q is none some few =
     sym is ∙ alone
 
 pub loop-line-init : goal.loop-line-init
-loop-line-init c = record { extent = refl; singles = λ q has. has_empty q (subst (λ (s : Cells). Has s q) c.requires.empty has) }
+loop-line-init c = record { extent = refl; singles = λ q has. has_empty q (rw c.requires.empty at has) }
 
 pub insert-requires : goal.insert-requires
 insert-requires c =
@@ -40,7 +40,7 @@ insert-requires c =
     let is = is_single p _ c.pattern-pattern.ensures.pattern box.is-1 box.len_at_least box.len_below in
     let cell = cell_no p.boxes.now 0 in
     rw c.loop-line.invariant.extent (c.requires.on _ (listed_at c.args.arena.now c.loop-line.line (omega (arith, test, len))) cell
-    (inl (subst (λ (q : Pattern). Has q.boxes cell) (sym is) (inserted set.empty cell))))
+    (inl (rw is (inserted set.empty cell))))
 
 pub loop-line-preserved : goal.loop-line-preserved
 loop-line-preserved c =
@@ -55,5 +55,5 @@ loop-line-preserved c =
     record {
       extent = c.insert.ensures.extent ∙ old.extent;
       singles = λ q has. either ((c.insert.ensures.members q).0 has) (old.singles q)
-          (λ e. subst (Contains patterns) (subst (λ (k : Cell). pattern_at patterns c.loop-line.line ≡ single k) (sym e) is) listed);
+          (λ e. rw (subst (λ (k : Cell). pattern_at patterns c.loop-line.line ≡ single k) (sym e) is) at listed);
     }

@@ -10,7 +10,7 @@ loop-line-preserved c =
     let trap = c.args.trap.now.members in
     let found = c.if-not-is_trapped.ensures in
     one_more (λ j. IsTrapped trap (pattern_at (list_in c.args.arena.now) j)) c.loop-line.line c.loop-line.invariant
-    (subst (IsTrapped trap) c.pattern.ensures.pattern found)
+    (rw (← c.pattern.ensures.pattern) found)
 
 pub returns : goal.returns
 returns c = λ _.

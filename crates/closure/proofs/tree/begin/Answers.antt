@@ -32,13 +32,13 @@ returns-clause-growing g c =
     let long : length numbers ≡ 256 * (level.shape.height + 1) = omega (arith, made, count, from, height, shape) in
     let index = c.index_of.ensures in
     let s : Node = record { cell = c.player-root.result; dir = L; parent = 0 } in
-    root_alone level c.player-root.result (subst (Has level.room) (sym c.player-root.ensures.value) c.shape-shape.ensures.formed.here)
+    root_alone level c.player-root.result (rw c.player-root.ensures.value c.shape-shape.ensures.formed.here)
     c.player-root.ensures.value (g.S.CellSet.members c.remove.new.self) s
     (record { numbers = with_item c.in_ok-numbers.numbers c.index_of.result 0; nodes = c.push.new.self })
     (c.remove.ensures.members ∙ ap (λ (s : Cells). finset.remove s c.player-root.result) (c.copy_from.ensures.members ∙ c.room.ensures.members)) refl
     (c.in_ok-push.ensures.items ∙ ap (λ (l : List Node). l ++ s ∷ []) c.in_ok-nodes.ensures.items)
     (length-set numbers c.index_of.result 0 ∙ long)
-    (subst (λ (p : ℕ). get_or (set numbers p 0) (index_of c.player-root.result) 0 ≡ 0) (sym index) (get_or-set_same numbers (index_of c.player-root.result) 0 0
+    (rw index (get_or-set_same numbers (index_of c.player-root.result) 0 0
     (omega (arith, bottom, right, wide, long))))
 
 pub index_mut-requires : goal.index_mut-requires

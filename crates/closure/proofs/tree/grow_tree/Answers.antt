@@ -29,7 +29,7 @@ returns g c =
     let long = c.len.ensures ∙ c.loop-from.tree.nodes.ok.0 in
     let from = inv.from in
     let all : c.loop-from.from ≡ length c.loop-from.tree.nodes.items = omega (arith, test, long, from) in
-    let beside = subst (AreJoinedBeside level (g.S.CellSet.members c.loop-from.left) c.loop-from.tree.nodes.items) all inv.beside in
+    let beside = rw all at inv.beside in
     record {
       nodes = inv.growing.nodes;
       long = inv.growing.long;

@@ -14,34 +14,33 @@ use Rattle.closure.proofs.zone.first_leak.Goals as goal
 
 pub leak_from-requires-clause-on : goal.leak_from-requires-clause-on
 leak_from-requires-clause-on g c =
-    let whole = subst (λ (left : List Cell). AreMembersOf c.args.board.now.shape (g.S.CellSet.members c.args.zone.now) (c.loop-cell.yielded ++ left))
-    c.in-Some.ensures.steps c.loop-cell.invariant.all in
+    let whole = rw c.in-Some.ensures.steps at c.loop-cell.invariant.all in
     (next_has c.loop-cell.yielded c.next.new.self c.in-Some.cell whole).1
 
 pub returns-in-Some-leak_from : goal.returns-in-Some-leak_from
 returns-in-Some-leak_from g c =
     let level = c.args.board.now in
     let zone = g.S.CellSet.members c.args.zone.now in
-    let whole = subst (λ (left : List Cell). AreMembersOf level.shape zone (c.loop-cell.yielded ++ left)) c.in-Some.ensures.steps c.loop-cell.invariant.all in
+    let whole = rw c.in-Some.ensures.steps at c.loop-cell.invariant.all in
     record {
       leaks = c.in-Some-leak_from.ensures.0;
       first = λ y e leak before. either before
           (λ early. c.loop-cell.invariant.passed y (came_before c.loop-cell.yielded c.next.new.self c.in-Some.cell whole y leak.inside early) e leak)
-          (λ here. c.in-Some-leak_from.ensures.1 e (subst (λ (x : Cell). Leaks level zone x e) here.0 leak) here.1);
+          (λ here. c.in-Some-leak_from.ensures.1 e (rw here.0 at leak) here.1);
     }
 
 pub loop-cell-preserved : goal.loop-cell-preserved
 loop-cell-preserved g c =
     let level = c.args.board.now in
     let zone = g.S.CellSet.members c.args.zone.now in
-    let whole = subst (λ (left : List Cell). AreMembersOf level.shape zone (c.loop-cell.yielded ++ left)) c.in-Some.ensures.steps c.loop-cell.invariant.all in
+    let whole = rw c.in-Some.ensures.steps at c.loop-cell.invariant.all in
     record {
       can_next = tt;
       is_finite = tt;
       all = next_came c.loop-cell.yielded c.next.new.self c.in-Some.cell whole;
       passed = λ q came d leak. either (Contains-push_cases c.loop-cell.yielded c.in-Some.cell q came)
           (λ old. c.loop-cell.invariant.passed q old d leak)
-          (λ here. c.in_default.ensures d (subst (λ (x : Cell). Leaks level zone x d) (sym here) leak));
+          (λ here. c.in_default.ensures d (rw here leak));
     }
 
 pub loop-cell-init : goal.loop-cell-init
@@ -50,8 +49,7 @@ loop-cell-init g c =
     record {
       can_next = tt;
       is_finite = tt;
-      all = subst (λ (l : List Cell). AreMembersOf c.args.board.now.shape zone l) (sym c.into_iter-cell-iterator.ensures.into_iter_gives)
-          (subst (λ (e : Extent). AreMembersOf e zone c.new-cell-items.result) c.requires c.new-cell-items.ensures);
+      all = rw c.into_iter-cell-iterator.ensures.into_iter_gives (rw c.requires at c.new-cell-items.ensures);
       passed = λ q came d leak.
           let low = came.1 in
           absurd (omega (arith, low));
@@ -61,5 +59,5 @@ pub returns : goal.returns
 returns g c = λ q d leak.
     let level = c.args.board.now in
     let zone = g.S.CellSet.members c.args.zone.now in
-    let whole = subst (λ (left : List Cell). AreMembersOf level.shape zone (c.loop-cell.yielded ++ left)) c.in-None.ensures.steps.0 c.loop-cell.invariant.all in
+    let whole = rw c.in-None.ensures.steps.0 at c.loop-cell.invariant.all in
     c.loop-cell.invariant.passed q (((all_came level.shape zone c.loop-cell.yielded whole).exact q).1 leak.inside) d leak

@@ -24,7 +24,7 @@ module _ (level : Level) (patterns : List Pattern) (pattern : Pattern) (players 
     (beside : (c : Cell) (d : Dir) → InPatternRegion level pattern c → Has pattern.boxes (neighbor c d) → Has players c) where
   out_of_set : (push : Push) → PushesOut level pattern push → IsPushOut level.shape level.walls pattern.boxes (Has players) push
   out_of_set push out = record {
-    standing = beside push.player push.dir out.standing (subst (Has pattern.boxes) out.next_cell out.box);
+    standing = beside push.player push.dir out.standing (rw out.next_cell at out.box);
     next_cell = out.next_cell;
     box = out.box;
     cell_behind = out.cell_behind;
@@ -58,9 +58,7 @@ returns-clause-exact g c =
     let level = c.args.tables.now.board.now in
     let patterns = list_of c.args.tables.now.groups in
     let near = c.find_players.ensures in
-    subst (λ (p : Pattern). MatchOption c.first_uncovered.result (CoversPushesOf level patterns p) (IsFirstUncovered level patterns p))
-    c.pattern-pattern.ensures.pattern
-    (run_out level patterns (pattern_in c.pattern-pattern.result) (g.S.CellSet.members c.find_players.new.players)
+    rw (← c.pattern-pattern.ensures.pattern) (run_out level patterns (pattern_in c.pattern-pattern.result) (g.S.CellSet.members c.find_players.new.players)
     (λ q has. (c.find.ensures.exact q).0 (near.inside q has))
     (λ q d within box. near.beside q d (rw c.find.ensures.region (region_on level (pattern_in c.pattern-pattern.result) q within))
     ((c.find.ensures.exact q).1 within) (rw c.find.ensures.members box))

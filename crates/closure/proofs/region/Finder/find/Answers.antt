@@ -16,7 +16,7 @@ use Rattle.closure.proofs.region.Finder.find.Goals as goal
 
 pub load-requires-in-Some : goal.load-requires-in-Some
 load-requires-in-Some g c = λ q has.
-    rw c.requires.seeds (c.requires.lawful.board q (inr (subst (λ (s : Option (Bor (List Cell))). IsListedSeed (seeds_among s) q) (sym c.in-Some.is) has)))
+    rw c.requires.seeds (c.requires.lawful.board q (inr (rw c.in-Some.is has)))
 
 pub take_out-requires : goal.take_out-requires
 take_out-requires g c = λ q has. rw (c.copy_from.ensures.extent, c.requires.region) (c.requires.lawful.board q (inl has))
@@ -25,8 +25,4 @@ pub returns-in-None-clause-exact : goal.returns-in-None-clause-exact
 returns-in-None-clause-exact g c = λ q.
     let level = c.args.board.now in
     let boxes = cells_in c.args.pattern.boxes.now in
-    rw (c.take_out.ensures.members, c.copy_from.ensures.members, c.room.ensures.members)
-    (subst (λ (s : Option (Bor (List Cell))). Has (set.difference level.room boxes) q ↔ InPatternRegion level (record {
-      boxes = boxes;
-      seeds = seeds_among s;
-    }) q) (sym c.in-None.is) (room_region level c.shape-shape.ensures.formed boxes q))
+    rw (c.take_out.ensures.members, c.copy_from.ensures.members, c.room.ensures.members, c.in-None.is) (room_region level c.shape-shape.ensures.formed boxes q)

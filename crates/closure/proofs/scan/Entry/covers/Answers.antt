@@ -19,7 +19,7 @@ returns-then-contains g c =
     let Q : Cell → Type 0 = λ q. Has (members c.args.boxes.now) q × (q ≢ c.args.player) in
     let s : State = record { player = c.args.player; boxes = members c.args.boxes.now } in
     let P : EntryCells → Type 0 = λ e. IsTrue c.stand_beside.result ↔ EntryCovers (members c.args.room.now) e s in
-    subst P c.self.view_is (
-      λ yes. record { boxes = subst (All Q) c.deref.ensures.value (c.stand_beside.ensures.0 yes); player = region },
-      λ covers. c.stand_beside.ensures.1 (subst (All Q) (sym c.deref.ensures.value) covers.boxes),
+    rw (← c.self.view_is) (
+      λ yes. record { boxes = rw c.deref.ensures.value at (c.stand_beside.ensures.0 yes); player = region },
+      λ covers. c.stand_beside.ensures.1 (rw c.deref.ensures.value covers.boxes),
     )

@@ -25,5 +25,4 @@ returns-clause-exact g c = λ s.
     let level = c.args.board.now in
     let entries = c.in_ok-entries.entries.items in
     rw (c.copy_from.ensures.members, c.room.ensures.members)
-    (subst (λ (l : List PatternLine). EntriesCover level.room entries s ↔ IsCovered level (patterns_of l) s) c.in_ok-arena.ensures
-    (entries_cover level (list_in c.in_ok-arena.arena) entries c.in_ok-entries.ensures s))
+    (rw c.in_ok-arena.ensures at (entries_cover level (list_in c.in_ok-arena.arena) entries c.in_ok-entries.ensures s))

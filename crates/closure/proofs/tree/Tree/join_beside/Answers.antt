@@ -41,7 +41,7 @@ returns-then-not-remove-clause-beside g c = λ s _.
     let here = ap (λ (x : Node). neighbor x.cell c.args.dir) (sym (get_or_read c.args.self.now.nodes.items c.args.from c.index.result.now c.requires.from
     c.index.ensures s)) ∙ sym c.in-Some.ensures.1 in
     subst (λ (t : Cells). Lacks t (neighbor (get_or c.args.self.now.nodes.items c.args.from s).cell c.args.dir)) (sym c.remove.ensures.members)
-    (subst (Lacks (finset.remove (g.S.CellSet.members c.args.left.now) c.in-Some.cell)) (sym here) (removed_lacks (g.S.CellSet.members c.args.left.now)
+    (rw here (removed_lacks (g.S.CellSet.members c.args.left.now)
     c.in-Some.cell))
 
 pub returns-in_err-push-clause-kept : goal.returns-in_err-push-clause-kept
@@ -53,7 +53,7 @@ returns-in_err-push-clause-beside g c = λ s _.
     let here = ap (λ (x : Node). neighbor x.cell c.args.dir) (sym (get_or_read c.args.self.now.nodes.items c.args.from c.index.result.now c.requires.from
     c.index.ensures s)) ∙ sym c.in-Some.ensures.1 in
     subst (λ (t : Cells). Lacks t (neighbor (get_or c.args.self.now.nodes.items c.args.from s).cell c.args.dir)) (sym c.remove.ensures.members)
-    (subst (Lacks (finset.remove (g.S.CellSet.members c.args.left.now) c.in-Some.cell)) (sym here) (removed_lacks (g.S.CellSet.members c.args.left.now)
+    (rw here (removed_lacks (g.S.CellSet.members c.args.left.now)
     c.in-Some.cell))
 
 pub returns-clause-growing : goal.returns-clause-growing
@@ -90,13 +90,12 @@ returns-clause-beside g c = λ s _.
     let here = ap (λ (x : Node). neighbor x.cell c.args.dir) (sym (get_or_read c.args.self.now.nodes.items c.args.from c.index.result.now c.requires.from
     c.index.ensures s)) ∙ sym c.in-Some.ensures.1 in
     subst (λ (t : Cells). Lacks t (neighbor (get_or c.args.self.now.nodes.items c.args.from s).cell c.args.dir)) (sym c.remove.ensures.members)
-    (subst (Lacks (finset.remove (g.S.CellSet.members c.args.left.now) c.in-Some.cell)) (sym here) (removed_lacks (g.S.CellSet.members c.args.left.now)
+    (rw here (removed_lacks (g.S.CellSet.members c.args.left.now)
     c.in-Some.cell))
 
 pub index_mut-requires : goal.index_mut-requires
 index_mut-requires g c =
-    let on = subst (IsOn c.args.board.now.shape) (sym c.in-Some.ensures.1) (subst (λ (e : Extent). IsOn e (neighbor c.index.result.now.cell c.args.dir))
-    c.shape.ensures.value c.in-Some.ensures.0) in
+    let on = rw (c.shape.ensures.value, ← c.in-Some.ensures.1) at c.in-Some.ensures.0 in
     let low = index_within c.args.board.now.shape c.shape.ensures.formed.sides c.in-Some.cell on in
     let long = c.requires.growing.long in
     let at = c.index_of.ensures in
@@ -110,5 +109,5 @@ pub returns-in_default-clause-beside : goal.returns-in_default-clause-beside
 returns-in_default-clause-beside g c = λ s room.
     let here = ap (λ (x : Node). neighbor x.cell c.args.dir) (sym (get_or_read c.args.self.now.nodes.items c.args.from c.index.result.now c.requires.from
     c.index.ensures s)) in
-    let on = subst (IsOn c.args.board.now.shape) here (c.shape.ensures.formed.room _ room).0 in
-    absurd (c.in_default.ensures (subst (λ (e : Extent). IsOn e (neighbor c.index.result.now.cell c.args.dir)) (sym c.shape.ensures.value) on))
+    let on = rw here at (c.shape.ensures.formed.room _ room).0 in
+    absurd (c.in_default.ensures (rw c.shape.ensures.value on))
