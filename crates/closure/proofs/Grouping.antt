@@ -8,10 +8,9 @@ use Rattle.cellset.specs.CellSet.{Cells, Has}
 use Rattle.cellset.specs.declared.cell.Cell.{Cell}
 use Rattle.reach.specs.Reached.{Reached, at_seed, by_step, WalksTo}
 use Rattle.reach.proofs.Chains.{reached_more}
-use Rattle.closure.specs.Pattern.{Seeds}
 use Rattle.closure.specs.Arena.{boxes_at, line_at, pattern_at}
 use Rattle.closure.specs.Around.{IsFlooded, IsOnePiece}
-use Rattle.closure.specs.Groups.{AreGroups, HasSeedsFrom, HasSeedsOnly, HasStar, IsSeed, IsSeedOf, list_of}
+use Rattle.closure.specs.Groups.{AreGroups, HasSeedsFrom, HasSeedsOnly, HasStar, IsSeedOf, list_of}
 use Rattle.closure.specs.Spans.{AreSpans, IsWithin, part, span_at}
 use Rattle.closure.specs.declared.groups.Groups.{Groups}
 use Rattle.closure.specs.declared.arena.Arena.{Arena}

@@ -1,5 +1,5 @@
 -- Pushes on a board. A push moves one box to floor, so boxes that were on floor are on floor after it.
-use Rattle.std.proofs.Common.{sym, subst, inl, inr}
+use Rattle.std.proofs.Common.{inl, inr}
 use Rattle.std.specs.FinSet as set
 use Rattle.cellset.specs.CellSet.{Cells, Has}
 use Rattle.cellset.specs.declared.cell.Cell.{Cell}

@@ -1,6 +1,6 @@
 -- Lists to which lines are added one after another. As long as all lines are lawful, the list has them. The first line that isn't lawful is
 -- the first fault of the lines so far, and of those with any line more.
-use Rattle.std.proofs.Common.{◌≡◌, true, false, List, [], ◌∷◌, ◌++◌, ℕ, append_assoc, refl, sym, ◌∙◌, ap, subst, inl, inr, arith}
+use Rattle.std.proofs.Common.{◌≡◌, true, false, List, [], ◌∷◌, ◌++◌, ℕ, append_assoc, refl, sym, ◌∙◌, ap, inl, inr, arith}
 use Rattle.std.specs.Prelude.{MatchOption, Option, None, Some}
 use Rattle.std.specs.Option.{is_some}
 use Rattle.std.specs.List.{Contains}
@@ -9,7 +9,7 @@ use Rattle.std.proofs.lemmas.List.{map-append}
 use Rattle.std.proofs.lemmas.List.Elements.{Contains-append_cases, Contains-append_right}
 use Rattle.board.specs.Game.{Level}
 use Rattle.answers.specs.Body.{PatternLine}
-use Rattle.closure.specs.Pattern.{Pattern, pattern_of, patterns_of}
+use Rattle.closure.specs.Pattern.{pattern_of, patterns_of}
 use Rattle.closure.specs.Closed.{AreLawful, IsLawful}
 use Rattle.closure.specs.FirstFault.{IsFirstPatternFault, IsUnlawful}
 use Rattle.closure.specs.declared.fault.LineWhy.{LineWhy}

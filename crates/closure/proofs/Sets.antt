@@ -1,7 +1,7 @@
 -- Members of sets of cells. The library says by a test which cells the result of an operation has. These lemmas say it by cases, so that a
 -- proof goes from members to members. Two sets with the same members are one value, so an equation between sets follows from cases in
 -- both directions.
-use Rattle.std.proofs.Common.{◌≡◌, ◌≢◌, Bool, true, false, not, ◌&&◌, refl, sym, ◌∙◌, ap, subst, inl, inr, ◌⊎◌, eq-eqb}
+use Rattle.std.proofs.Common.{◌≡◌, ◌≢◌, Bool, true, not, ◌&&◌, refl, sym, ◌∙◌, ap, inl, inr, ◌⊎◌}
 use Rattle.std.specs.Prelude.{◌==◌}
 use Rattle.std.proofs.lemmas.Bool.{eqb-true, false≢true}
 use Rattle.std.specs.FinSet as set

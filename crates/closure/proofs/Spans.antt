@@ -12,7 +12,7 @@ use Rattle.answers.specs.declared.pattern.Coord.{Coord}
 use Rattle.answers.specs.Body.{PatternLine}
 use Rattle.closure.specs.Pattern.{cell_of}
 use Rattle.closure.specs.Arena.{coord_of, line_in}
-use Rattle.closure.specs.Spans.{AreSpans, AreWithin, IsWithin, part, span_at}
+use Rattle.closure.specs.Spans.{AreSpans, AreWithin, IsWithin, part}
 use Rattle.closure.specs.declared.arena.StoredLine.{StoredLine}
 use Rattle.closure.specs.declared.arena.Span.{Span}
 use Rattle.closure.proofs.Lists.{length_more, new_item, old_item}

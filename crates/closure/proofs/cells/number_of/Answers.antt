@@ -1,4 +1,4 @@
-use Rattle.std.proofs.Common.{◌≢◌, get_or, refl}
+use Rattle.std.proofs.Common.{◌≢◌, refl}
 use Rattle.std.proofs.lemmas.List.Elements.{All-more}
 use Rattle.cellset.proofs.Members.{lacks_where}
 use Rattle.closure.specs.Sides.{cells_in}

@@ -1,6 +1,4 @@
-use Rattle.std.proofs.Common.{sym, ◌∙◌, subst, inl, inr}
-use Rattle.std.specs.FinSet as set
-use Rattle.cellset.specs.CellSet.{Has}
+use Rattle.std.proofs.Common.{sym, ◌∙◌, inl, inr}
 use Rattle.cellset.proofs.Members.{has_insert, inserted, kept_by_insert}
 use Rattle.closure.proofs.checking.add_player.Goals as goal
 

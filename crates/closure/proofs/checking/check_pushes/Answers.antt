@@ -2,14 +2,14 @@
 -- `GroupPushes.antt`). For any
 -- other line `first_push` decides. If it returns a push, that is the line's first one whose result isn't covered, and the lines before
 -- it are fine, so it is the first fault of the list (`FirstLines.antt`).
-use Rattle.std.proofs.Common.{◌≡◌, false, ℕ, ◌<◌, length, get_or, refl, sym, ◌∙◌, ap, subst, arith}
-use Rattle.std.specs.Prelude.{IsTrue, slice_index}
+use Rattle.std.proofs.Common.{◌≡◌, ℕ, ◌<◌, length, refl, sym, ◌∙◌, ap, arith}
+use Rattle.std.specs.Prelude.{slice_index}
 use Rattle.std.proofs.lemmas.List.{get_or-map, length-map}
 use Rattle.answers.specs.Body.{PatternLine}
 use Rattle.closure.specs.Arena.{line_at, line_in, lines_in, pattern_at}
 use Rattle.closure.specs.Closed.{CoversPushesOf}
-use Rattle.closure.specs.FirstFault.{HasFirstUncovered, IsFirstFaultyLine}
-use Rattle.closure.specs.Pattern.{Pattern, pattern_of}
+use Rattle.closure.specs.FirstFault.{HasFirstUncovered}
+use Rattle.closure.specs.Pattern.{Pattern}
 use Rattle.closure.specs.Groups.{list_of}
 use Rattle.closure.specs.declared.arena.StoredLine.{StoredLine}
 use Rattle.closure.proofs.Arenas.{list_long}

@@ -8,16 +8,15 @@ use Rattle.std.proofs.lemmas.Bool.{cases_lt, false≢true}
 use Rattle.std.specs.Prelude.{◌↔◌, IsTrue, false}
 use Rattle.cellset.specs.Shape.{Extent}
 use Rattle.cellset.specs.Cell.{IsOn, neighbor}
-use Rattle.cellset.specs.CellSet.{Cells, CellsOn, Has, Lacks}
+use Rattle.cellset.specs.CellSet.{CellsOn, Has, Lacks}
 use Rattle.cellset.specs.declared.cell.Cell.{Cell}
 use Rattle.cellset.proofs.Members.{not_both}
 use Rattle.cellset.proofs.Truth.{either}
 use Rattle.board.specs.Game.{Level}
 use Rattle.closure.specs.Pattern.{InPatternRegion}
-use Rattle.closure.specs.Sides.{IsAround, cell_no, cells_in}
+use Rattle.closure.specs.Sides.{cell_no, cells_in}
 use Rattle.closure.specs.Spans.{AreSpans, part, span_at}
 use Rattle.closure.specs.Closed.{AreLawful}
-use Rattle.closure.specs.Around.{IsOnePiece}
 use Rattle.closure.specs.GroupRegions.{AreSidesAt, IsRegionAt}
 use Rattle.closure.specs.Groups.{IsGrouped, boxes_of, list_of, position_at}
 use Rattle.closure.specs.Trap.{AreOff}

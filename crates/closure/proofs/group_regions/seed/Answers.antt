@@ -2,18 +2,17 @@
 -- of the group, and all free seeds of its lines from `at` on, and that line `at` - 1 is one of them if there is one. A turn adds the free
 -- seeds of this line and goes to the last line of the group before it, so it skips none (`IsLast`). A line that says `*` is what the
 -- result false reports. At the end of the chain no line of the group comes earlier, so the seeds of all its lines are there.
-use Rattle.std.proofs.Common.{◌≡◌, ℕ, ◌-◌, ◌<◌, length, get_or, sym, ◌∙◌, ap, subst, inl, inr, arith}
+use Rattle.std.proofs.Common.{◌≡◌, ◌-◌, ◌<◌, length, sym, ◌∙◌, ap, inl, inr, arith}
 use Rattle.std.proofs.lemmas.Bool.{cases_lt}
 use Rattle.std.specs.Prelude.{◌↔◌, ◌⊎◌}
 use Rattle.cellset.specs.CellSet.{Has}
 use Rattle.cellset.specs.declared.cell.Cell.{Cell}
 use Rattle.cellset.proofs.Members.{has_empty}
 use Rattle.cellset.proofs.Truth.{either}
-use Rattle.closure.specs.Pattern.{Pattern, Seeds, listed}
+use Rattle.closure.specs.Pattern.{Pattern, listed}
 use Rattle.closure.specs.Arena.{pattern_at, seeds_among}
-use Rattle.closure.specs.Chains.{IsLast}
 use Rattle.closure.specs.Sides.{cells_in}
-use Rattle.closure.specs.Groups.{IsSeed, SeedsAreIn, list_of}
+use Rattle.closure.specs.Groups.{list_of}
 use Rattle.closure.proofs.CellLists.{at_any}
 use Rattle.closure.proofs.Grouped.{seeds_more}
 use Rattle.closure.proofs.group_regions.seed.Goals as goal

@@ -1,4 +1,4 @@
-use Rattle.std.proofs.Common.{◌≡◌, ◌&&◌, true, sym, subst, rules, tests}
+use Rattle.std.proofs.Common.{◌≡◌, ◌&&◌, true, sym, rules, tests}
 use Rattle.std.specs.Prelude.{◌==◌}
 use Rattle.std.proofs.lemmas.Slice.Eq.{slice_eq-Decides}
 use Rattle.cellset.specs.declared.cell.Cell.{Cell}

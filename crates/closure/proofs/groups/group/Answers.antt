@@ -1,4 +1,4 @@
-use Rattle.std.proofs.Common.{◌≡◌, ℕ, ◌≤◌, ◌+◌, List, [], ◌∷◌, ◌++◌, length, sym, ap, subst, inl, inr, arith}
+use Rattle.std.proofs.Common.{◌≡◌, ◌+◌, List, [], ◌∷◌, ◌++◌, length, ap, inl, inr, arith}
 use Rattle.closure.specs.Groups.{AreGroups}
 use Rattle.closure.specs.declared.arena.Span.{Span}
 use Rattle.closure.proofs.Grouping.{group_more, line_more, line_within}

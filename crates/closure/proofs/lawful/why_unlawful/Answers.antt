@@ -1,6 +1,4 @@
-use Rattle.std.proofs.Common.{inr, subst, sym}
-use Rattle.closure.specs.Arena.{seeds_among}
-use Rattle.closure.specs.Closed.{IsListedSeed}
+use Rattle.std.proofs.Common.{inr}
 use Rattle.closure.proofs.lawful.why_unlawful.Goals as goal
 
 pub are_in-requires : goal.are_in-requires

@@ -9,7 +9,7 @@ use Rattle.cellset.specs.CellSet.{Lacks}
 use Rattle.cellset.specs.declared.cell.Cell.{Cell}
 use Rattle.cellset.specs.declared.dir.Dir.TheVariants.{L}
 use Rattle.closure.specs.CellIndex.{index_of}
-use Rattle.closure.specs.Hits.{AreHits, HitsDecide}
+use Rattle.closure.specs.Hits.{HitsDecide}
 use Rattle.closure.specs.declared.tree.Hit.{Hit}
 use Rattle.closure.specs.declared.tree.Node.{Node}
 use Rattle.closure.proofs.CellLists.{at_any}

@@ -3,7 +3,6 @@
 -- `whole`, it has every cell of the room without the boxes, and so the player's. If it isn't, `is_inside` decides by the hits on the path,
 -- which serve for the group because its boxes are among the boxes of the state.
 use Rattle.std.proofs.Common.{◌≢◌, get_or, List, refl, sym, subst}
-use Rattle.std.specs.List.{All}
 use Rattle.std.proofs.lemmas.Bool.{false≢true}
 use Rattle.cellset.specs.CellSet.{Has}
 use Rattle.cellset.specs.declared.cell.Cell.{Cell}

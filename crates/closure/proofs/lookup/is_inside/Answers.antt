@@ -2,14 +2,13 @@
 -- a box of the group. So the first hit that is one decides: the player is in the region exactly if the region lies on the side of the box
 -- where the path meets it, which the facts about the region have. If no hit is a box of the group, the root decides, and these facts have
 -- that too.
-use Rattle.std.proofs.Common.{List, get_or, sym, ◌∙◌, ap, subst, arith}
+use Rattle.std.proofs.Common.{List, get_or, sym, ◌∙◌, ap, arith}
 use Rattle.std.specs.Prelude.{◌↔◌, IsTrue}
 use Rattle.cellset.specs.Cell.{neighbor}
-use Rattle.cellset.specs.CellSet.{Has, Lacks}
 use Rattle.cellset.specs.declared.dir.Dir.TheVariants.{L}
 use Rattle.cellset.specs.declared.cell.Cell.{Cell}
 use Rattle.closure.specs.Pattern.{InPatternRegion}
-use Rattle.closure.specs.Sides.{cell_no, cells_in}
+use Rattle.closure.specs.Sides.{cell_no}
 use Rattle.closure.specs.Groups.{boxes_of, position_at}
 use Rattle.closure.specs.declared.tree.Hit.{Hit}
 use Rattle.closure.proofs.Turns.{through}

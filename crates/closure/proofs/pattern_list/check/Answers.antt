@@ -1,12 +1,10 @@
 -- The invariant says that the list has the first patterns. After the loop these are all patterns, and the check of the list says of any lines
 -- that it has what the function promises.
-use Rattle.std.proofs.Common.{List, ◌∷◌, [], ◌++◌, ◌∙◌, ap, sym, subst, take}
+use Rattle.std.proofs.Common.{◌∷◌, [], ◌++◌, ◌∙◌, ap, sym, take}
 use Rattle.std.specs.Prelude.{map}
 use Rattle.std.proofs.lemmas.List.{length-map, map_more, take_all}
-use Rattle.answers.specs.Body.{PatternLine}
 use Rattle.answers.specs.Grammar.{said_pattern}
 use Rattle.answers.specs.declared.pattern.Pattern.{Pattern}
-use Rattle.closure.specs.PatternList.{IsListOf}
 use Rattle.closure.proofs.pattern_list.check.Goals as goal
 
 pub loop-pattern-preserved : goal.loop-pattern-preserved

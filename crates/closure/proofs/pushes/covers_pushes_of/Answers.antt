@@ -2,12 +2,9 @@
 -- of any other group, and that the set, if there is one, has its boxes. The tables have the sides of the next box on which the region lies
 -- (`sides_of`), so `covers_each_way` may be called for it. Every push out of the group moves one of its boxes, so after the loop the list
 -- covers them all (`covered_each_box`). The result false claims nothing.
-use Rattle.std.proofs.Common.{◌≡◌, List, refl, ap, subst, inl, inr, arith}
+use Rattle.std.proofs.Common.{◌≡◌, refl, ap, inl, inr, arith}
 use Rattle.std.proofs.lemmas.Bool.{cases_lt}
-use Rattle.cellset.specs.CellSet.{Has}
-use Rattle.cellset.specs.declared.cell.Cell.{Cell}
-use Rattle.closure.specs.Sides.{cell_no, cells_in}
-use Rattle.closure.specs.GroupPushes.{CoversFrom}
+use Rattle.closure.specs.Sides.{cells_in}
 use Rattle.closure.specs.Groups.{list_of, position_at}
 use Rattle.closure.proofs.Grouped.{boxes_on}
 use Rattle.closure.proofs.GroupPushes.{covered_each_box, trapped_pushes}

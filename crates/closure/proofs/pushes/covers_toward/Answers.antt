@@ -1,12 +1,9 @@
 -- A push to the trap is covered (`toward_trap`). Any other one leaves no box on the trap, so hints and lookups may be asked of its result
 -- (`off_after`), and if one of its pushes in the direction is covered, so are all of them (`covered_one`).
-use Rattle.std.proofs.Common.{List, refl, subst}
+use Rattle.std.proofs.Common.{refl}
 use Rattle.std.proofs.lemmas.Bool.{false≢true}
-use Rattle.cellset.specs.declared.cell.Cell.{Cell}
 use Rattle.cellset.proofs.Members.{lacks_where}
-use Rattle.closure.specs.Pattern.{IsCovered}
 use Rattle.closure.specs.Sides.{cells_in}
-use Rattle.closure.specs.Run.{state_after}
 use Rattle.closure.specs.GroupPushes.{pushed_cell}
 use Rattle.closure.specs.Groups.{list_of, position_at}
 use Rattle.closure.proofs.CellLists.{in_list, no_cell}

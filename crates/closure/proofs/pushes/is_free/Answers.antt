@@ -1,10 +1,8 @@
 use Rattle.std.proofs.Common.{refl}
 use Rattle.std.proofs.lemmas.Bool.{false≢true}
-use Rattle.cellset.specs.CellSet.{Has}
 use Rattle.cellset.proofs.Members.{not_both}
 use Rattle.closure.specs.Sides.{cells_in}
 use Rattle.closure.proofs.CellLists.{in_list, no_cell}
-use Rattle.std.proofs.Common.{subst}
 use Rattle.closure.proofs.pushes.is_free.Goals as goal
 
 pub returns-then-not-has : goal.returns-then-not-has

@@ -1,6 +1,3 @@
-use Rattle.std.proofs.Common.{sym, subst}
-use Rattle.cellset.specs.Shape.{Extent}
-use Rattle.cellset.specs.Cell.{IsOn}
 use Rattle.closure.proofs.pushes.load_boxes.Goals as goal
 
 pub load-requires : goal.load-requires

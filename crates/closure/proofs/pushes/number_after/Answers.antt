@@ -1,6 +1,6 @@
 -- Each cell that the loop has passed has a box after the push: it is the pushed box's new cell, or one of the boxes that isn't on the old
 -- cell. At the end these are all cells, and the number that was found is the pushed box's.
-use Rattle.std.proofs.Common.{◌≡◌, ◌<◌, ℕ, IfSome, length, get_or, sym, subst}
+use Rattle.std.proofs.Common.{◌≡◌, ◌<◌, ℕ, IfSome, length, get_or}
 use Rattle.std.specs.Prelude.{None, Some}
 use Rattle.std.specs.FinSet as set
 use Rattle.std.proofs.lemmas.List.Elements.{All-more}

@@ -2,16 +2,12 @@
 -- doesn't lie on the side from which the box is pushed, or that side is off the grid, the player can't come there (`unreached`). If the cell
 -- ahead is off the grid, or has a wall or a box, the box can't go there (`barred`). Otherwise the push is the one of this box in the
 -- direction. A cell of the region has no box (`region_lacks`), and any other cell ahead is compared with the boxes.
-use Rattle.std.proofs.Common.{List, refl, sym, ◌∙◌, ap, subst}
+use Rattle.std.proofs.Common.{refl, sym, ◌∙◌, ap}
 use Rattle.std.proofs.lemmas.Bool.{false≢true}
-use Rattle.cellset.specs.Cell.{IsOn, neighbor, opposite}
-use Rattle.cellset.specs.CellSet.{Lacks}
-use Rattle.cellset.specs.declared.cell.Cell.{Cell}
+use Rattle.cellset.specs.Cell.{neighbor, opposite}
 use Rattle.cellset.proofs.Neighbors.{neighbor_back}
-use Rattle.reach.specs.Region.{IsFree}
 use Rattle.closure.specs.GroupPushes.{pushed_cell}
 use Rattle.closure.specs.Groups.{position_at}
-use Rattle.closure.specs.Sides.{cells_in}
 use Rattle.closure.proofs.CellLists.{in_list, no_cell}
 use Rattle.closure.proofs.Grouped.{boxes_on}
 use Rattle.closure.proofs.GroupPushes.{barred, unreached}

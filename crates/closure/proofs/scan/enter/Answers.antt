@@ -2,13 +2,9 @@
 -- and so does the region that `find` returns: that is the invariant of entries. With `*` the cells of the room without a box are the
 -- region, and with listed seeds the cells of the found region are, where there is no box (`Regions.antt`). So in both cases the entry
 -- covers what its pattern covers.
-use Rattle.std.proofs.Common.{◌≡◌, List, Option, get_or, sym, ◌∙◌, ap, subst, inl}
-use Rattle.std.specs.Borrow.{Bor}
-use Rattle.std.specs.Prelude.{◌↔◌, Some, None}
-use Rattle.cellset.specs.CellSet.{Has, Lacks}
-use Rattle.cellset.specs.declared.cell.Cell.{Cell}
-use Rattle.closure.specs.Arena.{pattern_in, seeds_among}
-use Rattle.closure.specs.Pattern.{InPatternRegion}
+use Rattle.std.proofs.Common.{◌≡◌, sym, ◌∙◌, ap, inl}
+use Rattle.std.specs.Prelude.{Some, None}
+use Rattle.closure.specs.Arena.{pattern_in}
 use Rattle.closure.specs.Sides.{cells_in}
 use Rattle.closure.proofs.CellLists.{in_list}
 use Rattle.closure.proofs.Regions.{room_outside, region_outside}

@@ -1,7 +1,6 @@
-use Rattle.std.proofs.Common.{ℕ, ◌+◌, ◌<◌, ◌≤◌, List, length, ap, sym, ◌∙◌, subst, arith}
+use Rattle.std.proofs.Common.{ℕ, ◌+◌, ◌<◌, List, length, ap, sym, ◌∙◌, subst, arith}
 use Rattle.closure.specs.Arena.{list_in, pattern_at}
 use Rattle.closure.specs.Closed.{IsLawful}
-use Rattle.closure.specs.Pattern.{Pattern}
 use Rattle.closure.specs.Scan.{IsEntryOf}
 use Rattle.closure.specs.declared.scan.Entry.{Entry}
 use Rattle.closure.proofs.Arenas.{list_long, listed_at}

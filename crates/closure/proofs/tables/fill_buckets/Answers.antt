@@ -2,7 +2,7 @@
 -- is doesn't matter to any proof. A group has a box (`listed_some` in `Lookups.antt`), and its boxes lie on the grid, so their indexes are
 -- within the table (`index_in`). After the loop every group has a key below the length of the table, so the groups can be chained by their
 -- keys.
-use Rattle.std.proofs.Common.{◌<◌, ◌≤◌, ◌+◌, ◌∙◌, ℕ, List, length, slice_index, ap, sym, subst, arith}
+use Rattle.std.proofs.Common.{◌<◌, ◌+◌, ◌∙◌, ℕ, List, length, slice_index, ap, arith}
 use Rattle.cellset.specs.Shape.{Extent}
 use Rattle.closure.proofs.Lists.{length_more}
 use Rattle.closure.proofs.Lookups.{bucket_more, key_within, listed_some}

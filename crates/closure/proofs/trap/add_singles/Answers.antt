@@ -2,8 +2,6 @@
 -- again, by cases on whether a cell was there or is the new one.
 use Rattle.std.proofs.Common.{◌≡◌, ◌<◌, ◌≤◌, List, [], ◌∷◌, length, None, refl, sym, ◌∙◌, subst, inl, arith}
 use Rattle.std.specs.FinSet as set
-use Rattle.std.specs.List.{Contains}
-use Rattle.cellset.specs.CellSet.{Cells, Has}
 use Rattle.cellset.specs.declared.cell.Cell.{Cell}
 use Rattle.cellset.proofs.Members.{has_empty, inserted}
 use Rattle.cellset.proofs.Truth.{either}

@@ -1,4 +1,4 @@
-use Rattle.std.proofs.Common.{subst, arith}
+use Rattle.std.proofs.Common.{arith}
 use Rattle.closure.specs.Arena.{list_in, pattern_at}
 use Rattle.closure.specs.Trap.{IsTrapped}
 use Rattle.closure.proofs.Arenas.{list_long}

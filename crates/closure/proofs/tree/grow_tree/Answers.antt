@@ -2,8 +2,7 @@
 -- neighbour of the first `from` nodes is left. A turn joins the neighbours of the next node. Once every node has had its turn, no cell is
 -- left, because the room is joined (`none_left` in `Spanning.antt`), so the tree spans the room. A turn doesn't change
 -- how many nodes and cells left there are together, and one node fewer awaits its turn each time, so the loop ends.
-use Rattle.std.proofs.Common.{◌≡◌, length, subst, ◌∙◌, arith}
-use Rattle.closure.specs.SpanningTree.{AreJoinedBeside}
+use Rattle.std.proofs.Common.{◌≡◌, length, ◌∙◌, arith}
 use Rattle.closure.proofs.Spanning.{none_left}
 use Rattle.closure.proofs.tree.grow_tree.Goals as goal
 

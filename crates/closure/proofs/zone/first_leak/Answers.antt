@@ -2,14 +2,10 @@
 -- cell leaks, or None, which keeps the invariant. A leak that comes before the one found is of an earlier cell, which came before
 -- (`MemberLists.antt` of `cellset`), or of the same cell in an earlier direction, so there is none. After the loop every cell of the zone
 -- has come, so the zone is closed.
-use Rattle.std.proofs.Common.{List, ◌++◌, sym, subst, arith}
+use Rattle.std.proofs.Common.{arith}
 use Rattle.std.proofs.lemmas.List.Elements.{Contains-push_cases}
-use Rattle.cellset.specs.Shape.{Extent}
-use Rattle.cellset.specs.Members.{AreMembersOf}
-use Rattle.cellset.specs.declared.cell.Cell.{Cell}
 use Rattle.cellset.proofs.MemberLists.{all_came, next_has, came_before, next_came}
 use Rattle.cellset.proofs.Truth.{either}
-use Rattle.closure.specs.Zone.{Leaks}
 use Rattle.closure.proofs.zone.first_leak.Goals as goal
 
 pub leak_from-requires-clause-on : goal.leak_from-requires-clause-on

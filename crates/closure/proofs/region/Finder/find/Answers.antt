@@ -1,15 +1,7 @@
 -- There are two cases. With `*` the region is the room without the boxes, and that is what is copied and taken out (`room_region` in
 -- `Regions.antt`). With listed seeds it is what the flood reaches from them past walls and boxes. The pattern is lawful, so its boxes and
 -- seeds lie on the grid and can be put into the sets.
-use Rattle.std.proofs.Common.{List, Option, sym, subst, inl, inr}
-use Rattle.std.specs.Borrow.{Bor}
-use Rattle.std.specs.Prelude.{◌↔◌}
-use Rattle.std.specs.FinSet as set
-use Rattle.cellset.specs.CellSet.{Has}
-use Rattle.cellset.specs.declared.cell.Cell.{Cell}
-use Rattle.closure.specs.Arena.{seeds_among}
-use Rattle.closure.specs.Pattern.{InPatternRegion}
-use Rattle.closure.specs.Closed.{IsListedSeed}
+use Rattle.std.proofs.Common.{inl, inr}
 use Rattle.closure.specs.Sides.{cells_in}
 use Rattle.closure.proofs.Regions.{room_region}
 use Rattle.closure.proofs.region.Finder.find.Goals as goal

@@ -1,7 +1,6 @@
-use Rattle.std.proofs.Common.{◌≢◌, sym, subst}
+use Rattle.std.proofs.Common.{◌≢◌, sym}
 use Rattle.std.specs.Prelude.{◌↔◌, IsTrue, unwrap_or}
 use Rattle.std.specs.Option.{option_map}
-use Rattle.std.specs.List.{All}
 use Rattle.cellset.specs.CellSet.{Has}
 use Rattle.cellset.specs.declared.cell.Cell.{Cell}
 use Rattle.board.specs.Game.{State}

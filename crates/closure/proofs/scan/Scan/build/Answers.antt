@@ -1,10 +1,8 @@
 use Rattle.std.proofs.Common.{List, sym, ◌∙◌, subst}
-use Rattle.std.specs.Prelude.{◌↔◌}
 use Rattle.answers.specs.Body.{PatternLine}
 use Rattle.closure.specs.Arena.{list_in}
 use Rattle.closure.specs.Closed.{AreLawful}
-use Rattle.closure.specs.Pattern.{patterns_of, IsCovered}
-use Rattle.closure.specs.Scan.{EntriesCover}
+use Rattle.closure.specs.Pattern.{patterns_of}
 use Rattle.closure.proofs.Entries.{entries_cover, entries_grid}
 use Rattle.closure.proofs.scan.Scan.build.Goals as goal
 

@@ -6,8 +6,7 @@ use Rattle.std.proofs.Common.{◌+◌, List, ℕ, length, get_or, set, refl, sym
 use Rattle.std.specs.FinSet as finset
 use Rattle.std.specs.Vec.{with_item}
 use Rattle.std.proofs.lemmas.List.{get_or_read}
-use Rattle.cellset.specs.Shape.{Extent}
-use Rattle.cellset.specs.Cell.{IsOn, neighbor}
+use Rattle.cellset.specs.Cell.{neighbor}
 use Rattle.cellset.specs.CellSet.{Cells, Lacks}
 use Rattle.cellset.proofs.Members.{remove_absent}
 use Rattle.closure.specs.CellIndex.{index_of}
