@@ -83,8 +83,7 @@ all_left shape s from on start =
     record {
       exact = λ q. (
         has q,
-        λ member. filter_kept (passes s from) (grid_cells shape) q (grid_has shape q (on q member))
-            (passing s from q member (begun q member from start)),
+        λ member. filter_kept (passes s from) (grid_cells shape) q (grid_has shape q (on q member)) (passing s from q member (begun q member from start)),
       );
       on = λ q h. on q (has q h);
       in_order = IsStrictlySortedBy-filter cell_cmp (passes s from) (grid_cells shape) (grid_sorted shape);

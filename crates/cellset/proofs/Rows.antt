@@ -188,8 +188,7 @@ row_bit : (shape : Extent) (row part bits : ℕ) (q : Cell) → IsRowOn shape ro
     (cells_of_row row part bits) q
 row_bit shape row part bits q row_on fits on from =
     let j = index shape q - index shape (first_cell row part) in
-    bit_down bits (1 - part) j ∙
-    true_or_false (bit bits (1 - part + j))
+    bit_down bits (1 - part) j ∙ true_or_false (bit bits (1 - part + j))
     (λ is_set.
     let there = part_at shape row part bits j row_on fits is_set in
     let same_place : index shape q ≡ index shape (row_cell row part (1 - part + j)) = let e = there.1 in omega (arith, from, e) in
@@ -213,8 +212,7 @@ pub row_members : (shape : Extent) (old new : List ℕ) (row part bits : ℕ) �
     → members_of shape new ≡ set.union (members_of shape old) (cells_of_row row part bits)
 row_members shape old new row part bits is a = same_on shape new (set.union (members_of shape old) (cells_of_row row part bits))
     (λ q has. or_cases (contains (members_of shape old) q) (contains (cells_of_row row part bits) q)
-    (sym (contains-union cells_total (members_of shape old) (cells_of_row row part bits) q) ∙ has)
-    (member_on shape old q)
+    (sym (contains-union cells_total (members_of shape old) (cells_of_row row part bits) q) ∙ has) (member_on shape old q)
     (λ in_row. let i = has_in_row row part bits 64 q in_row in subst (IsOn shape) (sym i.here) (a.row_on i.k i.below i.is_set)))
     (λ q on.
     let n = index shape (first_cell row part) in
@@ -242,8 +240,7 @@ row_bits shape old new row part bits is a = record {
     unset : (k : ℕ) → shape.width * shape.height ≤ k → bit (bits / 2 ^ (1 - part)) (k - index shape (first_cell row part)) ≡ false
     unset k past =
         let n = index shape (first_cell row part) in
-        bit_down bits (1 - part) (k - n) ∙
-        true_or_false (bit bits (1 - part + (k - n)))
+        bit_down bits (1 - part) (k - n) ∙ true_or_false (bit bits (1 - part + (k - n)))
         (λ is_set.
         let there = part_at shape row part bits (k - n) a.row_on a.fits is_set in
         let at = there.1 in

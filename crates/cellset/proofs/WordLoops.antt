@@ -233,8 +233,7 @@ one_outside words others i fits others_fit some all =
     absurd (false≢true (sym parts.1 ∙ sym (bit_there others i t small) ∙ all (64 * i + t) (bit_there words i t small ∙ parts.0)))
 
 -- four words add the counts of their bits to the count before them
-pub count_four : (words : List ℕ) (i : ℕ) → ((k : ℕ) → get_or words k 0 < 2 ^ 64)
-    → bits_below words (64 * (i + 4)) ≡ bits_below words (64 * i) +
+pub count_four : (words : List ℕ) (i : ℕ) → ((k : ℕ) → get_or words k 0 < 2 ^ 64) → bits_below words (64 * (i + 4)) ≡ bits_below words (64 * i) +
     (count_ones (get_or words i 0) + count_ones (get_or words (i + 1) 0) + count_ones (get_or words (i + 2) 0) + count_ones (get_or words (i + 3) 0))
 count_four words i fits =
     let one = step i (i + 1) (omega arith) in
