@@ -7,7 +7,7 @@ import unittest
 from typing import Any, Dict
 
 from solve import search
-from sokotool import boards, levels
+from sokotool import boards, changes, levels
 from tests.tools.helping import SAMPLES, Case
 
 MAPS = "/usr/share/games/cavepacker/maps"
@@ -188,6 +188,21 @@ class Twins(Case):
         some = chance.sample(pictures, 100)
         self.compare(pictures +
                      [framed(chance, turned(rows, chance.randrange(8))) for rows in some])
+
+
+class Matches(unittest.TestCase):
+    def test_levels_with_the_same_board_are_matched_by_their_neighbours(self):
+        """A twin that is inserted is the new one, wherever its twins are."""
+        drawn = ["#" * (n + 6) + "\n#@" + " " * n + "$ .#\n" + "#" * (n + 6) for n in range(5)]
+        was = [0, 1, 2, 0, 3, 0, 4]
+        for at, number in ((0, 0), (2, 0), (4, 0), (7, 0), (3, 2)):
+            now = was[:at] + [number] + was[at:]
+            states = []
+            for several in (was, now):
+                found = levels.read("\n\n".join(drawn[it] for it in several).encode())
+                states.append(changes.State(found, boards.forms_of(found), []))
+            kept = {match.new: match.old for match in changes.matches(*states)}
+            self.assertEqual(kept, {new: new - (new > at) for new in range(8) if new != at}, at)
 
 
 class Carry(Case):

@@ -321,6 +321,38 @@ class Reading(Case):
         self.assertIn("Gr\u00f6\u00dfe\n", found)
         self.assertIn("Ma\u00dfe \u201cq\u201d\n", found)
 
+    def test_words_about_what_is_wrong(self):
+        self.write("empty", "nothing\n")
+        self.write("a.txt", ONE)
+        for words, why in (
+                (("twins", "empty"), "twins: empty has no level\n"),
+                (("convert", "", "a.txt"), "convert: the name '' has nothing before .xsb\n"),
+                (("check", "in/", "a.txt"), "check: the name 'in/' has nothing before .xsb\n"),
+                (("carry", "a.txt", "a.txt", "a.txt"), "carry: a.txt is no answers file: line 1 "
+                                                       "isn't 'sokoban-answers 1'\n"),
+                (("table", "a.txt", "-"), "table: an entrant is named after a file, so - is none\n")
+                ):
+            result = self.tool(*words)
+            self.assertEqual((result.status, result.out, result.err), (2, b"", why))
+        self.write("many.txt", "\n".join([ONE] * 10_001))
+        self.assertEqual(self.tool("check", "my", "many.txt").err,
+                         "check: many.txt line 40001: more than 10000 levels\n")
+
+    def test_hostile_lines(self):
+        """33 MB of such lines take at most 30 s and 1 GB; some are tried here within 1 GB."""
+        def bound():
+            resource.setrlimit(resource.RLIMIT_AS, (1_000_000_000, 1_000_000_000))
+            resource.setrlimit(resource.RLIMIT_CPU, (30, 30))
+        for unit, count in (("r,R,", 5_000_000), ("|#|#|", 2_000_000), ("1#\n", 1_000_000),
+                            ("~#@$.#~\n", 500_000)):
+            self.write("a.txt", ONE + unit * count)
+            found = subprocess.run([TOOL, "convert", "out", "a.txt", "--replace"], check=False,
+                                   stdout=subprocess.PIPE, stderr=subprocess.STDOUT,
+                                   preexec_fn=bound)
+            self.assertIn(found.returncode, (0, 1), found.stdout[:1000])
+            for name in glob.glob("out.*"):
+                os.remove(name)
+
     def test_short_lines(self):
         """33 MB of short lines take at most 20 s and 1 GB; a twentieth is tried here."""
         for unit in ("a\n", "r\n", "#\n", "r a\n"):

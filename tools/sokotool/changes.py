@@ -92,13 +92,23 @@ def _matches(pairs: _Pairs, old: Sequence[boards.Form], new: Sequence[boards.For
     return found
 
 
+def _names(state: State, beside: Sequence[int]) -> Callable[[int], Hashable]:
+    """Returns a function that names a level by its board, its title, and the boards of some levels
+    beside it, by which levels with the same board are told apart."""
+    def name(index: int) -> Hashable:
+        near = [state.forms[index + step].key if 0 <= index + step < len(state.forms) else None
+                for step in beside]
+        return (state.forms[index].key, state.levels[index].title, *near)
+    return name
+
+
 def matches(old: State, new: State) -> List[Match]:
     """Returns the levels that are the same, in order of the new ones. A level that has another
     board now is found by its title, or otherwise by the level before it if it has no title.
     """
     pairs = _Pairs(len(old.levels), len(new.levels))
-    pairs.match(lambda index: (old.forms[index].key, old.levels[index].title),
-                lambda index: (new.forms[index].key, new.levels[index].title))
+    for beside in ((-1, 1), (-1,), (1,), ()):
+        pairs.match(_names(old, beside), _names(new, beside))
     _match_forms(pairs, old.forms, new.forms)
     pairs.match(lambda index: old.levels[index].title or None,
                 lambda index: new.levels[index].title or None)

@@ -41,6 +41,8 @@ class Collection:
     levels of the last one, and `total` all levels.
     """
 
+    advice = "; --split writes several collections"
+
     def __init__(self, best: str = "", split: bool = False, encoding: str = "") -> None:
         self.best, self.split, self.encoding = best, split, encoding
         self.full: List[Tuple[bytes, bytes]] = []
@@ -113,7 +115,7 @@ class Collection:
             self._begin_next()
         if self.count == levels.MOST_LEVELS:
             raise texts.Stop(f"{texts.shown(self.file)} line {line}: more than "
-                             f"{levels.MOST_LEVELS} levels; --split writes several collections")
+                             f"{levels.MOST_LEVELS} levels{self.advice}")
         if self._after_row:
             self._add("")
         self._add(drawn)
@@ -148,7 +150,7 @@ class Collection:
         data = text.encode("utf-8", "replace")
         if len(self.text) + len(data) >= texts.MOST_BYTES:
             raise texts.Stop(f"{texts.shown(self.file)}: the levels are longer than "
-                             f"{texts.MOST_BYTES} bytes; --split writes several collections")
+                             f"{texts.MOST_BYTES} bytes{self.advice}")
         self.text += data + b"\n"
 
     # ---- solutions

@@ -58,7 +58,8 @@ def backups(files: Sequence[File], sources: Sequence[str], replace: bool) -> Lis
                          + ": --replace keeps it as NAME~")
     for name, data, _ in losses:
         if os.path.lexists(name + "~") and texts.read(name + "~") != data:
-            raise texts.Stop(f"{texts.shown(name)}~ is there already: move it away")
+            raise texts.Stop(f"{texts.shown(name)}~ is there already, perhaps from an earlier "
+                             "--replace: move it away")
     return [(name + "~", data) for name, data, _ in losses]
 
 

@@ -63,13 +63,16 @@ def _split(data: AnyStr, end: AnyStr) -> List[AnyStr]:
     """Returns the parts of a text between these ends of lines. Equal short parts are one object, up
     to the limit of the cache."""
     found: List[AnyStr] = []
+    last: List[AnyStr] = []
     seen = Cache(_same)
     for at in range(0, len(data), _BLOCK):
         parts = data[at:at + _BLOCK].split(end)
-        if found:
-            parts[0] = found.pop() + parts[0]
-        found += map(seen.__getitem__, parts)
-    return found
+        last.append(parts[0])
+        if len(parts) > 1:
+            found.append(end[:0].join(last))
+            found += map(seen.__getitem__, parts[1:-1])
+            last = parts[-1:]
+    return found + [end[:0].join(last)] if data else found
 
 
 class Cache(dict):

@@ -62,6 +62,8 @@ def arguments(parser: argparse.ArgumentParser) -> None:
 class QuietCollection(Collection):
     """A collection that keeps what is left out or wrong for the summary."""
 
+    advice = ""
+
     def __init__(self, shown: Progress, options: argparse.Namespace) -> None:
         super().__init__(options.best, encoding=options.encoding or "")
         self.shown = shown
@@ -111,6 +113,7 @@ class Job:
     """A check: its files, the collection as it becomes, and the candidates for its answers."""
 
     def __init__(self, options: argparse.Namespace) -> None:
+        convert.check_name(options.name)
         if options.solver:
             solvers.words_of(options.solver)
         self.options, self.shown = options, Progress("check")

@@ -58,6 +58,7 @@ def _encoding(name: str) -> str:
 
 def run(options) -> int:
     """Converts the files, and reports how much was read."""
+    check_name(options.name)
     ends = (".xsb", ".answers")
     listed = exports.listed(options.files, exports.own(options.name, ends))
     files = [export.name for export in listed]
@@ -72,6 +73,12 @@ def run(options) -> int:
     output.write_files(former.backups(written, sources, options.replace) + written)
     print(f"convert: {collection.summary()}", file=sys.stderr)
     return int(collection.faults > 0)
+
+
+def check_name(name: str) -> None:
+    """Refuses a NAME that names no file."""
+    if not os.path.basename(name):
+        raise texts.Stop(f"the name {texts.shown(name)!r} has nothing before .xsb")
 
 
 def _check_inputs(files: Sequence[str], written: Sequence[str]) -> None:

@@ -61,6 +61,8 @@ class Contest(NamedTuple):
 
 
 def run(options: argparse.Namespace) -> int:
+    if "-" in options.entrants:
+        raise texts.Stop("an entrant is named after a file, so - is none")
     data = texts.read(options.levels)
     found = levels.read_within(data, options.levels)
     entrants = audited(data, len(found), options)

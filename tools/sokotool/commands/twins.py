@@ -25,8 +25,13 @@ def arguments(parser: argparse.ArgumentParser) -> None:
 
 
 def run(options: argparse.Namespace) -> int:
-    found = [(texts.shown(name), level) for name in options.levels
-             for level in levels.read_file(name)]
+    texts.check_names(options.levels)
+    found = []
+    for name in options.levels:
+        several = levels.read_file(name)
+        if not several:
+            raise texts.Stop(f"{texts.shown(name)} has no level")
+        found += [(texts.shown(name), level) for level in several]
     twins = twins_of(boards.forms_of(level for _, level in found))
     for later, first, turn in twins:
         print(*(f"level {level.number}\t{name}:{level.line}"

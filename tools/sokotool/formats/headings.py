@@ -45,9 +45,10 @@ def kind_of(line: str) -> int:
     bare = undressed(line)
     if is_plain_heading(bare):
         return HEADING
-    if "#" in line and (rows.is_plain(line) or rows.why_no_row(line, False)
-                        or not letters.among_words(line)):
+    if "#" in line and (rows.is_plain(line) or rows.why_no_row(line, False)):
         return WALLS
+    if "#" in line and not letters.among_words(line):
+        return TEXT
     if len(line) > 2 and line.count(line[0]) == len(line) and line[0] not in "-=_~*. :;":
         return SOLID
     return _kind_of_words(line, bare)

@@ -200,22 +200,25 @@ def _drop_inner_marks(found: Rows, first: int, end: int) -> None:
     """Reads marks of outer floor as floor, and drops rows with such a mark inside the walls."""
     run = [row for row in found[first:end] if row is not None]
     is_outside = _are_outside_room(run)
-    for at in range(first, end):
-        row = found[at]
-        if row is None or row.kind != "marked":
-            continue
+
+    def unmarked(row: Row) -> Optional[Row]:
         inner = set(rows.inner_marks(row.rows[0]))
         if is_outside or inner <= {"\u00a0"}:
-            found[at] = row._replace(kind="spaced" if inner and not is_outside else "marked",
-                                     rows=(rows.without_marks(row.rows[0]),))
-        else:
-            found[at] = None
+            return row._replace(kind="spaced" if inner and not is_outside else "marked",
+                                rows=(rows.without_marks(row.rows[0]),))
+        return None
+
+    known = texts.Cache(unmarked)
+    for at in range(first, end):
+        row = found[at]
+        if row is not None and row.kind == "marked":
+            found[at] = known[row]
 
 
 def _are_outside_room(run: Sequence[Row]) -> bool:
     """Returns whether the player can reach no mark, wherever the boxes are."""
     drawn = [text for row in run for text in row.rows]
-    if not drawn:
+    if not 0 < len(drawn) <= game.LARGEST_SIDE:
         return False
     board = game.Board(levels.Level(1, [rows.without_marks(text).encode() for text in drawn], 1))
     if board.player is None or board.fault in ("size", "open"):
