@@ -195,7 +195,7 @@ class Matches(unittest.TestCase):
         """A twin that is inserted is the new one, wherever its twins are."""
         drawn = ["#" * (n + 6) + "\n#@" + " " * n + "$ .#\n" + "#" * (n + 6) for n in range(5)]
         was = [0, 1, 2, 0, 3, 0, 4]
-        for at, number in ((0, 0), (2, 0), (4, 0), (7, 0), (3, 2)):
+        for at, number in ((2, 0), (7, 0), (6, 0), (5, 1)):
             now = was[:at] + [number] + was[at:]
             states = []
             for several in (was, now):
