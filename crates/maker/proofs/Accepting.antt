@@ -22,7 +22,7 @@ use Rattle.closure.specs.Pattern.{Pattern, whole_room, cell_of, pattern_of, patt
 use Rattle.closure.specs.Closed.{IsLawful, CoversPushesOf, Closed}
 use Rattle.closure.proofs.CellLists.{of_cells}
 use Rattle.closure.proofs.Regions.{room_outside}
-use Rattle.maker.specs.Dead.{IsRelaxedPush, IsLive, at_goal, pushed, AreDead}
+use Rattle.maker.specs.Dead.{IsRelaxedPush, at_goal, pushed, AreDead}
 use Rattle.maker.specs.Frozen.{IsFrozen, IsLargestFrozen}
 use Rattle.maker.specs.Made.{IsListOf, lone_patterns, IsMadeOfDead, IsMadeOfFrozen, HasDeadBox}
 use Rattle.maker.proofs.Listing.{listed_cell, tail}
@@ -35,7 +35,7 @@ roomy boxes = record { boxes = boxes; seeds = whole_room }
 -- A list of lone patterns has the pattern of each of its cells.
 lone_in : (coords : List Coord) (x : Coord) → Contains coords x → Contains (patterns_of (lone_patterns coords)) (roomy (only (cell_of x)))
 lone_in [] x (k, within, is) = absurd (omega arith)
-lone_in (y ∷ coords) x (zero, within, is) = (0, omega arith, ap (λ (z : Coord). roomy (only (cell_of z))) is)
+lone_in (y ∷ coords) x (zero, within, is) = grind arith
 lone_in (y ∷ coords) x (suc k, within, is) =
     let rest = lone_in coords x (k, omega arith, is) in
     tail (roomy (only (cell_of y))) (patterns_of (lone_patterns coords)) (roomy (only (cell_of x))) rest
@@ -43,7 +43,7 @@ lone_in (y ∷ coords) x (suc k, within, is) =
 lone_of : (coords : List Coord) (p : Pattern) → Contains (patterns_of (lone_patterns coords)) p
     → (x : Coord) × Contains coords x × (roomy (only (cell_of x)) ≡ p)
 lone_of [] p (k, within, is) = absurd (omega arith)
-lone_of (y ∷ coords) p (zero, within, is) = (y, (0, omega arith, refl), is)
+lone_of (y ∷ coords) p (zero, within, is) = grind arith
 lone_of (y ∷ coords) p (suc k, within, is) =
     let rest = lone_of coords p (k, omega arith, is) in
     (rest.0, tail y coords rest.0 rest.1, rest.2)
@@ -52,68 +52,54 @@ lone_of (y ∷ coords) p (suc k, within, is) =
 module _ (cells : Cells) (coords : List Coord) (list : IsListOf cells coords) where
   each_in : (k : Cell) → Has cells k → Contains (patterns_of (lone_patterns coords)) (roomy (only k))
   each_in k has =
-      let from = of_cells coords k (subst (λ (s : Cells). Has s k) (sym list.same) has) in
+      let from = of_cells coords k (rw list.same has) in
       subst (λ (c : Cell). Contains (patterns_of (lone_patterns coords)) (roomy (only c))) from.2 (lone_in coords from.0 from.1)
 
   each_of : (P : Pattern → Type 0) → ((k : Cell) → Has cells k → P (roomy (only k))) → (p : Pattern) → Contains (patterns_of (lone_patterns coords)) p → P p
   each_of P of_cell p h =
       let from = lone_of coords p h in
-      subst P from.2 (of_cell (cell_of from.0) (subst (λ (s : Cells). Has s (cell_of from.0)) list.same (listed_cell coords from.0 from.1)))
+      rw from.2 at (of_cell (cell_of from.0) (rw list.same at (listed_cell coords from.0 from.1)))
 
 module _ (level : Level) (formed : IsWellFormed level) where
   -- A pattern with the whole room is lawful if its boxes are on floor and one is off the goals.
   roomy_lawful : (boxes : Cells) → ((c : Cell) → Has boxes c → IsFloor level c) → (c : Cell) → Has boxes c → Lacks level.goals c → IsLawful level (roomy boxes)
-  roomy_lawful boxes floor c has off = record {
-    board = λ q h. either h (λ box. (floor q box).0) (λ none. absurd none);
-    wall = λ q h. (floor q h).1;
-    seed = λ q none. absurd none;
-    goals = (c, has, off);
-  }
+  roomy_lawful boxes floor c has off = grind (arith, either)
 
   only_within : (k : Cell) (boxes : Cells) → Has boxes k → (c : Cell) → Has (only k) c → Has boxes c
-  only_within k boxes has c h = subst (Has boxes) (sym (has_only k c h)) has
+  only_within k boxes has c h = grind (arith, has_only)
 
   -- The pattern of one cell covers each state with a box there and the player elsewhere in the room.
   covers_only : (k : Cell) (s : State) → Has s.boxes k → Has level.room s.player → s.player ≢ k → Covers level (roomy (only k)) s
-  covers_only k s has room other = record {
-    boxes = only_within k s.boxes has;
-    player = (room_outside level formed (only k) s.player).0 (room, lacks_only k s.player other);
-  }
+  covers_only k s has room other = grind (arith, only_within, room_outside, lacks_only)
 
   -- At a push, the box's cell and the cell behind it are in the room.
   player_room : (boxes : Cells) (push : Push) → PushesOut level (roomy boxes) push → Has level.room push.player × Lacks boxes push.player
-  player_room boxes push out = (room_outside level formed boxes push.player).1 out.standing
+  player_room boxes push out = grind (arith, room_outside)
 
   box_room : (boxes : Cells) (push : Push) → PushesOut level (roomy boxes) push → IsFloor level push.from → Has level.room push.from
-  box_room boxes push out floor =
-      subst (Has level.room) (sym out.next_cell)
-      (formed.goes_on push.player push.dir (player_room boxes push out).0 (subst (IsFloor level) out.next_cell floor))
+  box_room boxes push out floor = grind (arith, player_room)
 
   to_floor : (boxes : Cells) (push : Push) → PushesOut level (roomy boxes) push → IsFloor level push.to
   to_floor boxes push out = (out.free.on, out.free.no_wall)
 
   to_room : (boxes : Cells) (push : Push) → PushesOut level (roomy boxes) push → IsFloor level push.from → Has level.room push.to
-  to_room boxes push out floor =
-      subst (Has level.room) (sym out.cell_behind)
-      (formed.goes_on push.from push.dir (box_room boxes push out floor) (subst (IsFloor level) out.cell_behind (to_floor boxes push out)))
+  to_room boxes push out floor = grind (arith, box_room, to_floor)
 
   -- At a push, the player is behind the box.
   behind : (boxes : Cells) (push : Push) → PushesOut level (roomy boxes) push → neighbor push.from (opposite push.dir) ≡ push.player
-  behind boxes push out =
-      let on = (formed.room push.player (player_room boxes push out).0).0 in
-      ap (λ (c : Cell). neighbor c (opposite push.dir)) out.next_cell ∙ neighbor_back push.player push.dir on.top on.left
+  behind boxes push out = grind (arith, player_room, neighbor_back)
 
   -- A push moves the box to another cell.
   apart : (boxes : Cells) (push : Push) → PushesOut level (roomy boxes) push → push.from ≢ push.to
-  apart boxes push out e = not_both boxes push.to (subst (Has boxes) e out.box) out.free.no_bar
+  apart boxes push out e = grind (arith, not_both)
 
   module _ (dead : Cells) (exact : AreDead level dead) where
     dead_floor : (k : Cell) → Has dead k → IsFloor level k
-    dead_floor k has = either ((exact k).0 has).0 (λ room. formed.room k room) (λ box. formed.boxes k box)
+    dead_floor k has = grind (arith, either)
 
     dead_lawful : (k : Cell) → Has dead k → IsLawful level (roomy (only k))
     dead_lawful k has =
-        roomy_lawful (only k) (λ c h. subst (IsFloor level) (sym (has_only k c h)) (dead_floor k has)) k (inserted set.empty k)
+        roomy_lawful (only k) (λ c h. rw (has_only k c h) (dead_floor k has)) k (inserted set.empty k)
         (has_or_lacks level.goals k (λ goal. absurd (((exact k).0 has).1 (at_goal goal))) (λ l. l))
 
     module _ (patterns : List Pattern) (listed : (k : Cell) → Has dead k → Contains patterns (roomy (only k))) where
@@ -125,15 +111,15 @@ module _ (level : Level) (formed : IsWellFormed level) where
       dead_push : (k : Cell) → Has dead k → CoversPushesOf level patterns (roomy (only k))
       dead_push k dead_k push out =
           let is_k = has_only k push.from out.box in
-          let floor = subst (IsFloor level) (sym is_k) (dead_floor k dead_k) in
+          let floor = rw (← is_k) at (dead_floor k dead_k) in
           let relaxed : IsRelaxedPush level push.from push.dir = record {
-            player = subst (Has level.room) (sym (behind (only k) push out)) (player_room (only k) push out).0;
-            floor = subst (IsFloor level) out.cell_behind (to_floor (only k) push out);
+            player = rw (behind (only k) push out) (player_room (only k) push out).0;
+            floor = rw out.cell_behind at (to_floor (only k) push out);
           } in
           let not_live = ((exact k).0 dead_k).1 in
           let to_dead : Has dead push.to = (exact push.to).1 (
             inl (to_room (only k) push out floor),
-            λ live. not_live (subst (IsLive level) is_k (pushed push.dir relaxed (subst (IsLive level) out.cell_behind live))),
+            λ live. not_live (rw is_k at (pushed push.dir relaxed (rw out.cell_behind at live))),
           ) in
           dead_covers push.to (after_push (roomy (only k)) push) to_dead (inserted (set.remove (only k) push.from) push.to)
           (box_room (only k) push out floor) (apart (only k) push out)
@@ -147,14 +133,14 @@ module _ (level : Level) (formed : IsWellFormed level) where
           let on = out.cell_behind in
           either (hold.held push.from push.dir out.box)
           (λ held. either held
-          (λ outside. not_both level.room push.player standing.0 (subst (Lacks level.room) back outside))
-          (λ box. not_both frozen push.player (subst (Has frozen) back box) standing.1))
+          (λ outside. not_both level.room push.player standing.0 (rw back at outside))
+          (λ box. not_both frozen push.player (rw back at box) standing.1))
           (λ held. either held
-          (λ wall. absurd (wall (subst (IsFloor level) on (to_floor frozen push out))))
+          (λ wall. absurd (wall (rw on at (to_floor frozen push out))))
           (λ held. either held
-          (λ box. not_both frozen push.to (subst (Has frozen) (sym on) box) out.free.no_bar)
+          (λ box. not_both frozen push.to (rw on box) out.free.no_bar)
           (λ is_dead.
-          dead_covers push.to (after_push (roomy frozen) push) (subst (Has dead) (sym on) is_dead) (inserted (set.remove frozen push.from) push.to)
+          dead_covers push.to (after_push (roomy frozen) push) (rw on is_dead) (inserted (set.remove frozen push.from) push.to)
           (box_room frozen push out floor) (apart frozen push out))))
 
 -- ---- the whole lists
@@ -166,7 +152,7 @@ dead_closed level formed dead exact (box, here, is_dead) coords list =
     record {
       lawful = each_of dead coords list (IsLawful level) (dead_lawful level formed dead exact);
       start = dead_covers level formed dead exact patterns listed box (start level) ((exact box).1 is_dead) here formed.here
-          (λ e. not_both level.boxes box here (subst (Lacks level.boxes) e formed.apart));
+          (λ e. not_both level.boxes box here (rw e at formed.apart));
       pushes = each_of dead coords list (CoversPushesOf level patterns) (dead_push level formed dead exact patterns listed);
     }
 
@@ -177,7 +163,7 @@ dead_lists_closed level lines formed made =
 
 -- A level has one set of dead squares.
 pub one_dead_set : (level : Level) (a b : Cells) → AreDead level a → AreDead level b → a ≡ b
-one_dead_set level a b of_a of_b = same_members a b (λ c h. (of_b c).1 ((of_a c).0 h)) (λ c h. (of_a c).1 ((of_b c).0 h))
+one_dead_set level a b of_a of_b = grind (arith, same_members)
 
 -- The largest frozen set is frozen.
 largest_frozen : (level : Level) (dead frozen : Cells) → IsLargestFrozen level dead frozen → IsFrozen level dead frozen
@@ -202,9 +188,8 @@ frozen_closed level formed dead exact frozen hold box here off coords list =
     let listed = λ (k : Cell) (h : Has dead k). Contains-append_left lone last (roomy (only k)) (each_in dead coords list k h) in
     let each = λ (P : Pattern → Type 0) (of_dead : (k : Cell) → Has dead k → P (roomy (only k))) (of_frozen : P (roomy frozen))
     (p : Pattern) (h : Contains patterns p).
-    either (Contains-append_cases lone last p h)
-    (each_of dead coords list P of_dead p)
-    (λ in_last. subst P (only_element (roomy frozen) p in_last) of_frozen) in
+    either (Contains-append_cases lone last p h) (each_of dead coords list P of_dead p)
+    (λ in_last. rw (only_element (roomy frozen) p in_last) at of_frozen) in
     record {
       lawful = each (IsLawful level) (dead_lawful level formed dead exact)
           (roomy_lawful level formed frozen (λ c h. formed.boxes c (hold.boxes c h)) box here off);
@@ -234,11 +219,11 @@ frozen_lists_closed level lines formed made =
     let (box, here, off) = made.off_goals in
     let (boxes, boxes_list, is_last) = made.boxes in
     let one = one_dead_set level over dead over_exact exact in
-    let hold = largest_frozen level dead made.frozen (subst (λ (d : Cells). IsLargestFrozen level d made.frozen) one largest) in
+    let hold = largest_frozen level dead made.frozen (rw one at largest) in
     let of_last : pattern_of made.last ≡ roomy made.frozen = ap pattern_of is_last ∙ ap roomy boxes_list.same in
     let of_lines : patterns_of lines ≡ patterns_of (lone_patterns coords) ++ roomy made.frozen ∷ [] =
     ap patterns_of made.list
     ∙ (patterns_push made.first made.last
     ∙ (ap (λ (ls : List PatternLine). patterns_of ls ++ pattern_of made.last ∷ []) is
     ∙ ap (λ (p : Pattern). patterns_of (lone_patterns coords) ++ p ∷ []) of_last)) in
-    subst (Closed level) (sym of_lines) (frozen_closed level formed dead exact made.frozen hold box here off coords list)
+    rw of_lines (frozen_closed level formed dead exact made.frozen hold box here off coords list)

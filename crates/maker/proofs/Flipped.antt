@@ -41,7 +41,7 @@ freed_start level matched Pairs free valid goal unmatched = record {
   reach = λ g b _ pair. valid.reach g b pair;
   one_box = valid.one_box;
   one_goal = λ g h b _ _ p q. valid.one_goal g h b p q;
-  each = λ b has. let (g, pair) = valid.each b has in (g, λ e. unmatched b (subst (λ (x : Cell). Pairs x b) e pair), pair);
+  each = λ b has. let (g, pair) = valid.each b has in (g, λ e. unmatched b (rw e at pair), pair);
 }
 
 module _ (level : Level) (matched : Cells) (PairsBefore Pairs : Cell → Cell → Type 0) (one_box : (g b c : Cell) → Pairs g b → Pairs g c → b ≡ c)
@@ -50,22 +50,21 @@ module _ (level : Level) (matched : Cells) (PairsBefore Pairs : Cell → Cell �
   pub freed_next : (next : Cell) → next ≢ freed → PairsBefore next k → IsFreed level matched Pairs next
   freed_next next other paired = record {
     here = before.goal next k other paired;
-    goal = λ g b _ pair. is_or_other g freed (λ e. subst (Has level.goals) (sym e) before.here) (λ ne. before.goal g b ne (after.was g b ne pair));
+    goal = λ g b _ pair. is_or_other g freed (λ e. rw e before.here) (λ ne. before.goal g b ne (after.was g b ne pair));
     box = λ g b _ pair. is_or_other g freed
-        (λ e. subst (Has matched) (sym (after.only b (subst (λ (x : Cell). Pairs x b) e pair))) (before.box next k other paired))
+        (λ e. rw (after.only b (subst (λ (x : Cell). Pairs x b) e pair)) (before.box next k other paired))
         (λ ne. before.box g b ne (after.was g b ne pair));
     reach = λ g b _ pair. is_or_other g freed
-        (λ e. subst (λ (x : Cell). InReach level b x) (sym e)
-        (subst (λ (x : Cell). InReach level x freed) (sym (after.only b (subst (λ (x : Cell). Pairs x b) e pair))) near))
+        (λ e. rw (e, after.only b (subst (λ (x : Cell). Pairs x b) e pair)) near)
         (λ ne. before.reach g b ne (after.was g b ne pair));
     one_box = one_box;
     one_goal = λ g h b g_ne h_ne p q. is_or_other g freed
         (λ e. is_or_other h freed (λ f. e ∙ sym f) (λ h_other.
         absurd (h_ne (before.one_goal h next b h_other other (after.was h b h_other q)
-        (subst (λ (x : Cell). PairsBefore next x) (sym (after.only b (subst (λ (x : Cell). Pairs x b) e p))) paired)))))
+        (rw (after.only b (subst (λ (x : Cell). Pairs x b) e p)) paired)))))
         (λ g_other. is_or_other h freed
         (λ f. absurd (g_ne (before.one_goal g next b g_other other (after.was g b g_other p)
-        (subst (λ (x : Cell). PairsBefore next x) (sym (after.only b (subst (λ (x : Cell). Pairs x b) f q))) paired))))
+        (rw (after.only b (subst (λ (x : Cell). Pairs x b) f q)) paired))))
         (λ h_other. before.one_goal g h b g_other h_other (after.was g b g_other p) (after.was h b h_other q)));
     each = λ b has.
         let (g, g_ne, paired_g) = before.each b has in
@@ -73,8 +72,7 @@ module _ (level : Level) (matched : Cells) (PairsBefore Pairs : Cell → Cell �
         (λ e. (
           freed,
           λ f. other (sym f),
-          subst (λ (x : Cell). Pairs freed x)
-              (before.one_box next k b paired (subst (λ (x : Cell). PairsBefore x b) e paired_g)) after.here,
+          rw (before.one_box next k b paired (subst (λ (x : Cell). PairsBefore x b) e paired_g)) at after.here,
         ))
         (λ ne. (g, ne, after.kept g b g_ne paired_g));
   }
@@ -82,25 +80,23 @@ module _ (level : Level) (matched : Cells) (PairsBefore Pairs : Cell → Cell �
   -- if the new box gets the freed goal, the pairs are a matching of one box more
   pub all_matched : Lacks matched k → IsMatching level (set.insert matched k) Pairs
   all_matched new = record {
-    goal = λ g b pair. is_or_other g freed (λ e. subst (Has level.goals) (sym e) before.here) (λ ne. before.goal g b ne (after.was g b ne pair));
+    goal = λ g b pair. is_or_other g freed (λ e. rw e before.here) (λ ne. before.goal g b ne (after.was g b ne pair));
     box = λ g b pair. is_or_other g freed
-        (λ e. subst (Has (set.insert matched k)) (sym (after.only b (subst (λ (x : Cell). Pairs x b) e pair))) (inserted matched k))
+        (λ e. rw (after.only b (subst (λ (x : Cell). Pairs x b) e pair)) (inserted matched k))
         (λ ne. kept_by_insert matched k b (before.box g b ne (after.was g b ne pair)));
     reach = λ g b pair. is_or_other g freed
-        (λ e. subst (λ (x : Cell). InReach level b x) (sym e)
-        (subst (λ (x : Cell). InReach level x freed) (sym (after.only b (subst (λ (x : Cell). Pairs x b) e pair))) near))
+        (λ e. rw (e, after.only b (subst (λ (x : Cell). Pairs x b) e pair)) near)
         (λ ne. before.reach g b ne (after.was g b ne pair));
     one_box = one_box;
     one_goal = λ g h b p q. is_or_other g freed
         (λ e. is_or_other h freed (λ f. e ∙ sym f)
-        (λ h_other. not_both matched k (subst (Has matched) (after.only b (subst (λ (x : Cell). Pairs x b) e p))
-        (before.box h b h_other (after.was h b h_other q))) new))
+        (λ h_other. not_both matched k (rw (after.only b (subst (λ (x : Cell). Pairs x b) e p)) at (before.box h b h_other (after.was h b h_other q))) new))
         (λ g_other. is_or_other h freed
-        (λ f. not_both matched k (subst (Has matched) (after.only b (subst (λ (x : Cell). Pairs x b) f q)) (before.box g b g_other (after.was g b g_other p)))
+        (λ f. not_both matched k (rw (after.only b (subst (λ (x : Cell). Pairs x b) f q)) at (before.box g b g_other (after.was g b g_other p)))
         new)
         (λ h_other. before.one_goal g h b g_other h_other (after.was g b g_other p) (after.was h b h_other q)));
     each = λ b has. elim (has_insert matched k b has) [
-      | inl e ↦ (freed, subst (λ (x : Cell). Pairs freed x) (sym e) after.here)
+      | inl e ↦ (freed, rw e after.here)
       | inr old ↦ let (g, g_ne, paired_g) = before.each b old in (g, after.kept g b g_ne paired_g)
     ];
   }

@@ -1,12 +1,12 @@
 -- The table of the matching while an augmenting path is flipped.
 -- The loop goes back along the path, goal by goal. Each step matches the freed goal to the box that leads to it on the path, and frees the
 -- former goal of this box. That goal comes earlier in the queue, so the loop ends, and the goals of earlier visits still have their boxes.
-use Rattle.std.proofs.Common.{◌≡◌, ◌≢◌, ℕ, ◌+◌, ◌<◌, ◌≤◌, List, length, get_or, set, refl, sym, ◌∙◌, subst, arith}
+use Rattle.std.proofs.Common.{◌≡◌, ◌≢◌, ℕ, ◌+◌, ◌<◌, ◌≤◌, List, length, get_or, set, refl, sym, ◌∙◌, arith}
 use Rattle.std.specs.Prelude.{Option, None, Some}
 use Rattle.std.proofs.lemmas.List.{get_or-set_same, get_or-set_other}
 use Rattle.cellset.specs.Shape.{Extent}
 use Rattle.cellset.specs.Cell.{IsOn}
-use Rattle.cellset.specs.CellSet.{Cells, Has}
+use Rattle.cellset.specs.CellSet.{Cells}
 use Rattle.cellset.specs.SortedList.{index}
 use Rattle.cellset.specs.declared.cell.Cell.{Cell}
 use Rattle.cellset.proofs.Members.{other_false, has_insert}
@@ -26,14 +26,14 @@ none_some b e = cc
 
 -- a table matches a goal to one box at most
 pub one_match : (shape : Extent) (matching : List (Option Cell)) (g b k : Cell) → Pairs shape matching g b → Pairs shape matching g k → b ≡ k
-one_match shape matching g b k p q = some_same b k (sym p.entry ∙ q.entry)
+one_match shape matching g b k p q = search (some_same)
 
 -- if a box is written at the index of a goal, the goal is paired with it, and the others are paired as before
 pub table_matched : (shape : Extent) (matching : List (Option Cell)) (g k : Cell) (entry : Option Cell) → IsOn shape g → HasEntries shape matching
     → entry ≡ Some k → IsRematched (Pairs shape matching) g k (Pairs shape (set matching (index shape g) entry))
 table_matched shape matching g k entry on entries is =
     let below = below_index shape g on in
-    let within : index shape g < length matching = omega (arith, below, entries) in
+    let within : index shape g < length matching = omega arith in
     let there : get_or (set matching (index shape g) entry) (index shape g) None ≡ Some k = get_or-set_same matching (index shape g) entry None within ∙ is in
     let apart : (h : Cell) → h ≢ g → IsOn shape h → index shape h ≢ index shape g = λ h ne on_h e. index_apart shape h g on_h on (other_false h g ne) e in
     record {
@@ -41,8 +41,7 @@ table_matched shape matching g k entry on entries is =
       only = λ b pair. some_same b k (sym pair.entry ∙ there);
       was = λ h b ne pair. record {
         on = pair.on;
-        entry = sym (get_or-set_other matching (index shape g) (index shape h) entry None (apart h ne pair.on))
-            ∙ pair.entry;
+        entry = sym (get_or-set_other matching (index shape g) (index shape h) entry None (apart h ne pair.on)) ∙ pair.entry;
       };
       kept = λ h b ne pair. record {
         on = pair.on;
@@ -76,7 +75,7 @@ flipping_start level former start visited queue found is =
       within = omega arith;
       on = is.free.on;
       traced = is.traced;
-      apart = λ i b h pair e. unmatched b (subst (λ (x : Cell). Pairs level.shape former x b) e pair);
+      apart = λ i b h pair e. unmatched b (rw e at pair);
       same = λ i b h pair. pair;
       others = λ matched valid. freed_start level matched (Pairs level.shape former) found.cell valid.pairs is.free.goal unmatched;
     }
@@ -86,13 +85,13 @@ module _ (level : Level) (former : List (Option Cell)) (start : Cell) (visited :
     (flipping : IsFlipping level former start queue matching freed) where
   -- the last goal on the path to the freed one is that of visit j
   traced_by : (j : ℕ) → freed.via ≡ Some j → IsTraced level former start queue flipping.n freed.cell (Some j)
-  traced_by j via = subst (IsTraced level former start queue flipping.n freed.cell) via flipping.traced
+  traced_by j via = grind arith
 
   pub visit_within : (j : ℕ) → freed.via ≡ Some j → j < length queue
-  visit_within j via = let less = (traced_by j via).0 in let within = flipping.within in omega (arith, less, within)
+  visit_within j via = grind (arith, traced_by)
 
   pub visit_on : (j : ℕ) → freed.via ≡ Some j → IsOn level.shape (cell_visited queue j)
-  visit_on j via = (is_search.floor (cell_visited queue j) (is_search.listed j (visit_within j via))).0
+  visit_on j via = grind (arith, visit_within)
 
   pub flipping_next : (j : ℕ) → freed.via ≡ Some j
       → IsFlipping level former start queue (set matching (index level.shape freed.cell) (get_or matching (index level.shape (cell_visited queue j)) None))
@@ -106,34 +105,26 @@ module _ (level : Level) (former : List (Option Cell)) (start : Cell) (visited :
       (get_or matching (index level.shape (cell_visited queue j)) None) flipping.on entries pair_now.entry in
       record {
         n = j;
-        within = omega (arith, below);
+        within = omega arith;
         on = visit_on j via;
         traced = is_search.traced j below;
         apart = λ i b h pair_i. is_search.once i j h below;
-        same = λ i b h pair_i. valid.kept (cell_visited queue i) b (flipping.apart i b (omega (arith, h, less)) pair_i)
-            (flipping.same i b (omega (arith, h, less)) pair_i);
+        same = λ i b h pair_i. valid.kept (cell_visited queue i) b (flipping.apart i b (omega arith) pair_i) (flipping.same i b (omega arith) pair_i);
         others = λ matched is. freed_next level matched (Pairs level.shape matching) (Pairs level.shape new) (one_match level.shape new) freed.cell k
-            (flipping.others matched is) valid near
-            (cell_visited queue j) (flipping.apart j k less pair) pair_now;
+            (flipping.others matched is) valid near (cell_visited queue j) (flipping.apart j k less pair) pair_now;
       }
 
   -- fewer flips are left from the goal before
   pub flipping_falls : (j : ℕ) → freed.via ≡ Some j → flips_left (visit_at queue j).via < flips_left freed.via
   unfolding flips_left
-  flipping_falls j via = subst (λ (o : Option ℕ). flips_left (visit_at queue j).via < flips_left o) (sym via)
-      (nearer (visit_at queue j).via (is_search.traced j (visit_within j via)))
-    where
-      nearer : (from : Option ℕ) → IsTraced level former start queue j (cell_visited queue j) from → flips_left from < j + 1
-      nearer None near = let none : flips_left None ≡ 0 = refl in omega (arith, none)
-      nearer (Some i) (less, b, pair, near) = let some : flips_left (Some i) ≡ i + 1 = refl in omega (arith, less, some)
+  flipping_falls j via = grind (arith, visit_within, flips_left)
 
   pub flipping_end : freed.via ≡ None → MatchesOneMore level former start (set matching (index level.shape freed.cell) (Some start))
   flipping_end via matched is box lacks =
-      let near : InReach level start freed.cell = subst (IsTraced level former start queue flipping.n freed.cell) via flipping.traced in
+      let near : InReach level start freed.cell = rw via at flipping.traced in
       let new = set matching (index level.shape freed.cell) (Some start) in
       record {
-        boxes = λ c h. either (has_insert matched start c h) (λ e. subst (Has level.boxes) (sym e) box) (is.boxes c);
+        boxes = λ c h. either (has_insert matched start c h) (λ e. rw e box) (is.boxes c);
         pairs = all_matched level matched (Pairs level.shape matching) (Pairs level.shape new) (one_match level.shape new) freed.cell start
-            (flipping.others matched is)
-            (table_matched level.shape matching freed.cell start (Some start) flipping.on entries refl) near lacks;
+            (flipping.others matched is) (table_matched level.shape matching freed.cell start (Some start) flipping.on entries refl) near lacks;
       }

@@ -1,7 +1,7 @@
 -- Lists of the cells of a set in reading order, and that a text can spell them.
 -- A list in order has each cell once, so it is as long as the set. Each coordinate belongs to a cell of the grid, and a text can spell
 -- every such coordinate.
-use Rattle.std.proofs.Common.{◌≡◌, ◌<◌, List, [], ◌∷◌, ◌++◌, length, refl, sym, ◌∙◌, ap, subst, arith}
+use Rattle.std.proofs.Common.{◌≡◌, ◌<◌, List, [], ◌∷◌, ◌++◌, length, refl, sym, ◌∙◌, ap, subst, inl, inr, arith}
 use Rattle.std.specs.Prelude.{map}
 use Rattle.std.specs.List.Sorted.{IsStrictlySortedBy}
 use Rattle.std.specs.declared.cmp.Ordering.TheVariants.{Less}
@@ -21,23 +21,20 @@ use Rattle.cellset.specs.Members.{AreMembersOf}
 use Rattle.answers.specs.declared.pattern.Coord.{Coord}
 use Rattle.answers.specs.declared.pattern.Pattern.{Pattern}
 use Rattle.answers.specs.Grammar.{IsCell, IsCellList, IsBefore, AreInOrder, said_pattern}
-use Rattle.answers.specs.Body.{PatternLine}
 use Rattle.closure.specs.Pattern.{cell_of, cells_of}
-use Rattle.closure.specs.Sides.{cells_in}
 use Rattle.closure.proofs.CellLists.{in_cells, in_list, of_list}
 use Rattle.maker.specs.Made.{made_pattern, lone_patterns}
 
 -- Each coordinate of a list belongs to a cell of its set.
 pub listed_cell : (coords : List Coord) (x : Coord) → Contains coords x → Has (cells_of coords) (cell_of x)
-listed_cell coords x (k, within, is) = subst (λ (y : Coord). Has (cells_of coords) (cell_of y)) is (in_cells coords k x within)
+listed_cell coords x (k, within, is) = grind (arith, in_cells)
 
 -- An element of a list is an element of the list with one more in front.
 pub tail : {X : Type 0} (y : X) (xs : List X) (x : X) → Contains xs x → Contains (y ∷ xs) x
 tail y xs x h = Contains-append_right (y ∷ []) xs x h
 
 -- A list in order stays in order if a coordinate that comes after all others is appended.
-pub in_order_push : (coords : List Coord) (x : Coord) → AreInOrder coords → ((y : Coord) → Contains coords y → IsBefore y x)
-    → AreInOrder (coords ++ x ∷ [])
+pub in_order_push : (coords : List Coord) (x : Coord) → AreInOrder coords → ((y : Coord) → Contains coords y → IsBefore y x) → AreInOrder (coords ++ x ∷ [])
 in_order_push [] x order before = tt
 in_order_push (a ∷ []) x order before = (before a (0, omega arith, refl), tt)
 in_order_push (a ∷ b ∷ coords) x order before = (order.0, in_order_push (b ∷ coords) x order.1 (λ y h. before y (tail a (b ∷ coords) y h)))
@@ -53,21 +50,13 @@ came_earlier (c ∷ came) left m q sorted h = either (in_cases c came q h)
 -- ---- the members of a set, as an iterator returns them
 -- The list of a set's members is as long as the set, because it is in order.
 pub members_count : {shape : Extent} {cells : Cells} (listed : List Cell) → AreMembersOf shape cells listed → length listed ≡ set.len cells
-members_count {cells = cells} listed members =
-    let all : cells_in listed ≡ cells = same_members (cells_in listed) cells
-    (λ q h. (members.exact q).0 (of_list listed q h))
-    (λ q h. let (k, within, is) = (members.exact q).1 h in subst (Has (cells_in listed)) is (in_list listed k q within)) in
-    sym (sorted_len listed members.in_order) ∙ ap set.len all
+members_count {cells = cells} listed members = grind (arith, same_members, of_list, in_list, sorted_len)
 
 -- ---- the pattern of each cell of the list alone
 pub lone_push : (patterns : List Pattern) (coords : List Coord) (p : Pattern) (x : Coord)
     → map said_pattern patterns ≡ lone_patterns coords → said_pattern p ≡ made_pattern (x ∷ [])
     → map said_pattern (patterns ++ p ∷ []) ≡ lone_patterns (coords ++ x ∷ [])
-lone_push patterns coords p x is one =
-    map-append said_pattern patterns (p ∷ [])
-    ∙ (ap (λ (ls : List PatternLine). ls ++ said_pattern p ∷ []) is
-    ∙ (ap (λ (l : PatternLine). lone_patterns coords ++ l ∷ []) one
-    ∙ sym (map-append (λ c. made_pattern (c ∷ [])) coords (x ∷ []))))
+lone_push patterns coords p x is one = grind (arith, map-append)
 
 -- ---- the list as a text spells it
 each_spelled : (shape : Extent) → HasSides shape.width shape.height → (coords : List Coord)
@@ -77,9 +66,9 @@ each_spelled shape sides (x ∷ coords) on =
     let here = on (cell_of x) (inserted (cells_of coords) (cell_of x)) in (
       record {
         column_low = here.left;
-        column_high = omega (arith, here.right, sides.not_too_wide);
+        column_high = omega arith;
         row_low = here.top;
-        row_high = omega (arith, here.bottom, sides.not_too_high);
+        row_high = omega arith;
       },
       each_spelled shape sides coords (λ q h. on q (kept_by_insert (cells_of coords) (cell_of x) q h)),
     )
@@ -90,8 +79,4 @@ not_empty (x ∷ coords) c has = omega arith
 
 pub is_cell_list : (shape : Extent) → HasSides shape.width shape.height → (coords : List Coord)
     → ((q : Cell) → Has (cells_of coords) q → IsOn shape q) → AreInOrder coords → (c : Cell) → Has (cells_of coords) c → IsCellList coords
-is_cell_list shape sides coords on order c has = record {
-  some = not_empty coords c has;
-  each = each_spelled shape sides coords on;
-  order = order;
-}
+is_cell_list shape sides coords on order c has = search (not_empty, each_spelled)

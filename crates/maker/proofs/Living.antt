@@ -1,7 +1,7 @@
 -- Live cells are those that pulls within the room reach from the goals.
 -- Every floor cell beside a cell of the room is in the room. So in a relaxed push of a box on floor, the cell behind the
 -- box, its own cell and the cell ahead of it are all in the room.
-use Rattle.std.proofs.Common.{◌≡◌, ◌≤◌, refl, sym, subst}
+use Rattle.std.proofs.Common.{◌≡◌, ◌≤◌, refl, subst}
 use Rattle.std.specs.Prelude.{◌⊎◌, ◌↔◌}
 use Rattle.cellset.specs.Cell.{IsOn, neighbor, opposite}
 use Rattle.cellset.specs.CellSet.{Cells, Has}
@@ -26,15 +26,14 @@ module _ (level : Level) (formed : IsWellFormed level) where
   pulled_live : (c : Cell) → Reached (PullsTo (Has level.room)) (Has level.goals) c → IsLive level c
   pulled_live c (at_seed h) = at_goal h
   pulled_live c (by_step b before p) =
-      pushed p.dir (record { player = p.behind; floor = subst (IsFloor level) p.next (formed.room b p.ahead) })
-      (subst (IsLive level) p.next (pulled_live b before))
+      pushed p.dir (record { player = p.behind; floor = rw p.next at (formed.room b p.ahead) }) (rw p.next at (pulled_live b before))
 
   -- The floor beside the room is in it.
   pub beside_room : (c : Cell) (d : Dir) → IsFloor level c → Has level.room (neighbor c (opposite d)) → Has level.room c
   beside_room c d floor behind =
       let on = floor.0 in
       let back = neighbor_forth c d on.top on.left in
-      subst (Has level.room) back (formed.goes_on (neighbor c (opposite d)) d behind (subst (IsFloor level) (sym back) floor))
+      subst (Has level.room) back (formed.goes_on (neighbor c (opposite d)) d behind (rw back floor))
 
   live_pulled : (c : Cell) → IsFloor level c → IsLive level c → Reached (PullsTo (Has level.room)) (Has level.goals) c
   live_pulled c floor (at_goal h) = at_seed h

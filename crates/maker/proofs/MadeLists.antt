@@ -34,10 +34,10 @@ use Rattle.maker.proofs.Accepting.{one_dead_set}
 
 -- ---- a member outside another set
 outside : (t : Cells) (xs : List Cell) → ((q : Cell) → Contains xs q → Has t q) ⊎ ((q : Cell) × Contains xs q × Lacks t q)
-outside t [] = inl (λ q (k, within, is). absurd (omega arith))
+outside t [] = grind arith
 outside t (x ∷ xs) = has_or_lacks t x
     (λ has. either (outside t xs)
-    (λ all. inl (λ q h. head_or_tail x xs q h (Has t q) (λ e. subst (Has t) e has) (λ rest. all q rest)))
+    (λ all. inl (λ q h. head_or_tail x xs q h (Has t q) (λ e. rw e at has) (λ rest. all q rest)))
     (λ (q, there, lacks). inr (q, Contains-append_right (x ∷ []) xs q there, lacks)))
     (λ lacks. inr (x, (0, omega arith, refl), lacks))
   where
@@ -54,32 +54,31 @@ not_within s t is = either (outside t (items s))
 module _ (level : Level) (dead : Cells) (exact : AreDead level dead) (boxes : Cells) (are_boxes : boxes ≡ level.boxes) where
   pub of_dead : (c : Cell) × Has boxes c × Has dead c → (lines : List PatternLine) → AreLonePatterns dead lines → IsMadeOfDead level lines
   of_dead (c, box, is_dead) lines lone = record {
-    box = (c, subst (λ (s : Cells). Has s c) are_boxes box, (exact c).0 is_dead);
+    box = (c, rw are_boxes at box, (exact c).0 is_dead);
     list = (dead, exact, lone);
   }
 
   module _ (apart : (c : Cell) → Has boxes c → Lacks dead c) (frozen : Cells) (largest : IsLargestFrozen level dead frozen)
       (goals : Cells) (are_goals : goals ≡ level.goals) where
     no_dead_box : HasDeadBox level → ⊥
-    no_dead_box (c, box, is_dead) = not_both dead c ((exact c).1 is_dead) (apart c (subst (λ (s : Cells). Has s c) (sym are_boxes) box))
+    no_dead_box (c, box, is_dead) = grind (arith, not_both)
 
     pub of_none : set.is_subset frozen goals ≡ true → HasNoList level
     of_none within = record {
       no_dead_box = no_dead_box;
       on_goals = λ other (over, over_exact, over_largest) c has.
           let same = one_dead_set level over dead over_exact exact in
-          let here = (largest c).1 (((subst (λ (d : Cells). IsLargestFrozen level d other) same over_largest) c).0 has) in
-          subst (λ (s : Cells). Has s c) are_goals (set.is_subset-contains cells_total frozen goals within c here);
+          let here = (largest c).1 (((rw same at over_largest) c).0 has) in
+          rw are_goals at (set.is_subset-contains cells_total frozen goals within c here);
     }
 
     pub of_frozen : set.is_subset frozen goals ≡ false → (first : List PatternLine) → AreLonePatterns dead first
-        → (last : PatternLine) → IsWholePattern frozen last
-        → (lines : List PatternLine) → lines ≡ first ++ last ∷ [] → IsMadeOfFrozen level lines
+        → (last : PatternLine) → IsWholePattern frozen last → (lines : List PatternLine) → lines ≡ first ++ last ∷ [] → IsMadeOfFrozen level lines
     of_frozen off first lone last whole lines is = record {
       no_dead_box = no_dead_box;
       frozen = frozen;
       exact = (dead, exact, largest);
-      off_goals = let (c, has, lacks) = not_within frozen goals off in (c, has, subst (λ (s : Cells). Lacks s c) are_goals lacks);
+      off_goals = let (c, has, lacks) = not_within frozen goals off in (c, has, rw (← are_goals) lacks);
       first = first;
       dead = (dead, exact, lone);
       last = last;
@@ -114,35 +113,30 @@ lone_spelled shape sides (x ∷ coords) on =
 pub said_lawful : (patterns : List Pattern) (coords : List Coord) → map said_pattern patterns ≡ lone_patterns coords → length patterns ≡ length coords
     → (length coords ≤ most_patterns) × AllByRecursion IsPattern (lone_patterns coords)
     → (length patterns ≤ most_patterns) × AllByRecursion (λ p. IsPattern (said_pattern p)) patterns
-said_lawful patterns coords is count lawful =
-    (omega (arith, count, lawful.0), each_of_said patterns (subst (AllByRecursion IsPattern) (sym is) lawful.1))
+said_lawful patterns coords is count lawful = grind (arith, each_of_said)
 
 module _ (level : Level) (formed : IsWellFormed level) (dead : Cells) (exact : AreDead level dead) where
   pub dead_on : (q : Cell) → Has dead q → IsOn level.shape q
-  dead_on q has = either ((exact q).0 has).0 (λ room. (formed.room q room).0) (λ box. (formed.boxes q box).0)
+  dead_on q has = grind (arith, either)
 
   pub dead_few : set.len dead ≤ 65025
   dead_few =
       let fits = len_on_grid level.shape dead dead_on in
       let sides = formed.sides in
       let area = mul-le-mul_left level.shape.width sides.not_too_high in
-      omega (arith, fits, area, sides.not_too_wide)
+      omega arith
 
   lone_lawful : (lines : List PatternLine) → AreLonePatterns dead lines → AllByRecursion IsPattern lines
   lone_lawful lines (coords, list, is) =
-      subst (AllByRecursion IsPattern) (sym is)
-      (lone_spelled level.shape formed.sides coords (λ q h. dead_on q (subst (λ (s : Cells). Has s q) list.same h)))
+      subst (AllByRecursion IsPattern) (sym is) (lone_spelled level.shape formed.sides coords (λ q h. dead_on q (rw list.same at h)))
 
   pub dead_lawful : (coords : List Coord) → IsListOf dead coords → length coords ≡ set.len dead
       → (length coords ≤ most_patterns) × AllByRecursion IsPattern (lone_patterns coords)
-  dead_lawful coords list count =
-      let few = dead_few in
-      (omega (arith, few, count), lone_lawful (lone_patterns coords) (coords, list, refl))
+  dead_lawful coords list count = grind (arith, dead_few, lone_lawful)
 
   pub frozen_lawful_lines : (frozen : Cells) → IsLargestFrozen level dead frozen → (goals : Cells) → set.is_subset frozen goals ≡ false
       → (patterns : List Pattern) → AreLonePatterns dead (map said_pattern patterns) → length patterns ≡ set.len dead
-      → (last : Pattern) → IsWholePattern frozen (said_pattern last)
-      → (all : List Pattern) → all ≡ patterns ++ last ∷ []
+      → (last : Pattern) → IsWholePattern frozen (said_pattern last) → (all : List Pattern) → all ≡ patterns ++ last ∷ []
       → (length all ≤ most_patterns) × AllByRecursion (λ p. IsPattern (said_pattern p)) all
   frozen_lawful_lines frozen largest goals off patterns lone count last (coords, list, is_last) all is =
       let few = dead_few in
@@ -150,13 +144,13 @@ module _ (level : Level) (formed : IsWellFormed level) (dead : Cells) (exact : A
       let size = ap length is in
       let (box, has, _) = not_within frozen goals off in
       let on = λ (q : Cell) (h : Has (cells_of coords) q).
-      let (some, hold, in_some) = (largest q).0 (subst (λ (s : Cells). Has s q) list.same h) in
+      let (some, hold, in_some) = (largest q).0 (rw list.same at h) in
       (formed.boxes q (hold.boxes q in_some)).0 in
-      let last_spelled : IsPattern (said_pattern last) = subst IsPattern (sym is_last) (record {
-        boxes = is_cell_list level.shape formed.sides coords on list.order box (subst (λ (s : Cells). Has s box) (sym list.same) has);
+      let last_spelled : IsPattern (said_pattern last) = rw is_last (record {
+        boxes = is_cell_list level.shape formed.sides coords on list.order box (rw list.same has);
         seeds = tt;
       }) in
       let all_spelled = all_push (map said_pattern patterns) (said_pattern last) (lone_lawful (map said_pattern patterns) lone) last_spelled in (
-        omega (arith, few, count, longer, size),
-        each_of_said all (subst (AllByRecursion IsPattern) (sym (ap (map said_pattern) is ∙ map-append said_pattern patterns (last ∷ []))) all_spelled),
+        omega arith,
+        each_of_said all (rw (sym (ap (map said_pattern) is ∙ map-append said_pattern patterns (last ∷ []))) at all_spelled),
       )

@@ -1,5 +1,5 @@
 -- The check accepts the zone that is made, and a text can spell it, since it has a cell and lies on the grid.
-use Rattle.std.proofs.Common.{◌≡◌, ◌<◌, List, [], ◌∷◌, refl, sym, ap, subst, arith}
+use Rattle.std.proofs.Common.{◌≡◌, ◌<◌, List, [], ◌∷◌, refl, ap, arith}
 use Rattle.std.specs.FinSet as set
 use Rattle.std.specs.FinSet.{items, len-empty}
 use Rattle.std.specs.List.{Contains}
@@ -26,29 +26,29 @@ some_member s more = first (items s) refl
   where
     first : (cells : List Cell) → items s ≡ cells → (c : Cell) × Has s c
     first [] is =
-        let empty : s ≡ set.empty = same_members s set.empty (λ c h. none c (subst (λ (l : List Cell). Contains l c) is (has_item s c h)))
+        let empty : s ≡ set.empty = same_members s set.empty (λ c h. none c (rw is at (has_item s c h)))
         (λ c h. has_empty c h) in
         let no_member = ap set.len empty in
         let none_there = len-empty cell_cmp in
-        absurd (omega (arith, more, no_member, none_there))
+        absurd (omega arith)
       where
         none : (c : Cell) → Contains [] c → Has set.empty c
         none c (k, within, at) = absurd (omega arith)
-    first (c ∷ cells) is = (c, item_has s c (subst (λ (l : List Cell). Contains l c) (sym is) (0, omega arith, refl)))
+    first (c ∷ cells) is = (c, item_has s c (rw is (0, omega arith, refl)))
 
 module _ (level : Level) (formed : IsWellFormed level) (zone : Cells) (least : IsLeastZone level zone) (coords : List Coord) (list : IsListOf zone coords) where
   pub zone_refutes : IsRefuting level (cells_of coords)
-  zone_refutes = subst (IsRefuting level) (sym list.same) (least_zones_refute level zone formed least)
+  zone_refutes = grind (arith, least_zones_refute)
 
   pub zone_lawful : (line : ZoneLine) → line.cells ≡ coords → IsZone line
   zone_lawful line is =
       let refuting = zone_refutes in
       let more = refuting.more in
-      let (box, in_both) = some_member (set.intersection (cells_of coords) level.boxes) (omega (arith, more)) in
+      let (box, in_both) = some_member (set.intersection (cells_of coords) level.boxes) (omega arith) in
       rw is (is_cell_list level.shape formed.sides coords refuting.board list.order box (has_intersection (cells_of coords) level.boxes box in_both).0)
 
 pub line_refutes : (level : Level) → IsWellFormed level → (line : ZoneLine) → IsLeastZoneLine level line → IsRefuting level (cells_of line.cells)
 line_refutes level formed line made = zone_refutes level formed made.zone made.least line.cells made.cells
 
 pub line_lawful : (level : Level) → IsWellFormed level → (line : ZoneLine) → IsLeastZoneLine level line → IsZone line
-line_lawful level formed line made = zone_lawful level formed made.zone made.least line.cells made.cells line refl
+line_lawful level formed line made = search (zone_lawful)

@@ -1,14 +1,13 @@
 -- How the boxes are matched to goals in reading order.
 -- The boxes handled so far are the first boxes in reading order, and each of them is matched to a goal. The next box is matched too, or the
 -- search from it shows a Hall violator. If no search shows one, all boxes are matched at the end.
-use Rattle.std.proofs.Common.{◌≡◌, ℕ, ◌+◌, List, [], ◌∷◌, ◌++◌, sym, ◌∙◌, subst, arith}
+use Rattle.std.proofs.Common.{◌≡◌, ℕ, ◌+◌, List, [], ◌∷◌, ◌++◌, arith}
 use Rattle.std.specs.Prelude.{Option, None, Some, slice_index_or}
 use Rattle.std.specs.FinSet as set
 use Rattle.std.specs.FinSet.{len-empty}
 use Rattle.cellset.specs.Shape.{Extent}
-use Rattle.cellset.specs.Cell.{Before, cell_cmp}
+use Rattle.cellset.specs.Cell.{cell_cmp}
 use Rattle.cellset.specs.CellSet.{Cells, Has, Lacks}
-use Rattle.cellset.specs.SortedList.{index}
 use Rattle.cellset.specs.declared.cell.Cell.{Cell}
 use Rattle.cellset.proofs.Members.{inserted, kept_by_insert, has_insert, has_empty, same_members, lacks_where}
 use Rattle.cellset.proofs.ReadingOrder.{before_itself}
@@ -21,7 +20,7 @@ use Rattle.cellset.proofs.Truth.{either}
 use Rattle.closure.proofs.Counts.{len-insert_new}
 use Rattle.board.specs.Game.{Level}
 use Rattle.maker.specs.Zones.{AreFirstBoxes, SomeZoneRefutes, IsLeastZone}
-use Rattle.maker.specs.Matching.{IsMatching, IsHallViolator}
+use Rattle.maker.specs.Matching.{IsHallViolator}
 use Rattle.maker.specs.Search.{Pairs, IsMatchingOf, MatchesOneMore}
 use Rattle.maker.proofs.LeastZones.{violator_least, none_refutes}
 
@@ -65,11 +64,11 @@ module _ {shape : Extent} (level : Level) (came left : List Cell) (m : Cell) (ma
   -- the first boxes and the next box are the first boxes too, one more of them
   next_first : AreFirstBoxes level (so_far.count + 1) (set.insert so_far.matched m)
   next_first = record {
-    boxes = λ c h. either (has_insert so_far.matched m c h) (λ e. subst (Has level.boxes) (sym e) box) (so_far.first.boxes c);
+    boxes = λ c h. either (has_insert so_far.matched m c h) (λ e. rw e box) (so_far.first.boxes c);
     earlier = λ c b h is_box before. kept_by_insert so_far.matched m b (either (has_insert so_far.matched m c h)
-        (λ e. so_far.all b (came_before came left m members b is_box (subst (Before b) e before)))
+        (λ e. so_far.all b (came_before came left m members b is_box (rw e at before)))
         (λ old. so_far.first.earlier c b old is_box before));
-    count = let one = len-insert_new so_far.matched m new in let count = so_far.first.count in omega (arith, one, count);
+    count = let one = len-insert_new so_far.matched m new in let count = so_far.first.count in omega arith;
   }
 
   pub matched_more : (matching' : List (Option Cell)) → MatchesOneMore level matching m matching' → IsMatchedSoFar level matching' (came ++ m ∷ [])
@@ -80,16 +79,15 @@ module _ {shape : Extent} (level : Level) (came left : List Cell) (m : Cell) (ma
     valid = matches so_far.matched so_far.valid box new;
     all = λ q h. either (Contains-push_cases came m q h)
         (λ old. kept_by_insert so_far.matched m q (so_far.all q old))
-        (λ e. subst (Has (set.insert so_far.matched m)) e (inserted so_far.matched m));
+        (λ e. rw (← e) (inserted so_far.matched m));
     only = λ q h. either (has_insert so_far.matched m q h)
-        (λ e. subst (Contains (came ++ m ∷ [])) (sym e) (Contains-push came m))
+        (λ e. rw e (Contains-push came m))
         (λ old. Contains-append_left came (m ∷ []) q (so_far.only q old));
   }
 
   -- a Hall violator of the next box is the least zone
   pub violator_here : (zone : Cells) → IsHallViolator level (Pairs level.shape matching) m zone → IsLeastZone level zone
-  violator_here zone violator = violator_least level so_far.matched
-      (Pairs level.shape matching) m so_far.count zone so_far.valid.pairs new so_far.first next_first violator
+  violator_here zone violator = search (violator_least, new, next_first)
 
 -- if all boxes are matched, no zone refutes the level
 pub matched_end : {shape : Extent} (level : Level) (matching : List (Option Cell)) (came : List Cell) → AreMembersOf shape level.boxes (came ++ [])
@@ -97,7 +95,7 @@ pub matched_end : {shape : Extent} (level : Level) (matching : List (Option Cell
 matched_end {shape} level matching came members so_far =
     let whole = all_came shape level.boxes came members in
     let same : so_far.matched ≡ level.boxes = same_members so_far.matched level.boxes so_far.first.boxes (λ q h. so_far.all q ((whole.exact q).1 h)) in
-    none_refutes level (Pairs level.shape matching) (subst (λ (s : Cells). IsMatching level s (Pairs level.shape matching)) same so_far.valid.pairs)
+    none_refutes level (Pairs level.shape matching) (rw same at so_far.valid.pairs)
 
 -- an empty table matches no goal
 none_some : (b : Cell) → None ≡ Some b → ⊥
@@ -105,4 +103,4 @@ none_some b e = cc
 
 pub pairs_none : (shape : Extent) (matching : List (Option Cell)) → ((k : ℕ) → slice_index_or matching k None ≡ None) → (g b : Cell)
     → Pairs shape matching g b → ⊥
-pairs_none shape matching unmatched g b pair = none_some b (sym (unmatched (index shape g)) ∙ pair.entry)
+pairs_none shape matching unmatched g b pair = grind (arith, none_some)

@@ -1,7 +1,7 @@
 -- Why a level has at most one least zone, and why it refutes the level.
 -- Two least zones have the same least k, so each lies within the other. The floor cells of a crowded set are a closed and crowded set
 -- too, since boxes are on floor. A least zone lies within that set, so it is lawful.
-use Rattle.std.proofs.Common.{◌≡◌, ℕ, ◌≤◌, Bool, not, ◌&&◌, sym, ap, subst, inl, inr, arith}
+use Rattle.std.proofs.Common.{◌≡◌, ℕ, ◌≤◌, Bool, not, ◌&&◌, sym, ◌∙◌, ap, subst, inl, inr, arith}
 use Rattle.std.proofs.lemmas.Bool.{cases_lt, and_from}
 use Rattle.std.specs.FinSet as set
 use Rattle.std.specs.FinSet.{contains}
@@ -24,14 +24,14 @@ use Rattle.maker.proofs.Pairings.{count_within}
 same_k : (level : Level) (zone other : Cells) (a : IsLeastZone level zone) (b : IsLeastZone level other) → a.k ≡ b.k
 same_k level zone other a b = elim (cases_lt a.k b.k) [
   | inl less ↦ absurd (b.none_before a.k zone less a.crowded)
-  | inr at_least ↦ elim (cases_lt b.k a.k) [ inl more ↦ absurd (a.none_before b.k other more b.crowded) | inr at_most ↦ omega (arith, at_least, at_most) ]
+  | inr at_least ↦ elim (cases_lt b.k a.k) [ inl more ↦ absurd (a.none_before b.k other more b.crowded) | inr at_most ↦ omega arith ]
 ]
 
 least_within : (level : Level) (zone other : Cells) → IsLeastZone level zone → IsLeastZone level other → (c : Cell) → Has zone c → Has other c
-least_within level zone other a b c has = a.within other c (subst (λ (k : ℕ). IsCrowdedByFirst level k other) (sym (same_k level zone other a b)) b.crowded) has
+least_within level zone other a b c has = a.within other c (rw (same_k level zone other a b) b.crowded) has
 
 pub least_zones_one : (level : Level) (zone other : Cells) → IsLeastZone level zone → IsLeastZone level other → zone ≡ other
-least_zones_one level zone other a b = same_members zone other (least_within level zone other a b) (least_within level other zone b a)
+least_zones_one level zone other a b = search (same_members, least_within)
 
 -- ---- the floor cells of a zone
 abbrev floor_test : Level → Cells → Cell → Bool
@@ -68,7 +68,7 @@ floor_crowded level boxes zone formed among crowded =
             ahead = leak.ahead;
             outside = outside;
           }));
-      more = omega (arith, goals, boxes_in, more);
+      more = omega arith;
     }
 
 least_floor : (level : Level) (zone : Cells) → IsWellFormed level → IsLeastZone level zone → (c : Cell) → Has zone c → IsFloor level c
@@ -85,5 +85,5 @@ least_zones_refute level zone formed least =
       board = λ c h. (least_floor level zone formed least c h).0;
       wall = λ c h. (least_floor level zone formed least c h).1;
       closed = crowded.closed;
-      more = omega (arith, all, more);
+      more = omega arith;
     }

@@ -1,18 +1,17 @@
 -- What a relay links.
 -- No relaxed push leaves a closed set. So if pushes lead from one cell to another, the second cell is in the reach of the first, and so is
 -- every cell in the reach of the second.
-use Rattle.std.proofs.Common.{◌≡◌, ℕ, ◌<◌, List, length, refl, sym, ◌∙◌, ap, subst, arith}
+use Rattle.std.proofs.Common.{◌≡◌, ℕ, ◌<◌, List, length, sym, subst, arith}
 use Rattle.std.specs.Prelude.{Option, None, Some, IfSome, MatchOption}
 use Rattle.cellset.specs.Cell.{IsOn}
-use Rattle.cellset.specs.CellSet.{Cells, CellsOn, Has}
+use Rattle.cellset.specs.CellSet.{Cells, Has}
 use Rattle.cellset.specs.declared.cell.Cell.{Cell}
 use Rattle.reach.specs.Reached.{Reached, at_seed, by_step, PullsTo, PushesTo}
-use Rattle.board.specs.Game.{Level, IsFloor}
+use Rattle.board.specs.Game.{Level}
 use Rattle.board.specs.Board.{IsWellFormed}
 use Rattle.maker.specs.Matching.{InReach}
-use Rattle.maker.specs.Search.{visit_at, cell_visited, IsTraced, IsSearch, IsFreeGoal}
+use Rattle.maker.specs.Search.{visit_at, IsTraced, IsSearch, IsFreeGoal}
 use Rattle.maker.specs.declared.zones.search.Visit.{Visit}
-use Rattle.maker.specs.Dead.{IsRoomOf}
 use Rattle.maker.specs.Relay.{IsRelay, IsSameRelay, HasFreeGoal, IsReachOf}
 use Rattle.maker.specs.declared.zones.relay.Relay.{Relay}
 use Rattle.maker.proofs.Searches.{push_stays}
@@ -21,22 +20,22 @@ pub in_own_reach : (level : Level) (c : Cell) → InReach level c c
 in_own_reach level c zone closed h = h
 
 pub reach_through : (level : Level) (a b c : Cell) → InReach level a b → InReach level b c → InReach level a c
-reach_through level a b c first then zone closed h = then zone closed (first zone closed h)
+reach_through level a b c first then zone closed h = search
 
 pub pulled_reach : (level : Level) → IsWellFormed level → (target : Cell → Type 0) (cell : Cell) → ((c : Cell) → target c → c ≡ cell)
     → (c : Cell) → Reached (PullsTo (Has level.room)) target c → InReach level c cell
-pulled_reach level formed target cell is c (at_seed h) = subst (λ (x : Cell). InReach level x cell) (sym (is c h)) (in_own_reach level cell)
+pulled_reach level formed target cell is c (at_seed h) = grind (arith, in_own_reach)
 pulled_reach level formed target cell is c (by_step b before p) = λ zone closed h.
     pulled_reach level formed target cell is b before zone closed
-    (subst (Has zone) (sym p.next) (push_stays level zone c p.dir closed
-    (record { player = p.behind; floor = subst (IsFloor level) p.next (formed.room b p.ahead) }) h))
+    (rw p.next (push_stays level zone c p.dir closed
+    (record { player = p.behind; floor = rw p.next at (formed.room b p.ahead) }) h))
 
 pub pushed_reach : (level : Level) → IsWellFormed level → (source : Cell → Type 0) (cell : Cell) → ((c : Cell) → source c → c ≡ cell)
     → (c : Cell) → Reached (PushesTo (Has level.room)) source c → InReach level cell c
-pushed_reach level formed source cell is c (at_seed h) = subst (InReach level cell) (sym (is c h)) (in_own_reach level cell)
+pushed_reach level formed source cell is c (at_seed h) = grind (arith, in_own_reach)
 pushed_reach level formed source cell is c (by_step b before p) = λ zone closed h.
     subst (Has zone) (sym p.next)
-    (push_stays level zone b p.dir closed (record { player = p.behind; floor = subst (IsFloor level) p.next (formed.room c p.ahead) })
+    (push_stays level zone b p.dir closed (record { player = p.behind; floor = rw p.next at (formed.room c p.ahead) })
     (pushed_reach level formed source cell is b before zone closed h))
 
 -- a free goal in the reach of a cell is in each closed set that holds the cell
@@ -44,8 +43,7 @@ pub reached_goal : (level : Level) (matching : List (Option Cell)) (cell : Cell)
     → IsReachOf level cell reach → IfSome found (λ g. Has reach g × IsFreeGoal level matching g)
     → MatchOption found (IsReachOf level cell reach) (λ g. IsFreeGoal level matching g × InReach level cell g)
 reached_goal level matching cell reach None formed is goal = is
-reached_goal level matching cell reach (Some g) formed is (has, free) =
-    (free, pushed_reach level formed (Has is.seeds) cell (λ c h. (is.only c).0 h) g ((is.exact g).0 has))
+reached_goal level matching cell reach (Some g) formed is (has, free) = grind (arith, pushed_reach)
 
 -- a free goal is on the grid
 pub free_on_grid : (level : Level) (matching : List (Option Cell)) (cells : Cells) (found : Option Cell)
@@ -58,57 +56,35 @@ pub free_linked : (level : Level) (matching : List (Option Cell)) (sources targe
     → ((b c : Cell) → Has sources b → Has targets c → InReach level b c) → IfSome found (λ g. Has targets g × IsFreeGoal level matching g)
     → IfSome found (λ g. IsFreeGoal level matching g × ((b : Cell) → Has sources b → InReach level b g))
 free_linked level matching sources targets None linked goal = tt
-free_linked level matching sources targets (Some g) linked (has, free) = (free, λ b h. linked b g h has)
+free_linked level matching sources targets (Some g) linked (has, free) = search
 
 -- if an alternating path leads to a cell, one leads to every cell in the reach of the cell
 pub traced_to : (level : Level) (matching : List (Option Cell)) (start : Cell) (queue : List Visit) (i n : ℕ) (c g : Cell) (via : Option ℕ) → i < n
-    → InReach level c g
-    → IsTraced level matching start queue i c via → IsTraced level matching start queue n g via
+    → InReach level c g → IsTraced level matching start queue i c via → IsTraced level matching start queue n g via
 traced_to level matching start queue i n c g None less near traced = reach_through level start c g traced near
-traced_to level matching start queue i n c g (Some j) less near (below, b, pair, reach) =
-    (omega (arith, less, below), b, pair, reach_through level b c g reach near)
+traced_to level matching start queue i n c g (Some j) less near (below, b, pair, reach) = grind (arith, reach_through)
 
 pub traced_last : (level : Level) (matching : List (Option Cell)) (start : Cell) (visited : Cells) (queue : List Visit) (at : ℕ) (v : Visit) (g : Cell)
     → IsSearch level matching start visited queue → at < length queue → v ≡ visit_at queue at
     → InReach level v.cell g → IsTraced level matching start queue (length queue) g v.via
-traced_last level matching start visited queue at v g is_search below is near =
-    subst (λ (x : Visit). IsTraced level matching start queue (length queue) g x.via) (sym is)
-    (traced_to level matching start queue at (length queue) (cell_visited queue at) g (visit_at queue at).via below
-    (subst (λ (x : Visit). InReach level x.cell g) is near) (is_search.traced at below))
+traced_last level matching start visited queue at v g is_search below is near = grind (arith, traced_to)
 
 -- a relay stays sound if the reach of the last box alone is written
 pub relay_kept : (level : Level) (relay new : Relay) → IsSameRelay relay new → IsRelay level relay → IsRelay level new
-relay_kept level relay new same is = record {
-  room = subst (IsRoomOf level) (sym same.room) is.room;
-  sources_on = ap (λ (r : CellsOn). r.extent) same.sources ∙ is.sources_on;
-  targets_on = ap (λ (r : CellsOn). r.extent) same.targets ∙ is.targets_on;
-  reach_on = same.reach ∙ is.reach_on;
-  linked = λ b c sources targets. is.linked b c (subst (λ (r : CellsOn). Has r.members b) same.sources sources)
-      (subst (λ (r : CellsOn). Has r.members c) same.targets targets);
-  free_on = subst (λ (o : Option Cell). IfSome o (IsOn level.shape)) (sym same.free) is.free_on;
-}
+relay_kept level relay new same is = grind arith
 
 pub same_relay : (relay : Relay) → IsSameRelay relay relay
-same_relay relay = record { room = refl; sources = refl; targets = refl; reach = refl; free = refl }
+same_relay relay = search
 
 pub same_twice : (a b c : Relay) → IsSameRelay a b → IsSameRelay b c → IsSameRelay a c
-same_twice a b c first then = record {
-  room = then.room ∙ first.room;
-  sources = then.sources ∙ first.sources;
-  targets = then.targets ∙ first.targets;
-  reach = then.reach ∙ first.reach;
-  free = then.free ∙ first.free;
-}
+same_twice a b c first then = search
 
 pub free_kept : (level : Level) (matching : List (Option Cell)) (relay new : Relay) → IsSameRelay relay new → HasFreeGoal level matching relay
     → HasFreeGoal level matching new
-free_kept level matching relay new same is =
-    subst (λ (t : CellsOn). IfSome new.free (λ g. IsFreeGoal level matching g × ((b : Cell) → Has t.members b → InReach level b g))) (sym same.sources)
-    (subst (λ (o : Option Cell). IfSome o (λ g. IsFreeGoal level matching g × ((b : Cell) → Has relay.sources.members b → InReach level b g)))
-    (sym same.free) is)
+free_kept level matching relay new same is = grind arith
 
 -- the goal of a relay is free, and in the reach of each source
 pub goal_of : (level : Level) (matching : List (Option Cell)) (relay : Relay) (g : Cell) → relay.free ≡ Some g → HasFreeGoal level matching relay
     → IsFreeGoal level matching g × ((b : Cell) → Has relay.sources.members b → InReach level b g)
 goal_of level matching relay g is free =
-    subst (λ (o : Option Cell). IfSome o (λ q. IsFreeGoal level matching q × ((b : Cell) → Has relay.sources.members b → InReach level b q))) is free
+    rw is at free

@@ -36,8 +36,8 @@ module _ (cells : Cells) where
   none_listed below = record {
     only = λ c h. has_empty c h;
     all = λ c has early. elim early [
-      | inl above ↦ absurd (let low = below c has in omega (arith, above, low))
-      | inr left ↦ absurd (let before = left.1 in omega (arith, before))
+      | inl above ↦ absurd (let low = below c has in omega arith)
+      | inr left ↦ absurd (let before = left.1 in omega arith)
     ];
     order = tt;
     count = len-empty cell_cmp;
@@ -46,53 +46,17 @@ module _ (cells : Cells) where
   -- A list up to a column is a list up to a later one, if no cell is between them.
   pub passed : (row a b : ℕ) (coords : List Coord) → a ≤ b → ((c : Cell) → Has cells c → c.row ≡ row → a ≤ c.column → c.column < b → ⊥)
       → IsListedTo cells row a coords → IsListedTo cells row b coords
-  passed row a b coords up none l = record {
-    only = λ c h. let (has, early) = l.only c h in (
-      has,
-      elim early [
-        | inl above ↦ inl above
-        | inr left ↦ inr (left.0, let before = left.1 in omega (arith, before, up))
-      ],
-    );
-    all = λ c has early. l.all c has (elim early [
-      | inl above ↦ inl above
-      | inr left ↦ elim (cases_lt c.column a) [
-        | inl low ↦ inr (left.0, low)
-        | inr high ↦ absurd (none c has left.0 high left.1)
-      ]
-    ]);
-    order = l.order;
-    count = l.count;
-  }
+  passed row a b coords up none l = grind (arith, cases_lt)
 
   -- A list up to the end of a row is a list up to the next row.
   pub row_listed : (row end : ℕ) (coords : List Coord) → ((c : Cell) → Has cells c → c.column < end)
       → IsListedTo cells row end coords → IsListedTo cells (row + 1) 0 coords
-  row_listed row end coords within l = record {
-    only = λ c h. let (has, early) = l.only c h in (
-      has,
-      inl (elim early [
-        | inl above ↦ omega (arith, above)
-        | inr left ↦ let same = left.0 in omega (arith, same)
-      ]),
-    );
-    all = λ c has early. l.all c has (elim early [
-      | inl above ↦ elim (cases_lt c.row row) [
-        | inl low ↦ inl low
-        | inr high ↦ inr (omega (arith, above, high), within c has)
-      ]
-      | inr left ↦ absurd (let before = left.1 in omega (arith, before))
-    ]);
-    order = l.order;
-    count = l.count;
-  }
+  row_listed row end coords within l = grind (arith, cases_lt)
 
   -- A list up to the row after the last one has every cell of the set.
   pub all_listed : (row : ℕ) (coords : List Coord) → ((c : Cell) → Has cells c → c.row < row)
       → IsListedTo cells row 0 coords → IsListOf cells coords × (length coords ≡ set.len cells)
-  all_listed row coords above l =
-      let same : cells_of coords ≡ cells = same_members (cells_of coords) cells (λ q h. (l.only q h).0) (λ q h. l.all q h (inl (above q h))) in
-      (record { same = same; order = l.order }, sym l.count ∙ ap set.len same)
+  all_listed row coords above l = grind (arith, same_members)
 
 -- ---- the next cell
 module _ (cells : Cells) (row column : ℕ) (coords : List Coord) (has : Has cells (cell_at column row)) (l : IsListedTo cells row column coords) where
@@ -103,30 +67,19 @@ module _ (cells : Cells) (row column : ℕ) (coords : List Coord) (has : Has cel
   next = record { row = row; column = column }
 
   not_listed : Lacks (cells_of coords) here
-  not_listed = lacks_where (cells_of coords) here (λ h. elim (l.only here h).1 [
-    | inl above ↦ absurd (omega (arith, above))
-    | inr left ↦ absurd (let before = left.1 in omega (arith, before))
-  ])
+  not_listed = grind (arith, lacks_where)
 
   -- The list is shorter than the set, because it lacks the next cell.
   pub next_room : length coords < set.len cells
   next_room =
       let within = len-within (set.insert (cells_of coords) here) cells
-      (λ q h. either (has_insert (cells_of coords) here q h) (λ e. subst (Has cells) (sym e) has) (λ old. (l.only q old).0)) in
+      (λ q h. either (has_insert (cells_of coords) here q h) (λ e. rw e has) (λ old. (l.only q old).0)) in
       let more = len-insert_new (cells_of coords) here not_listed in
       let count = l.count in
-      omega (arith, within, more, count)
+      omega arith
 
   only_more : (q : Cell) → Has (set.insert (cells_of coords) here) q → Has cells q × IsEarlier row (column + 1) q
-  only_more q h = either (has_insert (cells_of coords) here q h)
-      (λ e. (subst (Has cells) (sym e) has, subst (IsEarlier row (column + 1)) (sym e) (inr (refl, omega arith))))
-      (λ old. let (there, early) = l.only q old in (
-        there,
-        elim early [
-          | inl above ↦ inl above
-          | inr left ↦ inr (left.0, let before = left.1 in omega (arith, before))
-        ],
-      ))
+  only_more q h = grind (arith, either, has_insert)
 
   all_more : (q : Cell) → Has cells q → IsEarlier row (column + 1) q → Has (set.insert (cells_of coords) here) q
   all_more q there early = elim early [
@@ -135,7 +88,7 @@ module _ (cells : Cells) (row column : ℕ) (coords : List Coord) (has : Has cel
       | inl low ↦ kept_by_insert (cells_of coords) here q (l.all q there (inr (left.0, low)))
       | inr high ↦
           let same_row : row ≡ q.row = sym left.0 in
-          let same_column : column ≡ q.column = let before = left.1 in omega (arith, before, high) in
+          let same_column : column ≡ q.column = let before = left.1 in omega arith in
           subst (Has (set.insert (cells_of coords) here)) (λ i. record { row = same_row i; column = same_column i }) (inserted (cells_of coords) here)
     ]
   ]
@@ -145,15 +98,15 @@ module _ (cells : Cells) (row column : ℕ) (coords : List Coord) (has : Has cel
   next_listed =
       let push = cells_push coords next in
       record {
-        only = λ q h. only_more q (subst (λ (s : Cells). Has s q) push h);
-        all = λ q there early. subst (λ (s : Cells). Has s q) (sym push) (all_more q there early);
+        only = λ q h. only_more q (rw push at h);
+        all = λ q there early. rw push (all_more q there early);
         order = in_order_push coords next l.order (λ y h. (l.only (cell_of y) (listed_cell coords y h)).1);
         count =
             let same = ap set.len push in
             let more = len-insert_new (cells_of coords) here not_listed in
             let count = l.count in
             let longer = length-append coords (next ∷ []) in
-            omega (arith, same, more, count, longer);
+            omega arith;
       }
 
 -- ---- the bits of a part of a row
@@ -167,32 +120,23 @@ pub record IsListing (cells : Cells) (row first bits : ℕ) (coords : List Coord
 -- At the start the word has all cells of the part.
 pub listing_starts : (cells : Cells) (row first bits : ℕ) (coords : List Coord) → ((k : ℕ) → Bit bits k ↔ ((k < 64) × Has cells (cell_at (first + k) row)))
     → IsListedTo cells row first coords → IsListing cells row first bits coords
-listing_starts cells row first bits coords is listed =
-    let start : first ≡ first + 0 = omega arith in
-    record {
-      from = 0;
-      within = omega arith;
-      listed = subst (λ (n : ℕ). IsListedTo cells row n coords) start listed;
-      rest = λ k. ((λ b. let (small, has) = (is k).0 b in (small, omega arith, has)), (λ (small, _, has). (is k).1 (small, has)));
-    }
+listing_starts cells row first bits coords is listed = grind arith
 
 -- A cell of the row is found at its distance from the first column of the part.
 at_bit : (cells : Cells) (row first : ℕ) (c : Cell) → Has cells c → c.row ≡ row → first ≤ c.column → Has cells (cell_at (first + (c.column - first)) row)
-at_bit cells row first c has same low =
-    let place : c.column ≡ first + (c.column - first) = omega (arith, low) in
-    subst (Has cells) (λ i. record { row = same i; column = place i }) has
+at_bit cells row first c has same low = grind arith
 
 -- Once no bit is left, all cells of the part are listed.
 pub listing_ends : (cells : Cells) (row first bits : ℕ) (coords : List Coord) → bits ≡ 0 → IsListing cells row first bits coords
     → IsListedTo cells row (first + 64) coords
 listing_ends cells row first bits coords none l =
-    let up : first + l.from ≤ first + 64 = let within = l.within in omega (arith, within) in
+    let up : first + l.from ≤ first + 64 = let within = l.within in omega arith in
     passed cells row (first + l.from) (first + 64) coords up
     (λ c has same low high.
     let k = c.column - first in
-    let small : k < 64 = omega (arith, low, high) in
-    let late : l.from ≤ k = omega (arith, low, high) in
-    no_bit_zero k (subst (λ (word : ℕ). Bit word k) none ((l.rest k).1 (small, late, at_bit cells row first c has same (omega (arith, low))))))
+    let small : k < 64 = omega arith in
+    let late : l.from ≤ k = omega arith in
+    no_bit_zero k (rw none at ((l.rest k).1 (small, late, at_bit cells row first c has same (omega arith)))))
     l.listed
 
 module _ (cells : Cells) (row first bits : ℕ) (coords : List Coord) (some : 0 < bits) (fits : bits < 2 ^ 64) (l : IsListing cells row first bits coords) where
@@ -211,13 +155,13 @@ module _ (cells : Cells) (row first bits : ℕ) (coords : List Coord) (some : 0 
   up_to_it : IsListedTo cells row (first + low) coords
   up_to_it =
       let late = lowest.1 in
-      passed cells row (first + l.from) (first + low) coords (omega (arith, late))
+      passed cells row (first + l.from) (first + low) coords (omega arith)
       (λ c has same from to.
       let k = c.column - first in
-      let small : k < 64 = omega (arith, from, to, in_word) in
-      let after : l.from ≤ k = omega (arith, from, to) in
-      let lower : k < low = omega (arith, from, to) in
-      no_lower k lower ((l.rest k).1 (small, after, at_bit cells row first c has same (omega (arith, from)))))
+      let small : k < 64 = omega (arith, in_word) in
+      let after : l.from ≤ k = omega arith in
+      let lower : k < low = omega arith in
+      no_lower k lower ((l.rest k).1 (small, after, at_bit cells row first c has same (omega arith))))
       l.listed
 
   -- The list has room for the cell of the lowest bit.
@@ -234,8 +178,7 @@ module _ (cells : Cells) (row first bits : ℕ) (coords : List Coord) (some : 0 
       record {
         from = low + 1;
         within = omega (arith, in_word);
-        listed = subst (λ (n : ℕ). IsListedTo cells row n (coords ++ (record { row = row; column = first + low }) ∷ [])) after
-            (next_listed cells row (first + low) coords lowest.2 up_to_it);
+        listed = rw after at (next_listed cells row (first + low) coords lowest.2 up_to_it);
         rest = λ k. (
           (λ b.
               let was = bit_and_l bits _ k b in
@@ -243,16 +186,16 @@ module _ (cells : Cells) (row first bits : ℕ) (coords : List Coord) (some : 0 
               (small, above k b was, has)),
           (λ (small, late, has).
               let from = lowest.1 in
-              bit_not_cleared bits low k in_word small (λ e. omega (arith, late, e)) ((l.rest k).1 (small, omega (arith, late, from), has))),
+              bit_not_cleared bits low k in_word small (λ e. omega arith) ((l.rest k).1 (small, omega arith, has))),
         );
       }
     where
       above : (k : ℕ) → Bit others k → Bit bits k → low + 1 ≤ k
       above k b was = elim (cases_lt low k) [
-        | inl higher ↦ omega (arith, higher)
+        | inl higher ↦ omega arith
         | inr lower ↦ elim (cases_lt k low) [
           | inl below ↦ absurd (no_lower k below was)
-          | inr same ↦ absurd (bit_cleared bits low k in_word b (omega (arith, lower, same)))
+          | inr same ↦ absurd (bit_cleared bits low k in_word b (omega arith))
         ]
       ]
 
@@ -268,11 +211,11 @@ pub record IsCountedTo (cells : Cells) (row column count : ℕ) : Type 0 where
   pub long : length coords ≡ count
 
 pub none_counted : (cells : Cells) → ((c : Cell) → Has cells c → 1 ≤ c.row) → IsCountedTo cells 1 0 0
-none_counted cells below = record { coords = []; listed = none_listed cells below; long = refl }
+none_counted cells below = grind (arith, none_listed)
 
 pub row_counted : (cells : Cells) (row end count : ℕ) → ((c : Cell) → Has cells c → c.column < end)
     → IsCountedTo cells row end count → IsCountedTo cells (row + 1) 0 count
-row_counted cells row end count within l = record { coords = l.coords; listed = row_listed cells row end l.coords within l.listed; long = l.long }
+row_counted cells row end count within l = search (row_listed)
 
 pub all_counted : (cells : Cells) (row count : ℕ) → ((c : Cell) → Has cells c → c.row < row) → IsCountedTo cells row 0 count → count ≡ set.len cells
 all_counted cells row count above l = sym l.long ∙ (all_listed cells row l.coords above l.listed).1
@@ -281,32 +224,27 @@ all_counted cells row count above l = sym l.long ∙ (all_listed cells row l.coo
 module _ (cells : Cells) (row first bits : ℕ) (is : (k : ℕ) → Bit bits k ↔ ((k < 64) × Has cells (cell_at (first + k) row))) where
   columns_counted : (count m : ℕ) → m ≤ 64 → IsCountedTo cells row first count → IsCountedTo cells row (first + m) (count + bits_below (bits ∷ []) m)
   unfolding bits_below
-  columns_counted count zero small l = record {
-    coords = l.coords;
-    listed = (let start : first ≡ first + 0 = omega arith in subst (λ (n : ℕ). IsListedTo cells row n l.coords) start l.listed);
-    long = l.long ∙ (omega arith);
-  }
+  columns_counted count zero small l = grind arith
   columns_counted count (suc m) small l =
-      let prev = columns_counted count m (omega (arith, small)) l in
+      let prev = columns_counted count m (omega arith) l in
       let up : first + m + 1 ≡ first + suc m = omega arith in
       elim (has_bit (bits ∷ []) m) as (λ b. has_bit (bits ∷ []) m ≡ b
       → IsCountedTo cells row (first + suc m) (count + (bits_below (bits ∷ []) m + cond b 1 0))) [
         | true ↦ λ e.
-            let there = ((is m).0 (bit_here m (omega (arith, small)) e)).1 in
+            let there = ((is m).0 (bit_here m (omega arith) e)).1 in
             record {
               coords = prev.coords ++ (record { row = row; column = first + m }) ∷ [];
-              listed = subst (λ (n : ℕ). IsListedTo cells row n (prev.coords ++ (record { row = row; column = first + m }) ∷ [])) up
-                  (next_listed cells row (first + m) prev.coords there prev.listed);
+              listed = rw up at (next_listed cells row (first + m) prev.coords there prev.listed);
               long = (let longer = length-append prev.coords ((record { row = row; column = first + m }) ∷ []) in
-                  let same = prev.long in omega (arith, longer, same));
+                  let same = prev.long in omega arith);
             }
         | false ↦ λ e. record {
           coords = prev.coords;
           listed = passed cells row (first + m) (first + suc m) prev.coords (omega arith)
               (λ c has same low high.
-              let place : c.column ≡ first + m = omega (arith, low, high) in
+              let place : c.column ≡ first + m = omega arith in
               let here = subst (Has cells) (λ i. record { row = same i; column = place i }) has in
-              true≢false (sym (bit_back m (omega (arith, small)) ((is m).1 (omega (arith, small), here))) ∙ e))
+              true≢false (sym (bit_back m (omega arith) ((is m).1 (omega arith, here))) ∙ e))
               prev.listed;
           long = prev.long ∙ (omega arith);
         }
@@ -314,19 +252,19 @@ module _ (cells : Cells) (row first bits : ℕ) (is : (k : ℕ) → Bit bits k �
     where
       bit_here : (m : ℕ) → m < 64 → has_bit (bits ∷ []) m ≡ true → Bit bits m
       bit_here m small e =
-          let word : m / 64 ≡ 0 = omega (arith, small) in
-          let low : m % 64 ≡ m = omega (arith, small) in
-          record { is = subst (λ (n : ℕ). bit bits n ≡ true) low (subst (λ (n : ℕ). bit (get_or (bits ∷ []) n 0) (m % 64) ≡ true) word e) }
+          let word : m / 64 ≡ 0 = omega arith in
+          let low : m % 64 ≡ m = omega arith in
+          record { is = rw (word, low) at e }
 
       bit_back : (m : ℕ) → m < 64 → Bit bits m → has_bit (bits ∷ []) m ≡ true
       bit_back m small b =
-          let word : 0 ≡ m / 64 = omega (arith, small) in
-          let low : m ≡ m % 64 = omega (arith, small) in
-          subst (λ (n : ℕ). bit (get_or (bits ∷ []) n 0) (m % 64) ≡ true) word (subst (λ (n : ℕ). bit bits n ≡ true) low b.is)
+          let word : 0 ≡ m / 64 = omega arith in
+          let low : m ≡ m % 64 = omega arith in
+          subst (λ (n : ℕ). bit (get_or (bits ∷ []) n 0) (m % 64) ≡ true) word (rw low at b.is)
 
   pub part_counted : (count : ℕ) → bits < 2 ^ 64 → IsCountedTo cells row first count → IsCountedTo cells row (first + 64) (count + count_ones bits)
   part_counted count fits l =
       let none = count_starts (bits ∷ []) in
       let all = count_word (bits ∷ []) 0 fits in
-      let ones : bits_below (bits ∷ []) 64 ≡ count_ones bits = omega (arith, none, all) in
-      subst (λ (n : ℕ). IsCountedTo cells row (first + 64) (count + n)) ones (columns_counted count 64 (omega arith) l)
+      let ones : bits_below (bits ∷ []) 64 ≡ count_ones bits = omega arith in
+      rw ones at (columns_counted count 64 (omega arith) l)

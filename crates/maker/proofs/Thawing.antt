@@ -26,40 +26,21 @@ use Rattle.maker.specs.Review.{IsReviewed}
 -- What holds a box within a set holds it within a larger one.
 pub held_more : (level : Level) (dead few many : Cells) (b : Cell) (d : Dir) → ((c : Cell) → Has few c → Has many c)
     → IsHeld level dead few b d → IsHeld level dead many b d
-held_more level dead few many b d within held =
-    either held
-    (λ behind. inl (either behind (λ outside. inl outside) (λ box. inr (within _ box))))
-    (λ ahead. inr (either ahead (λ wall. inl wall) (λ held. inr (either held (λ box. inl (within _ box)) (λ is_dead. inr is_dead)))))
+held_more level dead few many b d within held = grind (arith, either)
 
 -- ---- one box is taken from the worklist
 module _ (level : Level) (dead : Cells) (b : Cell) (frozen : Cells) (work : List Cell) where
   -- If the box has left the set before, nothing has to change.
   pub reviewed_absent : Lacks frozen b → IsReviewed level dead b frozen work frozen work
-  reviewed_absent lacks = record {
-    kept = λ q h. h;
-    lost = λ q h. inl h;
-    held = λ has. not_both frozen b has lacks;
-    waiting = λ q h. h;
-    around = λ has. not_both frozen b has lacks;
-    less = omega arith;
-  }
+  reviewed_absent lacks = grind (arith, not_both)
 
   -- If the box is held in every direction, nothing has to change.
   pub reviewed_held : ((d : Dir) → IsHeld level dead frozen b d) → IsReviewed level dead b frozen work frozen work
-  reviewed_held held = record {
-    kept = λ q h. h;
-    lost = λ q h. inl h;
-    held = λ _. held;
-    waiting = λ q h. h;
-    around = λ has lacks. not_both frozen b has lacks;
-    less = omega arith;
-  }
+  reviewed_held held = grind (arith, not_both)
 
   -- If the box isn't held in some direction, it leaves the set, and its neighbours are queued.
-  pub reviewed_gone : (work' : List Cell) → Has frozen b → (d : Dir) → (IsHeld level dead frozen b d → ⊥)
-      → ((q : Cell) → Contains work q → Contains work' q)
-      → ((d : Dir) → Has (set.remove frozen b) (neighbor b d) → Contains work' (neighbor b d))
-      → length work' ≤ length work + 4
+  pub reviewed_gone : (work' : List Cell) → Has frozen b → (d : Dir) → (IsHeld level dead frozen b d → ⊥) → ((q : Cell) → Contains work q → Contains work' q)
+      → ((d : Dir) → Has (set.remove frozen b) (neighbor b d) → Contains work' (neighbor b d)) → length work' ≤ length work + 4
       → IsReviewed level dead b frozen work (set.remove frozen b) work'
   reviewed_gone work' has d loose waiting around more = record {
     kept = λ q h. (has_remove frozen b q h).1;
@@ -69,7 +50,7 @@ module _ (level : Level) (dead : Cells) (b : Cell) (frozen : Cells) (work : List
     held = λ again. absurd ((has_remove frozen b b again).0 refl);
     waiting = waiting;
     around = λ _ _. around;
-    less = let one = len-remove_member frozen b has in omega (arith, one, more);
+    less = let one = len-remove_member frozen b has in omega arith;
   }
 
 -- ---- all boxes, one after another
@@ -98,11 +79,7 @@ forth q D row column r c = neighbor_back q U row column
 module _ (level : Level) (formed : IsWellFormed level) (dead : Cells) where
   pub thawing_start : (frozen : Cells) (work : List Cell) → ((q : Cell) → Has frozen q ↔ Has level.boxes q)
       → ((q : Cell) → Has frozen q → Contains work q) → IsThawing level dead frozen work
-  thawing_start frozen work all waiting = record {
-    boxes = λ q h. (all q).0 h;
-    whole = λ some hold q h. (all q).1 (hold.boxes q h);
-    seen = λ q h. inl (waiting q h);
-  }
+  thawing_start frozen work all waiting = grind arith
 
   -- A box that was held in a direction still is, unless the box that left was beside it. Then it is queued.
   still_held : (b : Cell) (frozen : Cells) (work : List Cell) (frozen' : Cells) (work' : List Cell) (q : Cell) (d : Dir)
@@ -124,22 +101,22 @@ module _ (level : Level) (formed : IsWellFormed level) (dead : Cells) where
 
       behind_is : neighbor q (opposite d) ≡ b → neighbor b d ≡ q
       behind_is e =
-          let top = subst (λ (x : Cell). 1 ≤ x.row) (sym e) on_b.top in
-          let left = subst (λ (x : Cell). 1 ≤ x.column) (sym e) on_b.left in
+          let top = rw (← e) at on_b.top in
+          let left = rw (← e) at on_b.left in
           subst (λ (x : Cell). neighbor x d ≡ q) e (forth q d on_q.top on_q.left top left)
 
       ahead_is : neighbor q d ≡ b → neighbor b (opposite d) ≡ q
       ahead_is e = subst (λ (x : Cell). neighbor x (opposite d) ≡ q) e (neighbor_back q d on_q.top on_q.left)
 
       q_waits : (e : Dir) → neighbor b e ≡ q → Has frozen b → Lacks frozen' b → Contains work' q ⊎ IsHeld level dead frozen' q d
-      q_waits e is had gone = inl (subst (Contains work') is (r.around had gone e (subst (Has frozen') (sym is) here)))
+      q_waits e is had gone = inl (rw is at (r.around had gone e (rw is here)))
 
       still_there : (c : Cell) → Has frozen c → (c ≡ b → Has frozen b → Lacks frozen' b → Contains work' q ⊎ IsHeld level dead frozen' q d)
           → (Has frozen' c → Contains work' q ⊎ IsHeld level dead frozen' q d) → Contains work' q ⊎ IsHeld level dead frozen' q d
       still_there c had if_gone if_there = has_or_lacks frozen' c if_there (λ lacks.
           either (r.lost c had)
           (λ there. not_both frozen' c there lacks)
-          (λ gone. if_gone gone.0 (subst (Has frozen) gone.0 had) (subst (Lacks frozen') gone.0 lacks)))
+          (λ gone. if_gone gone.0 (rw gone.0 at had) (rw gone.0 at lacks)))
 
   pub thawing_more : (b : Cell) (frozen : Cells) (work : List Cell) (frozen' : Cells) (work' : List Cell)
       → IsOn level.shape b → IsThawing level dead frozen (work ++ b ∷ []) → IsReviewed level dead b frozen work frozen' work'
@@ -149,12 +126,12 @@ module _ (level : Level) (formed : IsWellFormed level) (dead : Cells) where
     whole = λ some hold q h. either (r.lost q (t.whole some hold q h))
         (λ there. there)
         (λ gone.
-        let held = subst (λ (x : Cell). IsHeld level dead some x gone.1) gone.0 (hold.held q gone.1 h) in
+        let held = rw gone.0 at (hold.held q gone.1 h) in
         absurd (gone.2 (held_more level dead some frozen b gone.1 (t.whole some hold) held)));
     seen = λ q h. either (t.seen q (r.kept q h))
         (λ waits. either (Contains-push_cases work b q waits)
         (λ still. inl (r.waiting q still))
-        (λ is. inr (subst (λ (x : Cell). (d : Dir) → IsHeld level dead frozen' x d) is (r.held (subst (Has frozen') (sym is) h)))))
+        (λ is. inr (rw is at (r.held (rw is h)))))
         (λ held. each_way (λ d. still_held b frozen work frozen' work' q d on_b r t.boxes h (held d)));
   }
 

@@ -44,7 +44,7 @@ module _ (level : Level) (formed : IsWellFormed level) where
   pushed_in s zone closed within c (at_seed h) = within c h
   pushed_in s zone closed within c (by_step b before p) =
       subst (Has zone) (sym p.next) (push_stays level zone b p.dir closed
-      (record { player = p.behind; floor = subst (IsFloor level) p.next (formed.room c p.ahead) }) (pushed_in s zone closed within b before))
+      (record { player = p.behind; floor = rw p.next at (formed.room c p.ahead) }) (pushed_in s zone closed within b before))
 
   -- a set of floor cells that no push leaves within the room is closed
   settled_closed : (zone : Cells) → ((q : Cell) → Has zone q → IsFloor level q) → IsSettled (Has level.room) (Has zone) → IsClosedZone level zone
@@ -56,9 +56,9 @@ module _ (level : Level) (formed : IsWellFormed level) where
   module _ (matching : List (Option Cell)) (start : Cell) where
     pub searched_first : IsFloor level start → (s : Cells) → ((q : Cell) → Has s q ↔ (q ≡ start)) → AreSearched level matching start s
     searched_first floor s is = record {
-      floor = λ q h. subst (IsFloor level) (sym ((is q).0 h)) floor;
+      floor = λ q h. rw ((is q).0 h) floor;
       begins = (is start).1 refl;
-      least = λ zone q confines h. subst (Has zone) (sym ((is q).0 h)) confines.begins;
+      least = λ zone q confines h. rw ((is q).0 h) confines.begins;
     }
 
     pub searched_spread : (s t : Cells) → AreSearched level matching start s → ((c : Cell) → Has t c ↔ Reached (PushesTo (Has level.room)) (Has s) c)
@@ -70,28 +70,22 @@ module _ (level : Level) (formed : IsWellFormed level) where
     }
 
     either_matched : {G : Type 0} (s s' : Cells) (b q : Cell) → s' ≡ set.insert s b → Has s' q → (q ≡ b → G) → (Has s q → G) → G
-    either_matched s s' b q is h new old = either (has_insert s b q (subst (λ (x : Cells). Has x q) is h)) new old
+    either_matched s s' b q is h new old = either (has_insert s b q (rw is at h)) new old
 
     pub searched_matched : (s s' : Cells) (g b : Cell) → s' ≡ set.insert s b → Has s g → Pairs level.shape matching g b → IsFloor level b
         → AreSearched level matching start s → AreSearched level matching start s'
     searched_matched s s' g b is has pair floor searched = record {
-      floor = λ q h. either_matched s s' b q is h (λ e. subst (IsFloor level) (sym e) floor) (searched.floor q);
-      begins = subst (λ (x : Cells). Has x start) (sym is) (kept_by_insert s b start searched.begins);
-      least = λ zone q confines h. either_matched s s' b q is h (λ e. subst (Has zone) (sym e) (confines.boxes g b (searched.least zone g confines has) pair))
+      floor = λ q h. either_matched s s' b q is h (λ e. rw e floor) (searched.floor q);
+      begins = rw is (kept_by_insert s b start searched.begins);
+      least = λ zone q confines h. either_matched s s' b q is h (λ e. rw e (confines.boxes g b (searched.least zone g confines has) pair))
           (searched.least zone q confines);
     }
 
     pub searched_violator : (s : Cells) → AreSearched level matching start s → IsSettled (Has level.room) (Has s)
         → ((g b : Cell) → Pairs level.shape matching g b → Has level.goals g)
         → ((g b : Cell) → Has level.goals g → Has s g → Pairs level.shape matching g b → Has s b)
-        → ((g : Cell) → Has s g → Has level.goals g → (b : Cell) × Pairs level.shape matching g b)
-        → IsHallViolator level (Pairs level.shape matching) start s
-    searched_violator s searched settled goals in_it paired = record {
-      confines = record { closed = settled_closed s searched.floor settled; begins = searched.begins; boxes = λ g b h pair. in_it g b (goals g b pair) h pair };
-      paired = paired;
-      floor = searched.floor;
-      least = λ other c confines h. searched.least other c confines h;
-    }
+        → ((g : Cell) → Has s g → Has level.goals g → (b : Cell) × Pairs level.shape matching g b) → IsHallViolator level (Pairs level.shape matching) start s
+    searched_violator s searched settled goals in_it paired = search (settled_closed)
 
 -- a free goal in the reach of a box can be matched to it at once
 pub free_matched : (level : Level) (matching : List (Option Cell)) (start goal : Cell) → HasEntries level.shape matching → IsFreeGoal level matching goal
@@ -100,7 +94,7 @@ free_matched level matching start goal entries free near matched is box lacks =
     let new = set_at matching (index level.shape goal) (Some start) in
     let unmatched : (b : Cell) → Pairs level.shape matching goal b → ⊥ = λ b pair. none_some b (sym free.unmatched ∙ pair.entry) in
     record {
-      boxes = λ c h. either (has_insert matched start c h) (λ e. subst (Has level.boxes) (sym e) box) (is.boxes c);
+      boxes = λ c h. either (has_insert matched start c h) (λ e. rw e box) (is.boxes c);
       pairs = all_matched level matched (Pairs level.shape matching) (Pairs level.shape new) (one_match level.shape new) goal start
           (freed_start level matched (Pairs level.shape matching) goal is.pairs free.goal unmatched)
           (table_matched level.shape matching goal start (Some start) free.on entries refl) near lacks;

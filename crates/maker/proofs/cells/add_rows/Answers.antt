@@ -1,25 +1,19 @@
-use Rattle.std.proofs.Common.{List, sym, ap, subst, arith}
+use Rattle.std.proofs.Common.{ap, arith}
 use Rattle.cellset.specs.Shape.{Extent}
-use Rattle.answers.specs.declared.pattern.Coord.{Coord}
-use Rattle.maker.specs.Listed.{IsListedTo}
 use Rattle.maker.proofs.RowLists.{all_listed, none_listed}
 use Rattle.maker.proofs.cells.add_rows.Goals as goal
 
 pub loop-row-init : goal.loop-row-init
 loop-row-init c = record {
-  listed = subst (λ (coords : List Coord). IsListedTo c.args.cells.now.members 1 0 coords) (sym c.requires.empty)
-      (none_listed _ (λ q has. (c.requires.on q has).top));
+  listed = rw c.requires.empty (none_listed _ (λ q has. (c.requires.on q has).top));
   room = c.requires.room;
 }
 
 pub loop-row-preserved : goal.loop-row-preserved
-loop-row-preserved c = record {
-  listed = c.add_row.ensures.listed;
-  room = let kept = c.add_row.ensures.capacity in let room = c.loop-row.invariant.room in omega (arith, kept, room);
-}
+loop-row-preserved c = grind arith
 
 pub returns : goal.returns
 returns c =
     let high = ap (λ (e : Extent). e.height) c.shape-shape.ensures in
-    let all = all_listed _ _ _ (λ q has. let bottom = (c.requires.on q has).bottom in omega (arith, bottom, high)) c.loop-row.invariant.listed in
+    let all = all_listed _ _ _ (λ q has. let bottom = (c.requires.on q has).bottom in omega arith) c.loop-row.invariant.listed in
     record { list = all.0; count = all.1 }

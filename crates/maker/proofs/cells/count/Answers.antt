@@ -1,17 +1,16 @@
 -- For every position some list has the cells before it and is as long as the count (`RowLists.antt`). At the end that list has all cells.
-use Rattle.std.proofs.Common.{◌≡◌, ℕ, ◌+◌, ◌*◌, ap, subst, arith}
-use Rattle.std.specs.Prelude.{count_ones}
+use Rattle.std.proofs.Common.{◌≡◌, ◌+◌, ◌*◌, ap, arith}
 use Rattle.std.proofs.lemmas.Nat.{ones-le}
 use Rattle.cellset.specs.Shape.{Extent}
 use Rattle.reach.proofs.Loads.{row_tells}
-use Rattle.maker.proofs.RowLists.{IsCountedTo, all_counted, none_counted, part_counted, row_counted}
+use Rattle.maker.proofs.RowLists.{all_counted, none_counted, part_counted, row_counted}
 use Rattle.maker.proofs.cells.count.Goals as goal
 
 pub loop-row-init : goal.loop-row-init
-loop-row-init c = record { counted = none_counted _ (λ q has. (c.requires.on q has).top); few = omega arith }
+loop-row-init c = grind (arith, none_counted)
 
 pub loop-part-init : goal.loop-part-init
-loop-part-init c = record { counted = c.loop-row.invariant.counted; few = let few = c.loop-row.invariant.few in omega (arith, few) }
+loop-part-init c = grind arith
 
 pub loop-part-preserved : goal.loop-part-preserved
 loop-part-preserved c =
@@ -22,20 +21,14 @@ loop-part-preserved c =
     let next : 64 * l.part + 64 ≡ 64 * (l.part + 1) = omega arith in
     let ones = ones-le 64 bits (omega arith) in
     record {
-      counted = subst (λ (n : ℕ). IsCountedTo cells row n (l.count + count_ones bits)) next
-          (part_counted cells row (64 * l.part) bits (row_tells cells row l.part bits (omega arith) c.row.ensures) l.count (omega arith) l.invariant.counted);
-      few = let few = l.invariant.few in omega (arith, few, ones);
+      counted = rw next at (part_counted cells row (64 * l.part) bits (row_tells cells row l.part bits (omega arith) c.row.ensures) l.count (omega arith) l.invariant.counted);
+      few = let few = l.invariant.few in omega arith;
     }
 
 pub loop-row-preserved : goal.loop-row-preserved
-loop-row-preserved c =
-    let wide = ap (λ (e : Extent). e.width) c.shape-shape.ensures in
-    record {
-      counted = row_counted _ _ _ _ (λ q has. let right = (c.requires.on q has).right in omega (arith, right, wide)) c.loop-part.invariant.counted;
-      few = let few = c.loop-part.invariant.few in omega (arith, few);
-    }
+loop-row-preserved c = grind (arith, row_counted)
 
 pub returns : goal.returns
 returns c =
     let high = ap (λ (e : Extent). e.height) c.shape-shape.ensures in
-    all_counted _ _ _ (λ q has. let bottom = (c.requires.on q has).bottom in omega (arith, bottom, high)) c.loop-row.invariant.counted
+    all_counted _ _ _ (λ q has. let bottom = (c.requires.on q has).bottom in omega arith) c.loop-row.invariant.counted

@@ -1,7 +1,7 @@
 -- The invariant says that the worklist has exactly the members seen so far, and keeps its capacity. The members are in reading order, so
 -- the next member isn't in the list yet, and the set has more members than the list has cells (`Listing.antt`). So there is room for the
 -- next member. At the end every member has been seen (`MemberLists.antt` of `cellset`).
-use Rattle.std.proofs.Common.{List, ◌∷◌, [], ◌++◌, length, refl, sym, ◌∙◌, ap, subst, arith}
+use Rattle.std.proofs.Common.{List, ◌∷◌, [], ◌++◌, length, sym, ◌∙◌, ap, subst, arith}
 use Rattle.std.proofs.Math.ListN.{length-append}
 use Rattle.cellset.specs.Members.{AreMembersOf}
 use Rattle.cellset.specs.declared.cell.Cell.{Cell}
@@ -10,16 +10,7 @@ use Rattle.maker.proofs.Listing.{members_count}
 use Rattle.maker.proofs.cells.list_all.Goals as goal
 
 pub loop-cell-init : goal.loop-cell-init
-loop-cell-init g c =
-    let cells = c.args.cells.now in
-    record {
-      can_next = tt;
-      is_finite = tt;
-      all = subst (AreMembersOf (g.S.CellSet.extent cells) (g.S.CellSet.members cells)) (sym c.into_iter-cell-iterator.ensures.into_iter_gives)
-          c.new-cell-items.ensures;
-      items = c.requires.empty;
-      capacity = refl;
-    }
+loop-cell-init g c = grind arith
 
 pub push_reserved-requires : goal.push_reserved-requires
 push_reserved-requires g c =
@@ -30,7 +21,7 @@ push_reserved-requires g c =
     let same = ap length l.invariant.items in
     let kept = l.invariant.capacity in
     let room = c.requires.room in
-    omega (arith, count, longer, same, kept, room)
+    omega arith
 
 pub loop-cell-preserved : goal.loop-cell-preserved
 loop-cell-preserved g c =

@@ -1,27 +1,16 @@
 -- The invariant says that the rows have the cells seen so far, and the cells that they had at the start. The next cell lies on the grid, so
 -- it can be inserted. Then the rows have it too, by cases on whether a cell was there, was seen before, or is the new one. At the end every
 -- cell of the set has been seen (`MemberLists.antt` of `cellset`).
-use Rattle.std.proofs.Common.{[], ◌∷◌, ◌++◌, refl, sym, ◌∙◌, subst, inl, inr, arith}
+use Rattle.std.proofs.Common.{[], ◌∷◌, sym, ◌∙◌, subst, inl, inr, arith}
 use Rattle.std.proofs.lemmas.List.Elements.{Contains-append_left, Contains-push, Contains-push_cases}
-use Rattle.std.specs.List.{Contains}
 use Rattle.cellset.specs.Shape.{Extent}
 use Rattle.cellset.specs.Cell.{IsOn}
-use Rattle.cellset.specs.Members.{AreMembersOf}
 use Rattle.cellset.proofs.MemberLists.{goes_on, next_has, next_came, all_came}
 use Rattle.cellset.proofs.Truth.{either}
 use Rattle.maker.proofs.dead.add_cells.Goals as goal
 
 pub loop-cell-init : goal.loop-cell-init
-loop-cell-init g c =
-    let cells = c.args.cells.now in
-    record {
-      can_next = tt;
-      is_finite = tt;
-      all = subst (AreMembersOf (g.S.CellSet.extent cells) (g.S.CellSet.members cells)) (sym c.into_iter-cell-iterator.ensures.into_iter_gives)
-          c.new-cell-items.ensures;
-      extent = refl;
-      members = λ q. ((λ h. inl h), (λ s. either s (λ h. h) (λ (k, within, is). absurd (omega arith))));
-    }
+loop-cell-init g c = grind (arith, either)
 
 pub insert-requires : goal.insert-requires
 insert-requires g c =
@@ -45,7 +34,7 @@ loop-cell-preserved g c =
           let was = l.invariant.members q in (
             (λ h. either (now.0 h)
                 (λ old. either (was.0 old) (λ before. inl before) (λ early. inr (Contains-append_left came (cell ∷ []) q early)))
-                (λ here. inr (subst (Contains (came ++ cell ∷ [])) (sym here) (Contains-push came cell)))),
+                (λ here. inr (rw here (Contains-push came cell)))),
             (λ s. now.1 (either s
                 (λ before. inl (was.1 (inl before)))
                 (λ there. either (Contains-push_cases came cell q there) (λ early. inl (was.1 (inr early))) (λ here. inr (sym here))))),

@@ -1,4 +1,4 @@
-use Rattle.std.proofs.Common.{◌≡◌, ◌∙◌, inr, subst}
+use Rattle.std.proofs.Common.{◌≡◌, ◌∙◌, inr}
 use Rattle.std.specs.Prelude.{◌⊎◌, ◌↔◌}
 use Rattle.std.specs.FinSet as set
 use Rattle.cellset.specs.CellSet.{Cells, Has}
@@ -12,7 +12,7 @@ use Rattle.maker.proofs.dead.dead_rows.Goals as goal
 -- The union of an empty set and a second set is the second set.
 added : (none more all : Cells) → none ≡ set.empty → ((q : Cell) → Has all q ↔ (Has none q ⊎ Has more q)) → all ≡ more
 added none more all empty is = same_members all more
-    (λ q h. either ((is q).0 h) (λ old. has_empty q (subst (λ (s : Cells). Has s q) empty old)) (λ new. new))
+    (λ q h. either ((is q).0 h) (λ old. has_empty q (rw empty at old)) (λ new. new))
     (λ q h. (is q).1 (inr h))
 
 pub returns-clause-exact : goal.returns-clause-exact
@@ -21,13 +21,10 @@ returns-clause-exact g c =
     let live = c.grow.new.self.members in
     let seeds = added _ _ _ c.in_ok-live.ensures.1 c.add_cells.ensures.members ∙ c.goals.ensures.members in
     let exact : (q : Cell) → Has live q ↔ Reached (PullsTo (Has level.room)) (Has level.goals) q = λ q.
-    subst (λ (s : Cells). Has live q ↔ Reached (PullsTo (Has s)) (Has level.goals) q) c.rows.ensures.members
-    (subst (λ (s : Cells). Has live q ↔ Reached (PullsTo (Has c.rows.result.now.members)) (Has s) q) seeds (c.grow.ensures.exact q)) in
+    rw (seeds, c.rows.ensures.members) at (c.grow.ensures.exact q) in
     let room = c.copy_from.ensures.members ∙ c.rows-2.ensures.members in
     let within : (q : Cell) → Has c.add_cells-2.new.rows.members q ↔ (Has level.room q ⊎ Has level.boxes q) = λ q.
-    subst (λ (s : Cells). Has c.add_cells-2.new.rows.members q ↔ (Has s q ⊎ Has level.boxes q)) room
-    (subst (λ (s : Cells). Has c.add_cells-2.new.rows.members q ↔ (Has c.copy_from.new.self.members q ⊎ Has s q)) c.boxes.ensures.members
-    (c.add_cells-2.ensures.members q)) in
+    rw (c.boxes.ensures.members, room) at (c.add_cells-2.ensures.members q) in
     λ q.
     let left = c.subtract.ensures.members q in
     let dead = dead_is level c.shape-shape.ensures.formed live exact q in (

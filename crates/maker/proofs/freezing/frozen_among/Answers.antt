@@ -13,7 +13,7 @@ overflow_mul-len g c =
     let wide = formed.sides.not_too_wide in
     let count = c.len.ensures in
     let same = ap set.len c.boxes-boxes.ensures.members in
-    omega (arith, few, area, wide, count, same)
+    omega arith
 
 pub returns-clause-exact : goal.returns-clause-exact
 returns-clause-exact g c = c.thaw.ensures.exact

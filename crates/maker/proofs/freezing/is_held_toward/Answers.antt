@@ -1,10 +1,9 @@
 -- Each return answers one case of the definition. Past the edge of the grid there is no floor and no room. A box is held ahead by a wall,
 -- a box of the set or a dead square, and behind by a cell outside the room or a box of the set. Where the result is true, `loose` has
 -- nothing to show. The last return has both tests of the cell behind, and there the prover needs no help.
-use Rattle.std.proofs.Common.{refl, sym, subst, inl, inr}
+use Rattle.std.proofs.Common.{refl, sym, inl, inr}
 use Rattle.std.proofs.lemmas.Bool.{true≢false}
 use Rattle.cellset.specs.Cell.{neighbor, opposite}
-use Rattle.cellset.specs.CellSet.{Cells, Has, Lacks}
 use Rattle.cellset.proofs.Members.{not_both, has_or_lacks}
 use Rattle.maker.specs.Frozen.{IsHeldAhead}
 use Rattle.maker.proofs.freezing.is_held_toward.Goals.{then-contains-via-then-contains, then-contains-via-else-contains+then-contains-2}
@@ -27,10 +26,10 @@ returns-then-contains-clause-held g c = λ _.
     let frozen = g.S.CellSet.members c.args.frozen.now in
     let ahead : IsHeldAhead level dead frozen (neighbor c.args.cell c.args.dir) = elim c.then-contains.branch [
       | then-contains-via-then-contains w ↦
-          let wall = subst (λ (s : Cells). Has s c.in-Some.ahead) c.walls.ensures.members (sym w.if-contains.ensures) in
-          inl (λ floor. not_both level.walls _ wall (subst (Lacks level.walls) (sym c.in-Some.ensures.1) floor.1))
-      | then-contains-via-else-contains+then-contains-2 w ↦ inr (inl (subst (Has frozen) c.in-Some.ensures.1 (sym w.if-contains-2.ensures)))
-      | then-contains-via-else-contains+else-contains-2+then-has w ↦ inr (inr (subst (Has dead) c.in-Some.ensures.1 (w.if-has.ensures.0 refl)))
+          let wall = rw c.walls.ensures.members at (sym w.if-contains.ensures) in
+          inl (λ floor. not_both level.walls _ wall (rw c.in-Some.ensures.1 floor.1))
+      | then-contains-via-else-contains+then-contains-2 w ↦ inr (inl (rw c.in-Some.ensures.1 at (sym w.if-contains-2.ensures)))
+      | then-contains-via-else-contains+else-contains-2+then-has w ↦ inr (inr (rw c.in-Some.ensures.1 at (w.if-has.ensures.0 refl)))
     ] in
     inr ahead
 

@@ -1,6 +1,4 @@
-use Rattle.std.proofs.Common.{refl, sym, subst, inl, inr, arith}
-use Rattle.cellset.specs.Cell.{neighbor}
-use Rattle.cellset.specs.CellSet.{Cells, Has}
+use Rattle.std.proofs.Common.{refl, sym, inl, inr, arith}
 use Rattle.cellset.proofs.Members.{has_remove}
 use Rattle.cellset.proofs.Truth.{either}
 use Rattle.closure.proofs.Counts.{len-remove_member}
@@ -8,13 +6,13 @@ use Rattle.maker.proofs.Thawing.{reviewed_absent, reviewed_held, reviewed_gone}
 use Rattle.maker.proofs.freezing.review.Goals as goal
 
 pub returns-then-not-contains-clause-reviewed : goal.returns-then-not-contains-clause-reviewed
-returns-then-not-contains-clause-reviewed g c = reviewed_absent c.args.board.now _ c.args.cell _ _ (sym c.if-not-contains.ensures)
+returns-then-not-contains-clause-reviewed g c = grind (arith, reviewed_absent)
 
 pub wait_around-requires-clause-room : goal.wait_around-requires-clause-room
 wait_around-requires-clause-room g c =
     let one = len-remove_member (g.S.CellSet.members c.args.frozen.now) c.args.cell (sym c.if-not-contains.ensures) in
     let room = c.requires.room in
-    omega (arith, one, room)
+    omega arith
 
 pub returns-then-not-is_held-clause-reviewed : goal.returns-then-not-is_held-clause-reviewed
 returns-then-not-is_held-clause-reviewed g c =
@@ -23,14 +21,14 @@ returns-then-not-is_held-clause-reviewed g c =
     let dead = c.args.dead.now.members in
     rw c.remove.ensures.members (reviewed_gone c.args.board.now dead c.args.cell frozen c.args.work.now.items c.wait_around.new.work.items
     (sym c.if-not-contains.ensures) loose.0 loose.1 c.wait_around.ensures.waiting
-    (λ d h. c.wait_around.ensures.around d (subst (λ (s : Cells). Has s (neighbor c.args.cell d)) (sym c.remove.ensures.members) h))
+    (λ d h. c.wait_around.ensures.around d (rw c.remove.ensures.members h))
     c.wait_around.ensures.more)
 
 pub returns-then-not-is_held-clause-listed : goal.returns-then-not-is_held-clause-listed
 returns-then-not-is_held-clause-listed g c = λ q h.
     either (c.wait_around.ensures.listed q h)
     (λ old. inl old)
-    (λ new. inr (has_remove _ _ q (subst (λ (s : Cells). Has s q) c.remove.ensures.members new)).1)
+    (λ new. inr (has_remove _ _ q (rw c.remove.ensures.members at new)).1)
 
 pub returns-else-not-is_held-clause-reviewed : goal.returns-else-not-is_held-clause-reviewed
 returns-else-not-is_held-clause-reviewed g c = reviewed_held c.args.board.now _ c.args.cell _ _ (c.if-not-is_held.ensures.held refl)

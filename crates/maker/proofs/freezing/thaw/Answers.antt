@@ -2,14 +2,14 @@
 -- be loose. Each turn takes one box from it. Either the box leaves the set and at most four others are queued, or it stays and none is. So
 -- four times the size of the set, plus the length of the list, falls: this bounds the room and the number of turns. With an empty worklist
 -- every box is held, and the set is the largest frozen one.
-use Rattle.std.proofs.Common.{◌≡◌, ℕ, ◌+◌, ◌*◌, length, List, [], ◌∷◌, ◌++◌, sym, ◌∙◌, ap, subst, arith}
+use Rattle.std.proofs.Common.{◌≡◌, ℕ, ◌+◌, ◌*◌, length, List, [], ◌∷◌, ◌++◌, sym, ◌∙◌, subst, arith}
 use Rattle.std.specs.FinSet as set
 use Rattle.std.specs.List.{Contains}
 use Rattle.std.proofs.Math.ListN.{length-append}
 use Rattle.std.proofs.lemmas.List.Elements.{Contains-append_left, Contains-push}
 use Rattle.cellset.specs.declared.cell.Cell.{Cell}
 use Rattle.cellset.proofs.Truth.{either}
-use Rattle.maker.proofs.Thawing.{IsThawing, thawing_start, thawing_more, thawing_end}
+use Rattle.maker.proofs.Thawing.{thawing_start, thawing_more, thawing_end}
 use Rattle.maker.proofs.freezing.thaw.Goals as goal
 
 pub loop-cell-init : goal.loop-cell-init
@@ -32,14 +32,10 @@ pub review-requires-clause-on : goal.review-requires-clause-on
 review-requires-clause-on g c = c.loop-cell.invariant.listed c.in-Some.cell (was_last _ _ c.in-Some.cell c.in-Some.ensures.items)
 
 taken : (n : ℕ) (rest all : List Cell) (b : Cell) → all ≡ rest ++ b ∷ [] → n + length all ≡ n + length rest + 1
-taken n rest all b e = let longer = length-append rest (b ∷ []) in let same_len = ap length e in omega (arith, longer, same_len)
+taken n rest all b e = grind (arith, length-append)
 
 pub review-requires-clause-room : goal.review-requires-clause-room
-review-requires-clause-room g c =
-    let room = c.loop-cell.invariant.room in
-    let weight = 4 * set.len (g.S.CellSet.members c.loop-cell.frozen) in
-    let all = taken weight c.pop.new.self.items c.loop-cell.work.items c.in-Some.cell c.in-Some.ensures.items in
-    rw c.pop.ensures.capacity (omega (arith, room, all))
+review-requires-clause-room g c = grind (arith, taken)
 
 pub loop-cell-preserved : goal.loop-cell-preserved
 loop-cell-preserved g c =
@@ -47,17 +43,17 @@ loop-cell-preserved g c =
     let level = c.args.board.now in
     let dead = c.args.dead.now.members in
     let cell = c.in-Some.cell in
-    let before = subst (λ (w : List Cell). IsThawing level dead (g.S.CellSet.members l.frozen) w) c.in-Some.ensures.items l.invariant.thawing in
+    let before = rw c.in-Some.ensures.items at l.invariant.thawing in
     let room = c.loop-cell.invariant.room in
     let weight = 4 * set.len (g.S.CellSet.members c.loop-cell.frozen) in
     let all = taken weight c.pop.new.self.items c.loop-cell.work.items c.in-Some.cell c.in-Some.ensures.items in
     let less = c.review.ensures.reviewed.less in
     record {
       extent = c.review.ensures.extent;
-      room = rw (c.review.ensures.capacity, c.pop.ensures.capacity) (omega (arith, room, all, less));
+      room = rw (c.review.ensures.capacity, c.pop.ensures.capacity) (omega arith);
       listed = λ q h. either (c.review.ensures.listed q h)
           (λ old.
-          let was = subst (λ (w : List Cell). Contains w q) (sym c.in-Some.ensures.items) (Contains-append_left c.pop.new.self.items (cell ∷ []) q old) in
+          let was = rw (← c.in-Some.ensures.items) at (Contains-append_left c.pop.new.self.items (cell ∷ []) q old) in
           l.invariant.listed q was)
           (λ has. (c.requires.formed.boxes q (c.loop-cell.invariant.thawing.boxes q has)).0);
       thawing = thawing_more level c.requires.formed dead cell _ _ _ _ (l.invariant.listed cell (was_last _ _ cell c.in-Some.ensures.items)) before
@@ -65,11 +61,7 @@ loop-cell-preserved g c =
     }
 
 pub loop-cell-smaller : goal.loop-cell-smaller
-loop-cell-smaller g c =
-    let weight = 4 * set.len (g.S.CellSet.members c.loop-cell.frozen) in
-    let all = taken weight c.pop.new.self.items c.loop-cell.work.items c.in-Some.cell c.in-Some.ensures.items in
-    let less = c.review.ensures.reviewed.less in
-    omega (arith, all, less)
+loop-cell-smaller g c = grind (arith, taken)
 
 pub returns-clause-exact : goal.returns-clause-exact
 returns-clause-exact g c =

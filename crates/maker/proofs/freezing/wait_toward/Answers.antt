@@ -1,11 +1,8 @@
 -- There are three ways out. A cell past the edge is in no set, because the members lie on the grid. A neighbour that isn't in the set
 -- changes nothing. A neighbour in the set goes to the end of the worklist, for which there is room, and what was queued stays.
-use Rattle.std.proofs.Common.{List, [], ◌∷◌, ◌++◌, length, sym, ◌∙◌, ap, subst, inl, inr, arith}
-use Rattle.std.specs.List.{Contains}
+use Rattle.std.proofs.Common.{[], ◌∷◌, sym, ◌∙◌, inl, inr, arith}
 use Rattle.std.proofs.lemmas.List.Elements.{Contains-append_left, Contains-push, Contains-push_cases}
 use Rattle.std.proofs.lemmas.List.{length_push}
-use Rattle.cellset.specs.CellSet.{Has}
-use Rattle.cellset.specs.declared.cell.Cell.{Cell}
 use Rattle.cellset.proofs.Members.{not_both}
 use Rattle.cellset.proofs.Truth.{either}
 use Rattle.maker.proofs.freezing.wait_toward.Goals as goal
@@ -18,17 +15,15 @@ returns-else-contains-clause-listed g c = λ q h. inl h
 
 pub returns-then-contains-clause-listed : goal.returns-then-contains-clause-listed
 returns-then-contains-clause-listed g c = λ q h.
-    either (Contains-push_cases c.args.work.now.items c.in-Some.next q (subst (λ (xs : List Cell). Contains xs q) c.push_reserved.ensures.items h))
+    either (Contains-push_cases c.args.work.now.items c.in-Some.next q (rw c.push_reserved.ensures.items at h))
     (λ old. inl old)
-    (λ here. inr (subst (Has (g.S.CellSet.members c.args.frozen.now)) here (sym c.contains.ensures ∙ c.if-contains.true)))
+    (λ here. inr (rw here at (sym c.contains.ensures ∙ c.if-contains.true)))
 
 pub returns-in_default-clause-here : goal.returns-in_default-clause-here
-returns-in_default-clause-here g c = λ has. absurd (c.in_default.ensures (rw c.shape.ensures.value (c.shape.ensures.on _ has)))
+returns-in_default-clause-here g c = grind arith
 
 pub returns-else-contains-clause-here : goal.returns-else-contains-clause-here
-returns-else-contains-clause-here g c = λ has.
-    let frozen = g.S.CellSet.members c.args.frozen.now in
-    not_both frozen c.in-Some.next (subst (Has frozen) (sym c.in-Some.ensures.1) has) (sym c.contains.ensures ∙ c.if-contains.false)
+returns-else-contains-clause-here g c = grind (arith, not_both)
 
 pub returns-in_default-clause-waiting : goal.returns-in_default-clause-waiting
 returns-in_default-clause-waiting g c = λ q h. h
@@ -39,10 +34,7 @@ returns-then-contains-clause-waiting g c = λ q h. rw c.push_reserved.ensures.it
 pub returns-then-contains-clause-here : goal.returns-then-contains-clause-here
 returns-then-contains-clause-here g c = λ _.
     let work = c.args.work.now.items in
-    rw c.push_reserved.ensures.items (subst (Contains (work ++ c.in-Some.next ∷ [])) c.in-Some.ensures.1 (Contains-push work c.in-Some.next))
+    rw (c.push_reserved.ensures.items, ← c.in-Some.ensures.1) (Contains-push work c.in-Some.next)
 
 pub returns-then-contains-clause-more : goal.returns-then-contains-clause-more
-returns-then-contains-clause-more g c =
-    let longer = length_push c.args.work.now.items c.in-Some.next in
-    let size = ap length c.push_reserved.ensures.items in
-    omega (arith, longer, size)
+returns-then-contains-clause-more g c = grind (arith, length_push)

@@ -1,6 +1,4 @@
-use Rattle.std.proofs.Common.{refl, sym, subst}
-use Rattle.cellset.specs.Shape.{Extent}
-use Rattle.cellset.specs.Cell.{IsOn}
+use Rattle.std.proofs.Common.{refl}
 use Rattle.maker.specs.Made.{lone_patterns}
 use Rattle.maker.proofs.Accepting.{dead_lists_closed}
 use Rattle.maker.proofs.Living.{dead_on}
@@ -11,7 +9,7 @@ pub coords_in-requires : goal.coords_in-requires
 coords_in-requires g c = record {
   on = λ q has.
       let on = dead_on c.args.board.now c.shape-shape.ensures.formed q ((c.in_ok-dead.ensures.exact q).0 has) in
-      subst (λ (e : Extent). IsOn e q) (sym c.in_ok-dead.ensures.extent) on;
+      rw c.in_ok-dead.ensures.extent on;
 }
 
 pub returns-then-meets-clause-some : goal.returns-then-meets-clause-some

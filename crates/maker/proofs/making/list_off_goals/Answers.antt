@@ -1,10 +1,8 @@
 -- If each frozen box is on a goal, the level has no list. Otherwise its list has a pattern for each dead square and one for the frozen boxes.
 -- These are lawful, because dead squares and frozen boxes are on the grid.
-use Rattle.std.proofs.Common.{◌∷◌, [], ◌∙◌, length, refl, sym, ap, subst, arith, inr}
+use Rattle.std.proofs.Common.{◌∷◌, [], ◌∙◌, refl, sym, ap, arith, inr}
 use Rattle.std.specs.Prelude.{map}
 use Rattle.std.proofs.lemmas.List.{map-append}
-use Rattle.cellset.specs.Shape.{Extent}
-use Rattle.cellset.specs.Cell.{IsOn}
 use Rattle.answers.specs.Grammar.{said_pattern}
 use Rattle.maker.specs.Made.{lone_patterns}
 use Rattle.maker.proofs.Living.{dead_on}
@@ -18,17 +16,10 @@ returns-then-is_subset-clause-list g c =
     (members c.args.held.now) c.requires.largest (members c.goals.result.now) c.goals.ensures.members (sym c.is_subset.ensures ∙ c.if-is_subset.true)
 
 pub coords_in-requires : goal.coords_in-requires
-coords_in-requires g c = record {
-  on = λ q has.
-      let on = dead_on c.args.board.now c.shape-shape.ensures.formed q ((c.requires.exact q).0 has) in
-      subst (λ (e : Extent). IsOn e q) (sym c.requires.extents.0) on;
-}
+coords_in-requires g c = grind (arith, dead_on)
 
 pub overflow_add-len : goal.overflow_add-len
-overflow_add-len g c =
-    let few = dead_few c.args.board.now c.shape-shape.ensures.formed c.args.dead.now.members c.requires.exact in
-    let count = c.len.ensures in
-    omega (arith, few, count)
+overflow_add-len g c = grind (arith, dead_few)
 
 pub returns-clause-list : goal.returns-clause-list
 returns-clause-list g c =
@@ -42,11 +33,4 @@ returns-clause-list g c =
     (map said_pattern c.push_reserved.new.self.items) (ap (map said_pattern) c.push_reserved.ensures.items ∙ map-append said_pattern patterns (last ∷ [])))
 
 pub returns-clause-lawful : goal.returns-clause-lawful
-returns-clause-lawful g c =
-    let members = g.S.CellSet.members in
-    frozen_lawful_lines c.args.board.now c.shape-shape.ensures.formed c.args.dead.now.members c.requires.exact
-    (members c.args.held.now) c.requires.largest (members c.goals.result.now) (sym c.is_subset.ensures ∙ c.if-is_subset.false)
-    c.in_ok-patterns.patterns.items
-    (c.in_ok-cells.cells.items, c.in_ok-cells.ensures.list, c.in_ok-patterns.ensures.list ∙ ap lone_patterns c.deref.ensures.value)
-    (c.in_ok-patterns.ensures.count ∙ (ap length c.deref.ensures.value ∙ c.in_ok-cells.ensures.count))
-    c.in_ok-whole_pattern.field-0 c.in_ok-whole_pattern.ensures c.push_reserved.new.self.items c.push_reserved.ensures.items
+returns-clause-lawful g c = grind (arith, frozen_lawful_lines)

@@ -2,11 +2,6 @@
 -- there are none, and the table matches nothing. If `match_box` succeeds, the invariant holds with the next box. If it fails, its Hall
 -- violator is the least zone, because the next box is the first one that can't be matched. After the last box all boxes are matched, and
 -- then no closed set refutes the level.
-use Rattle.std.proofs.Common.{List, ◌++◌, sym, subst}
-use Rattle.cellset.specs.Shape.{Extent}
-use Rattle.cellset.specs.CellSet.{Cells}
-use Rattle.cellset.specs.Members.{AreMembersOf}
-use Rattle.cellset.specs.declared.cell.Cell.{Cell}
 use Rattle.cellset.proofs.MemberLists.{next_has, next_came}
 use Rattle.maker.proofs.Matchings.{matched_none, matched_more, matched_end, violator_here, pairs_none}
 use Rattle.maker.proofs.zones.match_all.Goals as goal
@@ -17,10 +12,7 @@ loop-cell-init g c =
     record {
       can_next = tt;
       is_finite = tt;
-      all = subst (AreMembersOf level.shape level.boxes) (sym c.into_iter-cell-iterator.ensures.into_iter_gives)
-          (subst (λ (e : Extent). AreMembersOf e level.boxes c.new-cell-items.result) c.boxes.ensures.extent
-          (subst (λ (s : Cells). AreMembersOf (g.S.CellSet.extent c.boxes.result.now) s c.new-cell-items.result) c.boxes.ensures.members
-          c.new-cell-items.ensures));
+      all = rw c.into_iter-cell-iterator.ensures.into_iter_gives (rw (c.boxes.ensures.members, c.boxes.ensures.extent) at c.new-cell-items.ensures);
       ready = c.requires.ready;
       entries = c.requires.entries;
       relay = c.requires.relay;
@@ -31,7 +23,7 @@ pub match_box-requires : goal.match_box-requires
 match_box-requires g c =
     let level = c.args.board.now in
     let inv = c.loop-cell.invariant in
-    let whole = subst (λ (left : List Cell). AreMembersOf level.shape level.boxes (c.loop-cell.yielded ++ left)) c.in-Some.ensures.steps inv.all in
+    let whole = rw c.in-Some.ensures.steps at inv.all in
     record {
       ready = inv.ready;
       entries = inv.entries;
@@ -43,16 +35,14 @@ match_box-requires g c =
 pub returns-then-not-match_box-clause-exact : goal.returns-then-not-match_box-clause-exact
 returns-then-not-match_box-clause-exact g c =
     let level = c.args.board.now in
-    let whole = subst (λ (left : List Cell). AreMembersOf level.shape level.boxes (c.loop-cell.yielded ++ left)) c.in-Some.ensures.steps
-    c.loop-cell.invariant.all in
+    let whole = rw c.in-Some.ensures.steps at c.loop-cell.invariant.all in
     violator_here level c.loop-cell.yielded c.next.new.self c.in-Some.cell c.loop-cell.matching whole c.loop-cell.invariant.so_far
     (g.S.CellSet.members c.match_box.new.search.visited) c.if-not-match_box.ensures.exact
 
 pub loop-cell-preserved : goal.loop-cell-preserved
 loop-cell-preserved g c =
     let level = c.args.board.now in
-    let whole = subst (λ (left : List Cell). AreMembersOf level.shape level.boxes (c.loop-cell.yielded ++ left)) c.in-Some.ensures.steps
-    c.loop-cell.invariant.all in
+    let whole = rw c.in-Some.ensures.steps at c.loop-cell.invariant.all in
     record {
       can_next = tt;
       is_finite = tt;
@@ -67,6 +57,4 @@ loop-cell-preserved g c =
 pub returns-clause-exact : goal.returns-clause-exact
 returns-clause-exact g c =
     let level = c.args.board.now in
-    matched_end level c.loop-cell.matching c.loop-cell.yielded
-    (subst (λ (left : List Cell). AreMembersOf level.shape level.boxes (c.loop-cell.yielded ++ left)) c.in-None.ensures.steps.0 c.loop-cell.invariant.all)
-    c.loop-cell.invariant.so_far
+    matched_end level c.loop-cell.matching c.loop-cell.yielded (rw c.in-None.ensures.steps.0 at c.loop-cell.invariant.all) c.loop-cell.invariant.so_far

@@ -1,8 +1,4 @@
-use Rattle.std.proofs.Common.{◌≡◌, refl, subst}
-use Rattle.std.specs.Prelude.{None, slice_index_or}
-use Rattle.cellset.specs.Shape.{Extent}
-use Rattle.cellset.specs.CellSet.{Cells, Has}
-use Rattle.cellset.specs.SortedList.{index}
+use Rattle.std.proofs.Common.{refl}
 use Rattle.cellset.specs.Cell.{IsNextCell}
 use Rattle.cellset.proofs.ReadingOrder.{left_falls}
 use Rattle.maker.proofs.zones.relay.next_free.Goals as goal
@@ -29,8 +25,8 @@ returns-then-is_free_in g c =
     let level = c.args.board.now in
     let goal = c.in_ok-goal.goal in
     let (here, unmatched) = c.if-is_free_in.ensures refl in
-    let entry = subst (λ (shape : Extent). slice_index_or c.args.matching.now (index shape goal) None ≡ None) c.shape-shape.ensures.value unmatched in
-    let is_goal = subst (λ (s : Cells). Has s goal) c.goals.ensures.members c.in_ok-goal.ensures.first.0 in
+    let entry = rw c.shape-shape.ensures.value at unmatched in
+    let is_goal = rw c.goals.ensures.members at c.in_ok-goal.ensures.first.0 in
     (here, record { on = rw c.goals.ensures.extent at c.in_ok-goal.ensures.on; goal = is_goal; unmatched = entry })
 
 pub is_free_in-requires : goal.is_free_in-requires

@@ -1,6 +1,6 @@
 use Rattle.std.proofs.Common.{sym, ◌∙◌, ap, subst}
 use Rattle.cellset.specs.Cell.{neighbor}
-use Rattle.cellset.specs.CellSet.{Cells, Has, Lacks}
+use Rattle.cellset.specs.CellSet.{Has}
 use Rattle.cellset.proofs.Members.{not_both}
 use Rattle.maker.proofs.zones.search.push_target.Goals.{else-contains-2-via-then-contains-2+else-not-contains, else-contains-2-via-else-contains-2}
 use Rattle.maker.proofs.zones.search.push_target.Goals as goal
@@ -20,18 +20,15 @@ returns-else-contains-2 g c = λ push.
     let level = c.args.board.now in
     let behind = c.in_ok-behind.ensures.1 ∙ ap (neighbor c.args.cell) c.opposite.ensures in
     elim c.else-contains-2.branch [
-      | else-contains-2-via-then-contains-2+else-not-contains w ↦ not_both level.walls _
-          (subst (λ (s : Cells). Has s c.in_ok-ahead.ahead) w.walls.ensures.members (sym w.if-not-contains.ensures))
-          (subst (Lacks level.walls) (sym c.in_ok-ahead.ensures.1) push.floor.1)
-      | else-contains-2-via-else-contains-2 w ↦ not_both level.room _ (subst (Has level.room) (sym behind) push.player)
-          (subst (λ (s : Cells). Lacks s c.in_ok-behind.behind) c.room.ensures.members (sym w.if-contains-2.ensures))
+      | else-contains-2-via-then-contains-2+else-not-contains w ↦ not_both level.walls _ (rw w.walls.ensures.members at (sym w.if-not-contains.ensures))
+          (rw c.in_ok-ahead.ensures.1 push.floor.1)
+      | else-contains-2-via-else-contains-2 w ↦ not_both level.room _ (rw behind push.player) (rw c.room.ensures.members at (sym w.if-contains-2.ensures))
     ]
 
 pub returns-then-not-contains : goal.returns-then-not-contains
 returns-then-not-contains g c =
     let level = c.args.board.now in
     let behind = c.in_ok-behind.ensures.1 ∙ ap (neighbor c.args.cell) c.opposite.ensures in
-    let room = subst (Has level.room) behind (subst (λ (s : Cells). Has s c.in_ok-behind.behind) c.room.ensures.members (sym c.if-contains-2.ensures)) in
-    let free = subst (Lacks level.walls) c.in_ok-ahead.ensures.1
-    (subst (λ (s : Cells). Lacks s c.in_ok-ahead.ahead) c.walls.ensures.members (sym c.if-not-contains.ensures)) in
+    let room = rw (c.room.ensures.members, behind) at (sym c.if-contains-2.ensures) in
+    let free = rw (c.walls.ensures.members, c.in_ok-ahead.ensures.1) at (sym c.if-not-contains.ensures) in
     (c.in_ok-ahead.ensures.1, record { player = room; floor = (rw c.shape.ensures.value at c.in_ok-ahead.ensures.0, free) })

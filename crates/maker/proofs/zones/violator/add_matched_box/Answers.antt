@@ -1,11 +1,9 @@
 -- If the goal isn't visited, or no box is matched to it, the set stays the same. Otherwise the table matches the goal to a box, which is
 -- on floor, and the search visits that box once it visits the goal. If the box was visited already, the set stays the same, and it has
 -- the box. Otherwise the set gets one member more.
-use Rattle.std.proofs.Common.{refl, sym, ◌∙◌, ap, subst, arith}
-use Rattle.std.specs.FinSet as set
+use Rattle.std.proofs.Common.{refl, sym, ◌∙◌, ap, arith}
 use Rattle.std.proofs.lemmas.Bool.{false≢true, not-true, not-false}
 use Rattle.cellset.specs.Shape.{Extent}
-use Rattle.cellset.specs.CellSet.{Cells, Has}
 use Rattle.cellset.specs.SortedList.{index}
 use Rattle.cellset.proofs.Members.{not_both, kept_by_insert, insert_again}
 use Rattle.closure.proofs.Counts.{len-insert_new, len-within}
@@ -15,11 +13,7 @@ use Rattle.maker.proofs.Violators.{searched_matched}
 use Rattle.maker.proofs.zones.violator.add_matched_box.Goals as goal
 
 pub insert-requires : goal.insert-requires
-insert-requires g c =
-    let level = c.args.board.now in
-    let pair = pairs_read level.shape c.args.matching.now c.args.goal c.in-Some.matched_box c.index_of.result c.requires.on
-    (c.index_of.ensures.value ∙ ap (λ (x : Extent). index x c.args.goal) c.shape.ensures.value) c.in-Some.is in
-    rw c.requires.visited (c.requires.matching c.args.goal c.in-Some.matched_box pair).0
+insert-requires g c = grind (arith, pairs_read)
 
 pub returns-clause-searched : goal.returns-clause-searched
 returns-clause-searched g c = λ start searched.
@@ -31,27 +25,16 @@ returns-clause-searched g c = λ start searched.
     (sym c.contains.ensures ∙ c.if-not-contains.false) pair (c.requires.matching c.args.goal c.in-Some.matched_box pair) searched
 
 pub returns-clause-kept : goal.returns-clause-kept
-returns-clause-kept g c =
-    len-within (g.S.CellSet.members c.args.visited.now) (g.S.CellSet.members c.insert.new.self)
-    (λ q h. subst (λ (x : Cells). Has x q) (sym c.insert.ensures.members) (kept_by_insert (g.S.CellSet.members c.args.visited.now) c.in-Some.matched_box q h))
+returns-clause-kept g c = grind (arith, len-within, kept_by_insert)
 
 pub returns-clause-more : goal.returns-clause-more
-returns-clause-more g c = λ e.
-    let one = len-insert_new (g.S.CellSet.members c.args.visited.now) c.in-Some.matched_box (not-true _ (sym c.insert.ensures.was_new ∙ e)) in
-    let is = ap set.len c.insert.ensures.members in
-    omega (arith, one, is)
+returns-clause-more g c = grind (arith, len-insert_new, not-true)
 
 pub returns-clause-same : goal.returns-clause-same
-returns-clause-same g c = λ e. c.insert.ensures.members
-    ∙ insert_again (g.S.CellSet.members c.args.visited.now) c.in-Some.matched_box (not-false _ (sym c.insert.ensures.was_new ∙ e))
+returns-clause-same g c = grind (arith, insert_again, not-false)
 
 pub returns-clause-matched_box : goal.returns-clause-matched_box
-returns-clause-matched_box g c = λ e _ b pair.
-    let level = c.args.board.now in
-    let mine = pairs_read level.shape c.args.matching.now c.args.goal c.in-Some.matched_box c.index_of.result c.requires.on
-    (c.index_of.ensures.value ∙ ap (λ (x : Extent). index x c.args.goal) c.shape.ensures.value) c.in-Some.is in
-    subst (Has (g.S.CellSet.members c.args.visited.now)) (one_match level.shape c.args.matching.now c.args.goal c.in-Some.matched_box b mine pair)
-    (not-false _ (sym c.insert.ensures.was_new ∙ e))
+returns-clause-matched_box g c = grind (arith, pairs_read, one_match, not-false)
 
 pub returns-then-not-contains-clause-searched : goal.returns-then-not-contains-clause-searched
 returns-then-not-contains-clause-searched g c = λ start h. h
@@ -66,7 +49,7 @@ pub returns-then-not-contains-clause-same : goal.returns-then-not-contains-claus
 returns-then-not-contains-clause-same g c = λ _. refl
 
 pub returns-then-not-contains-clause-matched_box : goal.returns-then-not-contains-clause-matched_box
-returns-then-not-contains-clause-matched_box g c = λ _ has. not_both (g.S.CellSet.members c.args.visited.now) c.args.goal has (sym c.if-not-contains.ensures)
+returns-then-not-contains-clause-matched_box g c = grind (arith, not_both)
 
 pub returns-in_default-clause-searched : goal.returns-in_default-clause-searched
 returns-in_default-clause-searched g c = λ start h. h

@@ -1,13 +1,13 @@
 -- The invariant says that a search from the box visits all these cells, and that no push within the room leads out of them. Both hold
 -- after the flood from the box alone, and again after matched boxes were added and the flood was repeated. If no matched box was new,
 -- the cells hold the boxes matched to all of their goals. If besides none of their goals is free, they are a Hall violator.
-use Rattle.std.proofs.Common.{sym, ◌∙◌, ap, subst}
+use Rattle.std.proofs.Common.{◌∙◌, ap}
 use Rattle.std.specs.Prelude.{◌↔◌}
-use Rattle.cellset.specs.CellSet.{Cells, CellsOn, Has}
+use Rattle.cellset.specs.CellSet.{CellsOn, Has}
 use Rattle.cellset.specs.declared.cell.Cell.{Cell}
 use Rattle.cellset.proofs.Truth.{not_true}
 use Rattle.reach.specs.Reached.{Reached, PushesTo}
-use Rattle.maker.proofs.Violators.{IsSettled, searched_first, searched_spread, searched_violator, reached_settled}
+use Rattle.maker.proofs.Violators.{searched_first, searched_spread, searched_violator, reached_settled}
 use Rattle.maker.proofs.Relays.{same_relay, same_twice}
 use Rattle.maker.proofs.zones.violator.finds_violator.Goals as goal
 
@@ -40,7 +40,7 @@ loop-preserved g c =
     let to = members c.spread.new.cells in
     let room = ap (λ (r : CellsOn). r.members) c.loop.invariant.same.room ∙ c.requires.relay.room.1 in
     let exact : (q : Cell) → Has to q ↔ Reached (PushesTo (Has level.room)) (Has from) q =
-    subst (λ (x : Cells). (q : Cell) → Has to q ↔ Reached (PushesTo (Has x)) (Has from) q) room c.spread.ensures.exact in
+    rw room at c.spread.ensures.exact in
     record {
       extent = c.spread.ensures.extent ∙ c.add_matched_boxes.ensures.extent;
       same = same_twice _ _ _ c.loop.invariant.same c.spread.ensures.same;
@@ -56,9 +56,7 @@ returns-then-not-add_matched_boxes-clause-violator g c = λ e.
     let same = c.add_matched_boxes.ensures.same c.if-not-add_matched_boxes.true in
     let (matched, valid) = c.requires.valid in
     searched_violator level c.shape-shape.ensures.formed c.args.matching.now c.args.start (members c.add_matched_boxes.new.visited)
-    (c.add_matched_boxes.ensures.searched c.args.start c.loop.invariant.searched)
-    (subst (λ (x : Cells). IsSettled (Has level.room) (Has x)) (sym same) c.loop.invariant.settled)
+    (c.add_matched_boxes.ensures.searched c.args.start c.loop.invariant.searched) (rw same c.loop.invariant.settled)
     (λ q b pair. valid.pairs.goal q b pair)
-    (λ q b is_goal has pair. subst (λ (x : Cells). Has x b) (sym same)
-    (c.add_matched_boxes.ensures.matching c.if-not-add_matched_boxes.true q b is_goal (subst (λ (x : Cells). Has x q) same has) pair))
+    (λ q b is_goal has pair. rw same (c.add_matched_boxes.ensures.matching c.if-not-add_matched_boxes.true q b is_goal (rw same at has) pair))
     (c.holds_free_goal.ensures (not_true _ e))

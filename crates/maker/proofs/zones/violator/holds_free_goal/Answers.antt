@@ -1,38 +1,29 @@
-use Rattle.std.proofs.Common.{List, ◌++◌, sym, subst}
 use Rattle.std.proofs.lemmas.List.Elements.{Contains-push_cases}
-use Rattle.cellset.specs.CellSet.{Has}
-use Rattle.cellset.specs.Members.{AreMembersOf}
-use Rattle.cellset.specs.declared.cell.Cell.{Cell}
 use Rattle.cellset.proofs.MemberLists.{next_has, next_came, all_came}
 use Rattle.cellset.proofs.Truth.{either}
-use Rattle.maker.specs.Search.{Pairs}
 use Rattle.maker.proofs.zones.violator.holds_free_goal.Goals as goal
 
 pub holds_free-requires-clause-on : goal.holds_free-requires-clause-on
 holds_free-requires-clause-on g c =
     let level = c.args.board.now in
-    let whole = subst (λ (left : List Cell). AreMembersOf level.shape level.goals (c.loop-goal.yielded ++ left)) c.in-Some.ensures.steps
-    c.loop-goal.invariant.all in
+    let whole = rw c.in-Some.ensures.steps at c.loop-goal.invariant.all in
     (next_has c.loop-goal.yielded c.next.new.self c.in-Some.goal whole).1
 
 pub loop-goal-preserved : goal.loop-goal-preserved
 loop-goal-preserved g c =
     let level = c.args.board.now in
-    let whole = subst (λ (left : List Cell). AreMembersOf level.shape level.goals (c.loop-goal.yielded ++ left)) c.in-Some.ensures.steps
-    c.loop-goal.invariant.all in
+    let whole = rw c.in-Some.ensures.steps at c.loop-goal.invariant.all in
     record {
       can_next = tt;
       is_finite = tt;
       all = next_came c.loop-goal.yielded c.next.new.self c.in-Some.goal whole;
       paired = λ q came has. either (Contains-push_cases c.loop-goal.yielded c.in-Some.goal q came)
           (λ old. c.loop-goal.invariant.paired q old has)
-          (λ is. subst (λ (x : Cell). (b : Cell) × Pairs level.shape c.args.matching.now x b) is
-          (c.holds_free.ensures c.if-holds_free.false (subst (Has (g.S.CellSet.members c.args.visited.now)) (sym is) has)));
+          (λ is. rw is at (c.holds_free.ensures c.if-holds_free.false (rw is has)));
     }
 
 pub returns : goal.returns
 returns g c = λ _ q has is_goal.
     let level = c.args.board.now in
-    let all = all_came level.shape level.goals c.loop-goal.yielded
-    (subst (λ (left : List Cell). AreMembersOf level.shape level.goals (c.loop-goal.yielded ++ left)) c.in-None.ensures.steps.0 c.loop-goal.invariant.all) in
+    let all = all_came level.shape level.goals c.loop-goal.yielded (rw c.in-None.ensures.steps.0 at c.loop-goal.invariant.all) in
     c.loop-goal.invariant.paired q ((all.exact q).1 is_goal) has

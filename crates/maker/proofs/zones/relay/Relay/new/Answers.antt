@@ -1,5 +1,4 @@
-use Rattle.std.proofs.Common.{◌∙◌, subst}
-use Rattle.cellset.specs.CellSet.{Cells, Has}
+use Rattle.std.proofs.Common.{◌∙◌}
 use Rattle.cellset.proofs.Members.{has_empty}
 use Rattle.maker.proofs.zones.relay.Relay.new.Goals as goal
 
@@ -9,6 +8,6 @@ returns g c = record {
   sources_on = c.in_ok-sources.ensures.0 ∙ c.shape-shape.ensures.value;
   targets_on = c.in_ok-targets.ensures.0 ∙ c.shape-shape.ensures.value;
   reach_on = c.requires;
-  linked = λ b q h _. absurd (has_empty b (subst (λ (s : Cells). Has s b) c.in_ok-sources.ensures.1 h));
+  linked = λ b q h _. absurd (has_empty b (rw c.in_ok-sources.ensures.1 at h));
   free_on = tt;
 }

@@ -1,7 +1,6 @@
-use Rattle.std.proofs.Common.{sym, subst, inr}
-use Rattle.cellset.specs.CellSet.{Cells, Has}
+use Rattle.std.proofs.Common.{inr}
 use Rattle.cellset.proofs.Truth.{either}
-use Rattle.reach.specs.Reached.{Reached, at_seed, PushesTo}
+use Rattle.reach.specs.Reached.{at_seed}
 use Rattle.reach.proofs.Sets.{has_union}
 use Rattle.maker.proofs.zones.relay.Relay.spread.Goals as goal
 
@@ -12,6 +11,6 @@ returns-clause-exact g c = λ q.
     let grown = c.grow.ensures.exact q in
     let stored = has_union cells c.grow.new.self.members (g.S.CellSet.members c.store.new.into) c.store.ensures.members q in (
       (λ h. either (stored.0 h) (λ old. at_seed old)
-          (λ new. subst (λ (s : Cells). Reached (PushesTo (Has room)) (Has s) q) c.load.ensures.members (grown.0 new))),
-      (λ r. stored.1 (inr (grown.1 (subst (λ (s : Cells). Reached (PushesTo (Has room)) (Has s) q) (sym c.load.ensures.members) r)))),
+          (λ new. rw c.load.ensures.members at (grown.0 new))),
+      (λ r. stored.1 (inr (grown.1 (rw c.load.ensures.members r)))),
     )

@@ -1,11 +1,11 @@
 -- The visit lies on the grid, because the visited cells are floor, so its index is within the table. If no goal is there, nothing has to
 -- be queued. If the entry is None, the goal is free. If the entry is a box, the table matches the goal to that box, which is on floor.
 -- So the search stays one if the box is queued, with the visit at the goal as the last goal on its path.
-use Rattle.std.proofs.Common.{◌≡◌, ℕ, List, get_or, sym, ◌∙◌, ap, subst}
+use Rattle.std.proofs.Common.{◌≡◌, ℕ, List, get_or, sym, ◌∙◌, ap}
 use Rattle.std.specs.Prelude.{Option, None}
 use Rattle.cellset.specs.Shape.{Extent}
 use Rattle.cellset.specs.Cell.{IsOn}
-use Rattle.cellset.specs.CellSet.{Cells, Has, Lacks}
+use Rattle.cellset.specs.CellSet.{Has}
 use Rattle.cellset.specs.SortedList.{index}
 use Rattle.cellset.specs.declared.cell.Cell.{Cell}
 use Rattle.cellset.proofs.Members.{not_both}
@@ -21,7 +21,7 @@ free_visited : (level : Level) (s : Extent) (matching : List (Option Cell)) (que
     → Has level.goals v.cell → get_or matching i None ≡ None → IsFreeGoal level matching (cell_visited queue at)
 free_visited level s matching queue at v i is_v is_s is_i on goal none = record {
   on = on;
-  goal = subst (λ (x : Visit). Has level.goals x.cell) is_v goal;
+  goal = rw is_v at goal;
   unmatched = sym (ap (λ (k : ℕ). get_or matching k None)
       (is_i ∙ (ap (λ (x : Extent). index x v.cell) is_s ∙ ap (λ (x : Visit). index level.shape x.cell) is_v))) ∙ none;
 }
@@ -44,8 +44,7 @@ enqueue-requires-clause-on g c =
     let (start, is_search) = c.requires.search in
     let is_v = read_visit queue c.args.at c.index.result.now c.requires.at c.index.ensures in
     let pair = pairs_visited c.args.board.now.shape c.shape.result c.args.matching.now queue c.args.at c.index.result.now c.index_of.result
-    c.in-Some.matched_box is_v c.shape.ensures.value c.index_of.ensures.value
-    (is_search.floor _ (is_search.listed c.args.at c.requires.at)).0 c.in-Some.is in
+    c.in-Some.matched_box is_v c.shape.ensures.value c.index_of.ensures.value (is_search.floor _ (is_search.listed c.args.at c.requires.at)).0 c.in-Some.is in
     rw c.requires.ready.grid ((c.requires.matching (cell_visited queue c.args.at) c.in-Some.matched_box pair).0)
 
 pub enqueue-requires-clause-visited : goal.enqueue-requires-clause-visited
@@ -68,8 +67,8 @@ returns-then-not-contains-clause-exact g c = λ goal_here.
     let queue = c.args.self.now.queue.items in
     let v = c.index.result.now in
     let is_v = read_visit queue c.args.at v c.requires.at c.index.ensures in
-    let lacks = subst (λ (s : Cells). Lacks s v.cell) c.goals.ensures.members (sym c.contains.ensures ∙ c.if-not-contains.true) in
-    absurd (not_both c.args.board.now.goals (cell_visited queue c.args.at) goal_here (subst (λ (x : Visit). Lacks c.args.board.now.goals x.cell) is_v lacks))
+    let lacks = rw c.goals.ensures.members at (sym c.contains.ensures ∙ c.if-not-contains.true) in
+    absurd (not_both c.args.board.now.goals (cell_visited queue c.args.at) goal_here (rw is_v at lacks))
 
 pub returns-in_default-clause-exact : goal.returns-in_default-clause-exact
 returns-in_default-clause-exact g c =
@@ -79,7 +78,7 @@ returns-in_default-clause-exact g c =
     let is_v = read_visit queue c.args.at v c.requires.at c.index.ensures in
     free_visited c.args.board.now c.shape.result c.args.matching.now queue c.args.at v c.index_of.result is_v c.shape.ensures.value c.index_of.ensures.value
     ((is_search.floor _ (is_search.listed c.args.at c.requires.at)).0)
-    (subst (λ (s : Cells). Has s v.cell) c.goals.ensures.members (sym c.contains.ensures ∙ c.if-not-contains.false)) c.in_default.is
+    (rw c.goals.ensures.members at (sym c.contains.ensures ∙ c.if-not-contains.false)) c.in_default.is
 
 pub returns-clause-further : goal.returns-clause-further
 returns-clause-further g c = queued_further c.args.board.now _ _ _ _ _ c.enqueue.ensures.queued
@@ -89,8 +88,7 @@ returns-clause-search g c = λ start is_search.
     let queue = c.args.self.now.queue.items in
     let is_v = read_visit queue c.args.at c.index.result.now c.requires.at c.index.ensures in
     let pair = pairs_visited c.args.board.now.shape c.shape.result c.args.matching.now queue c.args.at c.index.result.now c.index_of.result
-    c.in-Some.matched_box is_v c.shape.ensures.value c.index_of.ensures.value
-    (is_search.floor _ (is_search.listed c.args.at c.requires.at)).0 c.in-Some.is in
+    c.in-Some.matched_box is_v c.shape.ensures.value c.index_of.ensures.value (is_search.floor _ (is_search.listed c.args.at c.requires.at)).0 c.in-Some.is in
     matched_keeps c.args.board.now c.args.matching.now start _ queue c.args.at c.in-Some.matched_box _ _ c.requires.at pair
     (c.requires.matching (cell_visited queue c.args.at) c.in-Some.matched_box pair) c.enqueue.ensures.queued is_search
 
@@ -100,8 +98,7 @@ returns-clause-exact g c = λ _.
     let (start, is_search) = c.requires.search in
     let is_v = read_visit queue c.args.at c.index.result.now c.requires.at c.index.ensures in
     let pair = pairs_visited c.args.board.now.shape c.shape.result c.args.matching.now queue c.args.at c.index.result.now c.index_of.result
-    c.in-Some.matched_box is_v c.shape.ensures.value c.index_of.ensures.value
-    (is_search.floor _ (is_search.listed c.args.at c.requires.at)).0 c.in-Some.is in
+    c.in-Some.matched_box is_v c.shape.ensures.value c.index_of.ensures.value (is_search.floor _ (is_search.listed c.args.at c.requires.at)).0 c.in-Some.is in
     (c.in-Some.matched_box, pair, queued_here _ _ _ _ _ c.enqueue.ensures.queued)
 
 pub returns-then-not-contains-clause-ready : goal.returns-then-not-contains-clause-ready

@@ -1,12 +1,9 @@
-use Rattle.std.proofs.Common.{refl, arith}
+use Rattle.std.proofs.Common.{arith}
 use Rattle.maker.proofs.Searches.{queued_further, read_visit, pushed_keeps, pushed_here}
 use Rattle.maker.proofs.zones.search.Search.enqueue_push.Goals as goal
 
 pub push_target-requires-clause-on : goal.push_target-requires-clause-on
-push_target-requires-clause-on g c =
-    let (matching, start, is_search) = c.requires.search in
-    let is = read_visit c.args.self.now.queue.items c.args.at c.index-here.result.now c.requires.at c.index-here.ensures in
-    rw is ((is_search.floor _ (is_search.listed c.args.at c.requires.at)).0)
+push_target-requires-clause-on g c = grind (arith, read_visit)
 
 pub returns-in-Some-clause-further : goal.returns-in-Some-clause-further
 returns-in-Some-clause-further g c = queued_further c.args.board.now _ _ _ _ _ c.enqueue.ensures.queued
@@ -29,7 +26,7 @@ pub returns-in_default-clause-ready : goal.returns-in_default-clause-ready
 returns-in_default-clause-ready g c = c.requires.ready
 
 pub returns-in_default-clause-further : goal.returns-in_default-clause-further
-returns-in_default-clause-further g c = record { kept = λ q h. h; longer = omega arith; same = λ i _. refl }
+returns-in_default-clause-further g c = grind arith
 
 pub returns-in_default-clause-search : goal.returns-in_default-clause-search
 returns-in_default-clause-search g c = λ matching start h. h

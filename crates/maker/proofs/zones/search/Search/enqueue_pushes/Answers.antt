@@ -34,8 +34,7 @@ enqueue_push-requires-4-clause-search g c =
     let (matching, start, is_search) = c.requires.search in (
       matching,
       start,
-      c.enqueue_push-3.ensures.search matching start
-          (c.enqueue_push-2.ensures.search matching start (c.enqueue_push.ensures.search matching start is_search)),
+      c.enqueue_push-3.ensures.search matching start (c.enqueue_push-2.ensures.search matching start (c.enqueue_push.ensures.search matching start is_search)),
     )
 
 pub returns-clause-search : goal.returns-clause-search

@@ -1,13 +1,7 @@
 -- There are three ways out. If the cell leads to the relay, the free goal of the relay is in the reach of the cell, so the same
 -- alternating path leads to it. If the cell is a free goal itself, the path ends there, and the visit is still the same in the longer
 -- queue. Otherwise the matched box and the pushes are queued one after the other, and what the first call visited the second call keeps.
-use Rattle.std.proofs.Common.{◌∙◌, sym, subst, arith}
-use Rattle.cellset.specs.Cell.{neighbor}
-use Rattle.cellset.specs.CellSet.{Has}
-use Rattle.cellset.specs.declared.dir.Dir.{Dir}
-use Rattle.maker.specs.Dead.{IsRelaxedPush}
-use Rattle.maker.specs.Search.{IsFreeGoal}
-use Rattle.maker.specs.declared.zones.search.Visit.{Visit}
+use Rattle.std.proofs.Common.{◌∙◌, sym, arith}
 use Rattle.maker.proofs.Searches.{read_visit, further_itself, further_on}
 use Rattle.maker.proofs.Relays.{in_own_reach, traced_last, goal_of}
 use Rattle.maker.proofs.zones.search.Search.expand.Goals as goal
@@ -16,7 +10,7 @@ pub returns-in-Some-clause-further : goal.returns-in-Some-clause-further
 returns-in-Some-clause-further g c = further_itself _ _ _
 
 pub returns-in-Some-clause-exact : goal.returns-in-Some-clause-exact
-returns-in-Some-clause-exact g c = (goal_of c.args.board.now c.args.matching.now c.args.relay.now _ c.in-Some.ensures.0 c.requires.free).0
+returns-in-Some-clause-exact g c = grind (arith, goal_of)
 
 pub returns-in-Some-clause-traced : goal.returns-in-Some-clause-traced
 returns-in-Some-clause-traced g c = λ start is_search.
@@ -26,9 +20,7 @@ returns-in-Some-clause-traced g c = λ start is_search.
     ((goal_of c.args.board.now c.args.matching.now c.args.relay.now _ c.in-Some.ensures.0 c.requires.free).1 c.index-here.result.now.cell c.in-Some.ensures.1)
 
 pub returns-then-enqueue_matched-clause-exact : goal.returns-then-enqueue_matched-clause-exact
-returns-then-enqueue_matched-clause-exact g c =
-    let is = read_visit c.args.self.now.queue.items c.args.at c.index-here.result.now c.requires.at c.index-here.ensures in
-    subst (λ (v : Visit). IsFreeGoal c.args.board.now c.args.matching.now v.cell) (sym is) c.if-enqueue_matched.ensures.exact
+returns-then-enqueue_matched-clause-exact g c = grind (arith, read_visit)
 
 pub returns-then-enqueue_matched-clause-traced : goal.returns-then-enqueue_matched-clause-traced
 returns-then-enqueue_matched-clause-traced g c = λ start is_search.
@@ -37,15 +29,14 @@ returns-then-enqueue_matched-clause-traced g c = λ start is_search.
     let longer = c.enqueue_matched.ensures.further.longer in
     let below = c.requires.at in
     traced_last c.args.board.now c.args.matching.now start _ c.enqueue_matched.new.self.queue.items c.args.at c.index-here.result.now
-    c.index-here.result.now.cell (c.enqueue_matched.ensures.search start is_search) (omega (arith, longer, below))
+    c.index-here.result.now.cell (c.enqueue_matched.ensures.search start is_search) (omega arith)
     (is ∙ sym same) (in_own_reach c.args.board.now c.index-here.result.now.cell)
 
 pub enqueue_pushes-requires-clause-search : goal.enqueue_pushes-requires-clause-search
-enqueue_pushes-requires-clause-search g c = let (start, is_search) = c.requires.search in
-    (c.args.matching.now, start, c.enqueue_matched.ensures.search start is_search)
+enqueue_pushes-requires-clause-search g c = grind arith
 
 pub returns-clause-further : goal.returns-clause-further
-returns-clause-further g c = further_on _ _ _ _ _ _ _ c.enqueue_matched.ensures.further c.enqueue_pushes.ensures.further
+returns-clause-further g c = grind (arith, further_on)
 
 pub returns-clause-search : goal.returns-clause-search
 returns-clause-search g c = λ start is_search. c.enqueue_pushes.ensures.search c.args.matching.now start (c.enqueue_matched.ensures.search start is_search)
@@ -54,8 +45,7 @@ pub returns-clause-exact : goal.returns-clause-exact
 returns-clause-exact g c =
     let same = c.enqueue_matched.ensures.further.same c.args.at c.requires.at in
     record {
-      around = subst (λ (v : Visit). (d : Dir) → IsRelaxedPush c.args.board.now v.cell d
-          → Has (g.S.CellSet.members c.enqueue_pushes.new.self.visited) (neighbor v.cell d)) same c.enqueue_pushes.ensures.around;
+      around = rw same at c.enqueue_pushes.ensures.around;
       matched_box = λ goal. let (b, pair, has) = c.if-enqueue_matched.ensures.exact goal in (b, pair, c.enqueue_pushes.ensures.further.kept b has);
     }
 

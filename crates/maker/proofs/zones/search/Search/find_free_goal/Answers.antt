@@ -31,7 +31,7 @@ pub loop-at-smaller : goal.loop-at-smaller
 loop-at-smaller g c =
     let (start, is_search) = c.requires.search in
     let fit = queue_fits c.args.board.now c.args.matching.now start _ _ (c.loop-at.invariant.search start is_search) in
-    omega (arith, fit)
+    omega arith
 
 pub loop-at-preserved : goal.loop-at-preserved
 loop-at-preserved g c = record {
