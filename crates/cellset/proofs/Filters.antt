@@ -1,7 +1,7 @@
 -- Elements of lists, lists in strict order, and what a filter keeps of them.
 -- Suppose that two tests agree on everything after an element, that both fail on everything before it, and that only
 -- the first passes the element itself. Then the first filter keeps that element, followed by what the second keeps.
-use Rattle.std.proofs.Common.{◌≡◌, zero, suc, Bool, true, false, cond, List, [], ◌∷◌, ◌++◌, refl, sym, ◌∙◌, ap, subst, inl, inr, arith}
+use Rattle.std.proofs.Common.{◌≡◌, zero, suc, Bool, true, false, cond, List, [], ◌∷◌, ◌++◌, refl, sym, ◌∙◌, ap, subst, inl, arith}
 use Rattle.std.specs.Prelude.{◌⊎◌}
 use Rattle.std.specs.List.{Contains, AllByRecursion, filter}
 use Rattle.std.specs.List.Sorted.{IsStrictlySortedBy}
@@ -20,7 +20,7 @@ module _ {X : Type 0} where
 
   pub in_cases : (y : X) (xs : List X) (x : X) → Contains (y ∷ xs) x → (x ≡ y) ⊎ Contains xs x
   in_cases y xs x (zero, within, is) = inl (sym is)
-  in_cases y xs x (suc k, within, is) = inr (k, omega arith, is)
+  in_cases y xs x (suc k, within, is) = grind arith
 
   pub all_of : (P : X → Type 0) (xs : List X) → ((x : X) → Contains xs x → P x) → AllByRecursion P xs
   all_of P xs f = recursion_from_All P xs (All-weaker (Contains xs) P f xs (All-contains_itself xs))
@@ -32,8 +32,7 @@ module _ {X : Type 0} where
   pub filter_kept : (t : X → Bool) (xs : List X) (x : X) → Contains xs x → t x ≡ true → Contains (filter t xs) x
   filter_kept t [] x (k, within, is) pass = absurd (omega arith)
   filter_kept t (y ∷ xs) x h pass = either (in_cases y xs x h)
-      (λ e. subst (λ (b : Bool). Contains (cond b (y ∷ filter t xs) (filter t xs)) x) (sym (sym (ap t e) ∙ pass))
-      (subst (Contains (y ∷ filter t xs)) (sym e) (first_in y (filter t xs))))
+      (λ e. rw (← (sym (sym (ap t e) ∙ pass))) (subst (Contains (y ∷ filter t xs)) (sym e) (first_in y (filter t xs))))
       (λ later. elim (t y) as (λ b. Contains (cond b (y ∷ filter t xs) (filter t xs)) x) [
         | true ↦ later_in y (filter t xs) x (filter_kept t xs x later pass)
         | false ↦ filter_kept t xs x later pass
@@ -73,7 +72,7 @@ module _ {X : Type 0} (R : X → X → Ordering) where
   filter_first t u [] m s (k, within, is) pass fail later earlier = absurd (omega arith)
   filter_first t u (y ∷ ys) m s h pass fail later earlier = either (in_cases y ys m h)
       (λ e. ap (λ b. cond b (y ∷ filter t ys) (filter t ys)) (sym (ap t e) ∙ pass)
-      ∙ (λ i. sym e i ∷ filter_same t u ys (λ x k. later x (later_in y ys x k) (subst (λ z. R z x ≡ Less) (sym e) (of_all (λ z. R y z ≡ Less) ys x s.0 k))) i)
+      ∙ (λ i. sym e i ∷ filter_same t u ys (λ x k. later x (later_in y ys x k) (rw e (of_all (λ z. R y z ≡ Less) ys x s.0 k))) i)
       ∙ ap (λ b. m ∷ cond b (y ∷ filter u ys) (filter u ys)) (sym (sym (ap u e) ∙ fail)))
       (λ k. let before = earlier y (first_in y ys) (of_all (λ z. R y z ≡ Less) ys m s.0 k) in
       ap (λ b. cond b (y ∷ filter t ys) (filter t ys)) before.0
@@ -85,8 +84,8 @@ module _ {X : Type 0} (R : X → X → Ordering) where
       → IsStrictlySortedBy R (came ++ x ∷ rest) → Contains (came ++ x ∷ rest) y → R y x ≡ Less → Contains came y
   unfolding IsStrictlySortedBy
   in_front itself trans [] rest x y s h early = absurd (either (in_cases x rest y h)
-      (λ e. itself x (subst (λ (a : X). R a x ≡ Less) e early))
+      (λ e. itself x (rw e at early))
       (λ k. itself x (trans x y x (of_all (λ z. R x z ≡ Less) rest y s.0 k) early)))
   in_front itself trans (c ∷ came) rest x y s h early = either (in_cases c (came ++ x ∷ rest) y h)
-      (λ e. subst (Contains (c ∷ came)) (sym e) (first_in c came))
+      (λ e. rw e (first_in c came))
       (λ k. later_in c came y (in_front itself trans came rest x y s.1 k early))

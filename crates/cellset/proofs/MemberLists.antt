@@ -30,13 +30,13 @@ left_test from q h = elim (cell_cmp q from) as (λ o. cell_cmp q from ≡ o
     → not (is_lt o) ≡ true) [ Less ↦ λ e. absurd (h e) | Equal ↦ λ _. refl | Greater ↦ λ _. refl ] refl
 
 not_left : (from q : Cell) → Before q from → is_left (Some from) q ≡ false
-not_left from q b = ap (λ o. not (is_lt o)) b
+not_left from q b = search
 
 left_told : {G : Type 0} (from q : Cell) → is_left (Some from) q ≡ true → Before q from → G
 left_told from q t b = absurd (false≢true (sym (not_left from q b) ∙ t))
 
 passing : (s : Cells) (from : Option Cell) (q : Cell) → Has s q → is_left from q ≡ true → passes s from q ≡ true
-passing s from q has left = ap (λ b. b && is_left from q) has ∙ left
+passing s from q has left = search
 
 -- ---- the list
 pub none_at_end : (shape : Extent) (s : Cells) → members_left shape s None ≡ []
@@ -114,4 +114,4 @@ all_came shape s came all = subst (AreMembersOf shape s) (append-nil came) all
 -- the members that are left may be replaced by an equal list
 pub goes_on : {shape : Extent} {cells : Cells} (came left next : List Cell) → left ≡ next → AreMembersOf shape cells (came ++ left)
     → AreMembersOf shape cells (came ++ next)
-goes_on {shape = shape} {cells = cells} came left next e members = subst (λ (l : List Cell). AreMembersOf shape cells (came ++ l)) e members
+goes_on {shape = shape} {cells = cells} came left next e members = rw e at members

@@ -16,7 +16,6 @@ use Rattle.std.proofs.Math.Bool.{and-false, or-false}
 use Rattle.cellset.proofs.Truth.{left_true, right_true, or_cases, and_parts, not_true, or_front}
 use Rattle.cellset.specs.declared.cell.Cell.{Cell}
 use Rattle.std.specs.Cmp.{IsTotalOrder}
-use Rattle.std.specs.Prelude.{ℕ}
 use Rattle.std.proofs.lemmas.Cmp.{on_total, then_total, nat_cmp_total}
 use Rattle.std.proofs.lemmas.Map.Lookups.{CmpEqualImpliesEq, exact_pairs, exact_unsigned}
 use Rattle.std.specs.Ordering.{nat_cmp}
@@ -25,7 +24,7 @@ use Rattle.cellset.specs.CellSet.{Cells, Has, Lacks, only}
 
 -- cells that compare as equal are equal
 pub exact_cells : CmpEqualImpliesEq cell_cmp
-exact_cells a b h = ap (λ (p : ℕ × ℕ). record { row = p.0; column = p.1 })
+exact_cells a b h = ap (λ p. record { row = p.0; column = p.1 })
     (exact_pairs nat_cmp nat_cmp exact_unsigned exact_unsigned (a.row, a.column) (b.row, b.column) h)
 
 pub cells_total : IsTotalOrder cell_cmp

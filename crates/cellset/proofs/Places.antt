@@ -1,5 +1,5 @@
 -- Two indices in one list are equal, or the first lies before the second, or the second before the first.
-use Rattle.std.proofs.Common.{◌≡◌, List, [], ◌∷◌, ◌++◌, refl, sym, ap}
+use Rattle.std.proofs.Common.{◌≡◌, List, [], ◌∷◌, ◌++◌, sym, ap}
 
 same_head : {A : Type 0} (a b : A) (x y : List A) → a ∷ x ≡ b ∷ y → a ≡ b
 same_head a b x y e = cc
@@ -9,7 +9,7 @@ same_tail a b x y e = cc
 
 pub places : {A G : Type 0} (x y : List A) (p q : A) (xs ys : List A) → x ++ p ∷ xs ≡ y ++ q ∷ ys
     → (x ≡ y → p ≡ q → G) → ((zs : List A) → y ≡ (x ++ p ∷ []) ++ zs → G) → ((zs : List A) → x ≡ (y ++ q ∷ []) ++ zs → G) → G
-places [] [] p q xs ys e one before after = one refl (same_head p q xs ys e)
+places [] [] p q xs ys e one before after = search (same_head)
 places [] (d ∷ y) p q xs ys e one before after = before y (ap (λ c. c ∷ y) (sym (same_head p d xs (y ++ q ∷ ys) e)))
 places (c ∷ x) [] p q xs ys e one before after = after x (ap (λ d. d ∷ x) (same_head c q (x ++ p ∷ xs) ys e))
 places (c ∷ x) (d ∷ y) p q xs ys e one before after =

@@ -5,7 +5,7 @@
 use Rattle.std.proofs.Common.{◌≡◌, ◌≢◌, ℕ, zero, suc, ◌+◌, ◌-◌, ◌*◌, ◌/◌, ◌%◌, ◌^◌, ◌<◌, ◌≤◌, Bool, true, false, cond, ◌||◌, List, length, refl, sym, ◌∙◌, ap}
 use Rattle.std.proofs.Common.{subst, arith}
 use Rattle.std.specs.Prelude.{nat_eq, bit_or, bit_and}
-use Rattle.std.specs.Int.{bit_at, trailing_zeros, w64}
+use Rattle.std.specs.Int.{trailing_zeros, w64}
 use Rattle.std.proofs.lemmas.Bool.{false≢true, cases_eq, cases_lt, eq-eqb, ne_eqb}
 use Rattle.std.proofs.lemmas.Nat.Bits.{bit_at-trailing_zeros, bit_at_set_same, bit_at_set_other, shr_and_one}
 use Rattle.std.specs.FinSet as set
@@ -39,7 +39,7 @@ pub record IsInRow (row part bits n : ℕ) (q : Cell) : Type 0 where
   pub here : q ≡ row_cell row part k
 
 in_more : (row part bits n : ℕ) (q : Cell) → IsInRow row part bits n q → IsInRow row part bits (suc n) q
-in_more row part bits n q i = record { k = i.k; below = let b = i.below in omega (arith, b); is_set = i.is_set; here = i.here }
+in_more row part bits n q i = grind arith
 
 pub has_in_row : (row part bits n : ℕ) (q : Cell) → Has (first_of_row row part bits n) q → IsInRow row part bits n q
 unfolding first_of_row
@@ -58,11 +58,9 @@ unfolding first_of_row
 row_has row part bits zero k lt is_set = absurd (omega arith)
 row_has row part bits (suc n) k lt is_set =
     either (cases_eq k n)
-    (λ e. subst (λ (b : Bool). Has (cond b (set.insert (first_of_row row part bits n) (row_cell row part n)) (first_of_row row part bits n))
-    (row_cell row part k)) (sym (ap (bit bits) (sym e) ∙ is_set))
-    (subst (λ (j : ℕ). Has (set.insert (first_of_row row part bits n) (row_cell row part n)) (row_cell row part j)) (sym e)
+    (λ e. rw (← (sym (ap (bit bits) (sym e) ∙ is_set))) (subst (λ j. Has (set.insert (first_of_row row part bits n) (row_cell row part n)) (row_cell row part j)) (sym e)
     (inserted (first_of_row row part bits n) (row_cell row part n))))
-    (λ ne. kept (bit bits n) (row_has row part bits n k (omega (arith, lt, ne)) is_set))
+    (λ ne. kept (bit bits n) (row_has row part bits n k (omega arith) is_set))
   where
     kept : (b : Bool) → Has (first_of_row row part bits n) (row_cell row part k)
         → Has (cond b (set.insert (first_of_row row part bits n) (row_cell row part n)) (first_of_row row part bits n)) (row_cell row part k)
@@ -77,46 +75,30 @@ union_none s row part bits = union_empty s
 pub union_more : (s now : Cells) (row part bits k : ℕ) → now ≡ set.union s (first_of_row row part bits k) → bit bits k ≡ true
     → set.insert now (row_cell row part k) ≡ set.union s (first_of_row row part bits (k + 1))
 unfolding first_of_row
-union_more s now row part bits k is is_set =
-    let up : suc k ≡ k + 1 = omega arith in
-    ap (λ t. set.insert t (row_cell row part k)) is ∙ union_insert s (first_of_row row part bits k) (row_cell row part k)
-    ∙ ap (λ b. set.union s (cond b (set.insert (first_of_row row part bits k) (row_cell row part k)) (first_of_row row part bits k))) (sym is_set)
-    ∙ ap (λ n. set.union s (first_of_row row part bits n)) up
+union_more s now row part bits k is is_set = grind (arith, union_insert)
 
 pub union_same : (s now : Cells) (row part bits k : ℕ) → now ≡ set.union s (first_of_row row part bits k) → bit bits k ≡ false
     → now ≡ set.union s (first_of_row row part bits (k + 1))
 unfolding first_of_row
-union_same s now row part bits k is unset =
-    let up : suc k ≡ k + 1 = omega arith in
-    is ∙ ap (λ b. set.union s (cond b (set.insert (first_of_row row part bits k) (row_cell row part k)) (first_of_row row part bits k))) (sym unset)
-    ∙ ap (λ n. set.union s (first_of_row row part bits n)) up
+union_same s now row part bits k is unset = grind arith
 
 -- ---- a part of a row among the bits of a set
 -- if a cell of a part lies on the grid, the first cell of the part does
 first_on : (shape : Extent) (row part k : ℕ) → IsOn shape (row_cell row part k) → IsOn shape (first_cell row part)
-first_on shape row part k on = record {
-  top = on.top;
-  bottom = on.bottom;
-  left = omega arith;
-  right = let l = on.left in let r =
-      on.right in omega (arith, l, r);
-}
+first_on shape row part k on = grind arith
 
 -- the bit of a cell on the grid is none of the bits before the first cell
 led : (shape : Extent) (row part k : ℕ) → IsOn shape (row_cell row part k) → 1 - part ≤ k
-led shape row part k on = let l = on.left in omega (arith, l)
+led shape row part k on = let l = on.left in omega arith
 
 cell_on : (shape : Extent) (row part k : ℕ) → IsOn shape (first_cell row part) → 1 - part ≤ k → 64 * part + k ≤ shape.width → IsOn shape (row_cell row part k)
-cell_on shape row part k on from within = record { top = on.top; bottom = on.bottom; left = omega (arith, from); right = within }
+cell_on shape row part k on from within = grind arith
 
 side_by_side : (shape : Extent) (row part k : ℕ) → 1 - part ≤ k → index shape (row_cell row part k) ≡ index shape (first_cell row part) + (k - (1 - part))
-side_by_side shape row part k from =
-    let column_is : 64 * part + k - 1 ≡ 64 * part + (1 - part) - 1 + (k - (1 - part)) = omega (arith, from) in
-    ap (λ n. (row - 1) * shape.width + n) column_is ∙ (omega arith)
+side_by_side shape row part k from = grind arith
 
 pub none_there : (shape : Extent) (words : List ℕ) (row part : ℕ) → (IsOn shape (first_cell row part) → ⊥) → IsRowOf (members_of shape words) row part 0
-none_there shape words row part off = λ k _. zero_bit k ∙ sym
-    (lacks_where (members_of shape words) (row_cell row part k) (λ has. off (first_on shape row part k (member_on shape words (row_cell row part k) has))))
+none_there shape words row part off = grind (arith, zero_bit, lacks_where, first_on, member_on)
 
 -- the bits of a part are the bits of a set from the first cell on, cut at the end of the row
 pub record IsCutPart (shape : Extent) (words : List ℕ) (row part taken bits : ℕ) : Type 0 where
@@ -129,7 +111,7 @@ pub row_taken : (shape : Extent) (words : List ℕ) (row part taken bits : ℕ) 
     → IsRowOf (members_of shape words) row part (bits * 2 ^ (1 - part) % 2 ^ 64)
 row_taken shape words row part taken bits cut = λ k small.
     either (cases_lt k (1 - part))
-    (λ before. bit_up_below bits (1 - part) k small before ∙ none k (λ on. let from = led shape row part k on in omega (arith, before, from)))
+    (λ before. bit_up_below bits (1 - part) k small before ∙ none k (λ on. let from = led shape row part k on in omega arith))
     (λ from. bit_up bits (1 - part) k small from ∙ told k small from)
   where
     none : (k : ℕ) → (IsOn shape (row_cell row part k) → ⊥) → false ≡ contains (members_of shape words) (row_cell row part k)
@@ -139,13 +121,13 @@ row_taken shape words row part taken bits cut = λ k small.
     told k small from =
         let first = cut.first in
         either (cases_lt (k - (1 - part)) (shape.width + 1 - (64 * part + (1 - part))))
-        (λ lt. cut.inside (k - (1 - part)) lt ∙ cut.taken_are (k - (1 - part)) (omega (arith, small))
+        (λ lt. cut.inside (k - (1 - part)) lt ∙ cut.taken_are (k - (1 - part)) (omega arith)
         ∙ ap (has_bit words) (sym (side_by_side shape row part k from))
-        ∙ sym (contains_on shape words (row_cell row part k) (cell_on shape row part k first from (omega (arith, lt, from)))))
-        (λ past. cut.outside (k - (1 - part)) past ∙ none k (λ on. let r = on.right in omega (arith, r, past, from)))
+        ∙ sym (contains_on shape words (row_cell row part k) (cell_on shape row part k first from (omega arith))))
+        (λ past. cut.outside (k - (1 - part)) past ∙ none k (λ on. let r = on.right in omega arith))
 
 pub row_is_on : (shape : Extent) (words : List ℕ) (row part bits : ℕ) → IsRowOf (members_of shape words) row part bits → IsRowOn shape row part bits
-row_is_on shape words row part bits is = λ k small is_set. member_on shape words (row_cell row part k) (sym (is k small) ∙ is_set)
+row_is_on shape words row part bits is = grind (arith, member_on)
 
 -- ---- a part of a row added to the bits of a set
 pub record IsRowAdded (shape : Extent) (old new : List ℕ) (row part bits : ℕ) : Type 0 where
@@ -159,7 +141,7 @@ pub record IsRowAdded (shape : Extent) (old new : List ℕ) (row part bits : ℕ
 
 -- a set bit of a word is one of its 64 bits
 set_small : (bits j : ℕ) → bits < 2 ^ 64 → bit bits j ≡ true → j < 64
-set_small bits j fits is_set = either (cases_lt j 64) (λ lt. lt) (λ past. absurd (false≢true (sym (bit_past bits j fits past) ∙ is_set)))
+set_small bits j fits is_set = grind (arith, either, cases_lt, false≢true, bit_past)
 
 -- the cell is that of a set bit of the part, by its index
 pub record IsPartOf (shape : Extent) (row part bits : ℕ) (q : Cell) : Type 0 where
@@ -177,10 +159,7 @@ in_part shape row part bits q row_on has =
 -- a set bit of a part has its cell on the grid, at its distance from the first cell
 part_at : (shape : Extent) (row part bits j : ℕ) → IsRowOn shape row part bits → bits < 2 ^ 64 → bit bits (1 - part + j) ≡ true
     → IsOn shape (row_cell row part (1 - part + j)) × (index shape (row_cell row part (1 - part + j)) ≡ index shape (first_cell row part) + j)
-part_at shape row part bits j row_on fits is_set = (
-  row_on (1 - part + j) (set_small bits (1 - part + j) fits is_set) is_set,
-  side_by_side shape row part (1 - part + j) (omega arith) ∙ (omega arith),
-)
+part_at shape row part bits j row_on fits is_set = grind (arith, set_small, side_by_side)
 
 -- if a cell of the grid isn't before the part, its bit says whether it is a cell of the part
 row_bit : (shape : Extent) (row part bits : ℕ) (q : Cell) → IsRowOn shape row part bits → bits < 2 ^ 64 → IsOn shape q
@@ -191,13 +170,13 @@ row_bit shape row part bits q row_on fits on from =
     bit_down bits (1 - part) j ∙ true_or_false (bit bits (1 - part + j))
     (λ is_set.
     let there = part_at shape row part bits j row_on fits is_set in
-    let same_place : index shape q ≡ index shape (row_cell row part (1 - part + j)) = let e = there.1 in omega (arith, from, e) in
+    let same_place : index shape q ≡ index shape (row_cell row part (1 - part + j)) = let e = there.1 in omega arith in
     is_set ∙ same_or_other q (row_cell row part (1 - part + j))
     (λ e. sym (ap (contains (cells_of_row row part bits)) e ∙ row_has row part bits 64 (1 - part + j) (set_small bits (1 - part + j) fits is_set) is_set))
     (λ f. absurd (index_apart shape q (row_cell row part (1 - part + j)) on there.0 f same_place)))
     (λ unset. unset ∙ sym (lacks_where (cells_of_row row part bits) q (λ has.
     let i = in_part shape row part bits q row_on has in
-    let j_is : 1 - part + j ≡ i.k = let at = i.at in let low = i.from in omega (arith, at, low) in
+    let j_is : 1 - part + j ≡ i.k = let at = i.at in let low = i.from in omega arith in
     false≢true (sym unset ∙ ap (bit bits) j_is ∙ i.is_set))))
 
 -- a cell before the part isn't a cell of the part
@@ -206,14 +185,14 @@ row_after : (shape : Extent) (row part bits : ℕ) (q : Cell) → IsRowOn shape 
 row_after shape row part bits q row_on before = lacks_where (cells_of_row row part bits) q (λ has.
     let i = in_part shape row part bits q row_on has in
     let at = i.at in
-    omega (arith, at, before))
+    omega arith)
 
 pub row_members : (shape : Extent) (old new : List ℕ) (row part bits : ℕ) → IsBitsOf shape old → IsRowAdded shape old new row part bits
     → members_of shape new ≡ set.union (members_of shape old) (cells_of_row row part bits)
 row_members shape old new row part bits is a = same_on shape new (set.union (members_of shape old) (cells_of_row row part bits))
     (λ q has. or_cases (contains (members_of shape old) q) (contains (cells_of_row row part bits) q)
     (sym (contains-union cells_total (members_of shape old) (cells_of_row row part bits) q) ∙ has) (member_on shape old q)
-    (λ in_row. let i = has_in_row row part bits 64 q in_row in subst (IsOn shape) (sym i.here) (a.row_on i.k i.below i.is_set)))
+    (λ in_row. let i = has_in_row row part bits 64 q in_row in rw i.here (a.row_on i.k i.below i.is_set)))
     (λ q on.
     let n = index shape (first_cell row part) in
     let long = is.len in
@@ -221,7 +200,7 @@ row_members shape old new row part bits is a = same_on shape new (set.union (mem
     either (cases_lt (index shape q) n)
     (λ lt. a.before (index shape q) lt ∙ sym (or-false (has_bit old (index shape q)))
     ∙ (λ i. sym (contains_on shape old q on) i || sym (row_after shape row part bits q a.row_on lt) i))
-    (λ from. a.from (index shape q) from (omega (arith, long, below))
+    (λ from. a.from (index shape q) from (omega arith)
     ∙ (λ i. sym (contains_on shape old q on) i || row_bit shape row part bits q a.row_on a.fits on from i))
     ∙ sym (contains-union cells_total (members_of shape old) (cells_of_row row part bits) q))
 
@@ -233,8 +212,8 @@ row_bits shape old new row part bits is a = record {
       let low = below_index shape (first_cell row part) a.first in
       let kept = a.len in
       either (cases_lt (k / 64) (length old))
-      (λ inside. a.from k (omega (arith, low, past)) inside ∙ (λ i. is.clear k past i || unset k past i))
-      (λ outside. none_past new k (omega (arith, kept, outside)));
+      (λ inside. a.from k (omega arith) inside ∙ (λ i. is.clear k past i || unset k past i))
+      (λ outside. none_past new k (omega arith));
 }
   where
     unset : (k : ℕ) → shape.width * shape.height ≤ k → bit (bits / 2 ^ (1 - part)) (k - index shape (first_cell row part)) ≡ false
@@ -245,14 +224,14 @@ row_bits shape old new row part bits is a = record {
         let there = part_at shape row part bits (k - n) a.row_on a.fits is_set in
         let at = there.1 in
         let below = below_index shape (row_cell row part (1 - part + (k - n))) there.0 in
-        absurd (omega (arith, at, below, past)))
+        absurd (omega arith))
         (λ e. e)
 
 -- if a part with a bit is on the grid, its first cell is on the grid
 pub first_there : (shape : Extent) (row part bits : ℕ) → bits < 2 ^ 64 → bits ≢ 0 → IsRowOn shape row part bits → IsOn shape (first_cell row part)
 first_there shape row part bits fits some row_on =
     let k = trailing_zeros w64 bits in
-    let lowest = bit_at-trailing_zeros w64 bits (omega (arith, some)) fits in
+    let lowest = bit_at-trailing_zeros w64 bits (omega arith) fits in
     first_on shape row part k (row_on k lowest.0 (ap (λ b. nat_eq b 1) lowest.1))
 
 -- a part without a bit adds nothing to a set
@@ -271,7 +250,7 @@ pub record IsRowRead (s : Cells) (row part bits k : ℕ) : Type 0 where
   pub rest : (j : ℕ) → k ≤ j → bit bits j ≡ false
 
 pub none_read : (s : Cells) (row part : ℕ) → IsRowRead s row part 0 0
-none_read s row part = record { done = λ j lt. absurd (omega (arith, lt)); rest = λ j _. zero_bit j }
+none_read s row part = grind (arith, zero_bit)
 
 pub member_read : (s : Cells) (row part bits k : ℕ) → IsRowRead s row part bits k → k < 64 → Has s (row_cell row part k)
     → IsRowRead s row part (bit_or bits (1 * 2 ^ k % 2 ^ 64)) (k + 1)
@@ -281,21 +260,16 @@ member_read s row part bits k r small has =
       done = λ j lt. either (cases_eq j k)
           (λ e. ap (bit (bit_or bits (1 * 2 ^ k % 2 ^ 64))) e ∙ ap (λ b. nat_eq b 1) (bit_at_set_same w64 bits k small)
           ∙ sym (ap (λ i. contains s (row_cell row part i)) e ∙ has))
-          (λ ne. other j ne ∙ r.done j (omega (arith, lt, ne)));
-      rest = λ j past. other j (λ e. omega (arith, past, e)) ∙ r.rest j (omega (arith, past));
+          (λ ne. other j ne ∙ r.done j (omega arith));
+      rest = λ j past. other j (λ e. omega arith) ∙ r.rest j (omega arith);
     }
 
 pub absent_read : (s : Cells) (row part bits k : ℕ) → IsRowRead s row part bits k → Lacks s (row_cell row part k) → IsRowRead s row part bits (k + 1)
-absent_read s row part bits k r lacks = record {
-  done = λ j lt. either (cases_eq j k)
-      (λ e. ap (bit bits) e ∙ r.rest k (omega arith) ∙ sym (ap (λ i. contains s (row_cell row part i)) e ∙ lacks))
-      (λ ne. r.done j (omega (arith, lt, ne)));
-  rest = λ j past. r.rest j (omega (arith, past));
-}
+absent_read s row part bits k r lacks = grind (arith, either, cases_eq)
 
 -- a bit is set if shifting and masking give 1
 pub tested_set : (n k : ℕ) → bit_and (n / 2 ^ k) 1 ≡ 1 → bit n k ≡ true
-tested_set n k h = eq-eqb (bit_at n k) 1 (sym (shr_and_one n k) ∙ h)
+tested_set n k h = grind (arith, eq-eqb, shr_and_one)
 
 pub tested_unset : (n k : ℕ) → bit_and (n / 2 ^ k) 1 ≢ 1 → bit n k ≡ false
-tested_unset n k h = ne_eqb (bit_at n k) 1 (λ e. h (shr_and_one n k ∙ e))
+tested_unset n k h = search (ne_eqb, shr_and_one)

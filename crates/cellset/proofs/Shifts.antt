@@ -20,7 +20,7 @@ bit_cut x k small =
     ap (λ w. bit w k) (sym (and_mask x 64)) ∙ bit-and x (2 ^ 64 - 1) k ∙ ap (λ b. bit x k && nat_eq b 1) (bit_at_ones 64 k small) ∙ and-true (bit x k)
 
 pub bit_down : (w s k : ℕ) → bit (w / 2 ^ s) k ≡ bit w (s + k)
-bit_down w s k = ap (λ v. nat_eq (v % 2) 1) (div-div-eq-div-mul w (2 ^ s) (2 ^ k) ∙ ap (λ p. w / p) (sym (pow-add 2 s k)))
+bit_down w s k = search (div-div-eq-div-mul, pow-add)
 
 pub bit_up : (v s k : ℕ) → k < 64 → s ≤ k → bit (v * 2 ^ s % 2 ^ 64) k ≡ bit v (k - s)
 bit_up v s k small from = bit_cut (v * 2 ^ s) k small ∙ ap (λ x. bit x k) (sym (add-zero (v * 2 ^ s)))
@@ -35,36 +35,28 @@ bit_past w k fits past = ap (λ b. nat_eq b 1) (bit_at_above w 64 k fits past)
 
 -- a mask keeps the first c bits of a number
 pub first_inside : (w c k : ℕ) → c < 64 → k < c → bit (bit_and w (1 * 2 ^ c % 2 ^ 64 - 1)) k ≡ bit w k
-first_inside w c k few below =
-    ap (λ p. bit (bit_and w (p - 1)) k) (one_shl c 64 few) ∙ bit-and w (2 ^ c - 1) k ∙ ap (λ b. bit w k && nat_eq b 1) (bit_at_ones c k below)
-    ∙ and-true (bit w k)
+first_inside w c k few below = search (one_shl, bit-and, bit_at_ones, and-true)
 
 pub first_outside : (w c k : ℕ) → c < 64 → c ≤ k → bit (bit_and w (1 * 2 ^ c % 2 ^ 64 - 1)) k ≡ false
-first_outside w c k few past =
-    ap (λ p. bit (bit_and w (p - 1)) k) (one_shl c 64 few) ∙ bit-and w (2 ^ c - 1) k ∙ ap (λ b. bit w k && nat_eq b 1) (bit_at_ones_above c k past)
-    ∙ and-false (bit w k)
+first_outside w c k few past = search (one_shl, bit-and, bit_at_ones_above, and-false)
 
 -- ---- bits taken
 abbrev word_of : List ℕ → ℕ → ℕ
 word_of words n = get_or words (n / 64) 0
 
 taken_low : (words : List ℕ) (n k : ℕ) → n % 64 + k < 64 → bit (word_of words n / 2 ^ (n % 64)) k ≡ has_bit words (n + k)
-taken_low words n k inside =
-    let there : 64 * (n / 64) + (n % 64 + k) ≡ n + k = omega arith in
-    bit_down (word_of words n) (n % 64) k ∙ sym (bit_there words (n / 64) (n % 64 + k) inside) ∙ ap (has_bit words) there
+taken_low words n k inside = grind (arith, bit_down, bit_there)
 
 taken_past : (words : List ℕ) (n k : ℕ) → word_of words n < 2 ^ 64 → 64 ≤ n % 64 + k → bit (word_of words n / 2 ^ (n % 64)) k ≡ false
-taken_past words n k fits past = bit_down (word_of words n) (n % 64) k ∙ bit_past (word_of words n) (n % 64 + k) fits past
+taken_past words n k fits past = search (bit_down, bit_past)
 
 pub taken_whole : (words : List ℕ) (n : ℕ) → word_of words n < 2 ^ 64 → n % 64 ≡ 0 → (k : ℕ) → k < 64
     → bit (word_of words n / 2 ^ (n % 64)) k ≡ has_bit words (n + k)
-taken_whole words n fits none k small = taken_low words n k (omega (arith, none, small))
+taken_whole words n fits none k small = taken_low words n k (omega arith)
 
 pub taken_last : (words : List ℕ) (n : ℕ) → word_of words n < 2 ^ 64 → n / 64 + 1 ≡ length words → (k : ℕ) → k < 64
     → bit (word_of words n / 2 ^ (n % 64)) k ≡ has_bit words (n + k)
-taken_last words n fits last k small =
-    either (cases_lt (n % 64 + k) 64) (taken_low words n k)
-    (λ past. taken_past words n k fits past ∙ sym (none_past words (n + k) (omega (arith, past, last))))
+taken_last words n fits last k small = grind (arith, either, cases_lt, taken_low, taken_past, none_past)
 
 pub taken_both : (words : List ℕ) (n : ℕ) → word_of words n < 2 ^ 64 → (k : ℕ) → k < 64
     → bit (bit_or (word_of words n / 2 ^ (n % 64)) (get_or words (n / 64 + 1) 0 * 2 ^ (64 - n % 64) % 2 ^ 64)) k ≡ has_bit words (n + k)
@@ -73,22 +65,21 @@ taken_both words n fits k small =
     let next = get_or words (n / 64 + 1) 0 in
     let high = next * 2 ^ (64 - n % 64) % 2 ^ 64 in
     bit-or low high k ∙ either (cases_lt (n % 64 + k) 64)
-    (λ inside. (λ i. taken_low words n k inside i || bit_up_below next (64 - n % 64) k small (omega (arith, inside)) i) ∙ or-false (has_bit words (n + k)))
+    (λ inside. (λ i. taken_low words n k inside i || bit_up_below next (64 - n % 64) k small (omega arith) i) ∙ or-false (has_bit words (n + k)))
     (λ past.
-    let there : 64 * (n / 64 + 1) + (k - (64 - n % 64)) ≡ n + k = omega (arith, past) in
-    (λ i. taken_past words n k fits past i || bit_up next (64 - n % 64) k small (omega (arith, past)) i)
-    ∙ sym (bit_there words (n / 64 + 1) (k - (64 - n % 64)) (omega (arith, small))) ∙ ap (has_bit words) there)
+    let there : 64 * (n / 64 + 1) + (k - (64 - n % 64)) ≡ n + k = omega arith in
+    (λ i. taken_past words n k fits past i || bit_up next (64 - n % 64) k small (omega arith) i)
+    ∙ sym (bit_there words (n / 64 + 1) (k - (64 - n % 64)) (omega arith)) ∙ ap (has_bit words) there)
 
 -- ---- bits set
 abbrev joined : List ℕ → ℕ → ℕ → List ℕ
 joined words i v = set words i (bit_or (get_or words i 0) v)
 
 joined_here : (words : List ℕ) (i v k : ℕ) → i < length words → k / 64 ≡ i → has_bit (joined words i v) k ≡ (has_bit words k || bit v (k % 64))
-joined_here words i v k lt e = word_here words i (bit_or (get_or words i 0) v) k lt e ∙ bit-or (get_or words i 0) v (k % 64)
-    ∙ ap (λ j. bit (get_or words j 0) (k % 64) || bit v (k % 64)) (sym e)
+joined_here words i v k lt e = grind (arith, word_here, bit-or)
 
 joined_apart : (words : List ℕ) (i v k : ℕ) → k / 64 ≢ i → has_bit (joined words i v) k ≡ has_bit words k
-joined_apart words i v k ne = word_apart words i (bit_or (get_or words i 0) v) k ne
+joined_apart words i v k ne = search (word_apart)
 
 abbrev up : ℕ → ℕ → ℕ
 up n bits = bits * 2 ^ (n % 64) % 2 ^ 64
@@ -100,32 +91,22 @@ abbrev both_set : List ℕ → ℕ → ℕ → List ℕ
 both_set words n bits = joined (first_set words n bits) (n / 64 + 1) (bits / 2 ^ (64 - n % 64))
 
 unchanged : (words : List ℕ) (k : ℕ) (b : Bool) → b ≡ false → has_bit words k ≡ (has_bit words k || b)
-unchanged words k b none = sym (or-false (has_bit words k)) ∙ ap (λ b. has_bit words k || b) (sym none)
+unchanged words k b none = grind (arith, or-false)
 
 pub first_before : (words : List ℕ) (n bits : ℕ) → n / 64 < length words → (k : ℕ) → k < n → has_bit (first_set words n bits) k ≡ has_bit words k
-first_before words n bits lt k before =
-    either (cases_eq (k / 64) (n / 64))
-    (λ e. joined_here words (n / 64) (up n bits) k lt e ∙ sym
-    (unchanged words k (bit (up n bits) (k % 64)) (bit_up_below bits (n % 64) (k % 64) (omega arith) (omega (arith, before, e)))))
-    (λ ne. joined_apart words (n / 64) (up n bits) k ne)
+first_before words n bits lt k before = grind (arith, either, cases_eq, joined_here, unchanged, bit_up_below, joined_apart)
 
 first_here : (words : List ℕ) (n bits : ℕ) → n / 64 < length words → (k : ℕ) → n ≤ k → k / 64 ≡ n / 64
     → has_bit (first_set words n bits) k ≡ (has_bit words k || bit bits (k - n))
-first_here words n bits lt k from e =
-    let there : k % 64 - n % 64 ≡ k - n = omega (arith, from, e) in
-    joined_here words (n / 64) (up n bits) k lt e ∙ ap (λ b. has_bit words k || b)
-    (bit_up bits (n % 64) (k % 64) (omega arith) (omega (arith, from, e)) ∙ ap (bit bits) there)
+first_here words n bits lt k from e = grind (arith, joined_here, bit_up)
 
 -- 64 bits that are set within one word, because no more of them fall in the next
 pub first_from : (words : List ℕ) (n bits : ℕ) → n / 64 < length words → bits < 2 ^ 64 → (k : ℕ) → n ≤ k → (k / 64 ≢ n / 64 → 64 ≤ k - n)
     → has_bit (first_set words n bits) k ≡ (has_bit words k || bit bits (k - n))
-first_from words n bits lt fits k from far =
-    either (cases_eq (k / 64) (n / 64)) (first_here words n bits lt k from)
-    (λ ne. joined_apart words (n / 64) (up n bits) k ne ∙ unchanged words k (bit bits (k - n)) (bit_past bits (k - n) fits (far ne)))
+first_from words n bits lt fits k from far = grind (arith, either, cases_eq, first_here, joined_apart, unchanged, bit_past)
 
 pub both_before : (words : List ℕ) (n bits : ℕ) → n / 64 < length words → (k : ℕ) → k < n → has_bit (both_set words n bits) k ≡ has_bit words k
-both_before words n bits lt k before =
-    joined_apart (first_set words n bits) (n / 64 + 1) (bits / 2 ^ (64 - n % 64)) k (λ e. omega (arith, before, e)) ∙ first_before words n bits lt k before
+both_before words n bits lt k before = grind (arith, joined_apart, first_before)
 
 pub both_from : (words : List ℕ) (n bits : ℕ) → n / 64 + 1 < length words → bits < 2 ^ 64 → (k : ℕ) → n ≤ k
     → has_bit (both_set words n bits) k ≡ (has_bit words k || bit bits (k - n))
@@ -133,8 +114,8 @@ both_from words n bits lt fits k from =
     let down = bits / 2 ^ (64 - n % 64) in
     either (cases_eq (k / 64) (n / 64 + 1))
     (λ e.
-    let there : 64 - n % 64 + k % 64 ≡ k - n = omega (arith, from, e) in
+    let there : 64 - n % 64 + k % 64 ≡ k - n = omega arith in
     joined_here (first_set words n bits) (n / 64 + 1) down k (rw length-set lt) e
-    ∙ (λ i. joined_apart words (n / 64) (up n bits) k (λ f. omega (arith, e, f)) i || (bit_down bits (64 - n % 64) (k % 64) ∙ ap (bit bits) there) i))
+    ∙ (λ i. joined_apart words (n / 64) (up n bits) k (λ f. omega arith) i || (bit_down bits (64 - n % 64) (k % 64) ∙ ap (bit bits) there) i))
     (λ ne. joined_apart (first_set words n bits) (n / 64 + 1) down k ne
-    ∙ first_from words n bits (omega (arith, lt)) fits k from (λ other. omega (arith, from, ne, other)))
+    ∙ first_from words n bits (omega arith) fits k from (λ other. omega arith))

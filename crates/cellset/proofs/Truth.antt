@@ -1,10 +1,10 @@
 -- Facts about tests: what makes an `or` true, what an `and` says, a way to regroup an `or`, and what follows from
 -- either side. Each is proved by cases on the tests.
-use Rattle.std.proofs.Common.{◌≡◌, ◌⊎◌, Bool, true, false, not, ◌&&◌, ◌||◌, refl, ap, inl, inr}
+use Rattle.std.proofs.Common.{◌≡◌, ◌⊎◌, Bool, true, false, not, ◌&&◌, ◌||◌, refl, inl, inr}
 use Rattle.std.proofs.lemmas.Bool.{false≢true}
 
 pub left_true : (a b : Bool) → a ≡ true → (a || b) ≡ true
-left_true a b h = ap (λ v. v || b) h
+left_true a b h = search
 
 pub right_true : (a b : Bool) → b ≡ true → (a || b) ≡ true
 right_true true b h = refl

@@ -13,7 +13,6 @@ use Rattle.std.specs.Prelude.{count_ones}
 use Rattle.std.specs.Int.Count.{ones_step}
 use Rattle.std.proofs.lemmas.Nat.{ones-le}
 use Rattle.std.proofs.Math.Bool.{and-false, and-true}
-use Rattle.std.proofs.Common.{add-zero}
 use Rattle.std.proofs.Math.Nat.{pow-suc}
 use Rattle.cellset.specs.Bits.{bit, has_bit, bits_below, IsFirstBit}
 use Rattle.cellset.proofs.Truth.{either}
@@ -21,7 +20,7 @@ use Rattle.cellset.proofs.Bits.{bit-and, bit-not}
 
 -- ---- no bits
 pub zero_bit : (i : ℕ) → bit 0 i ≡ false
-zero_bit i = ap (λ b. nat_eq b 1) (bit_at-zero i)
+zero_bit i = search (bit_at-zero)
 
 pub none_in_zeros : (n k : ℕ) → has_bit (replicate n zero) k ≡ false
 none_in_zeros n k = ap (λ w. bit w (k % 64)) (zero_at n (k / 64)) ∙ zero_bit (k % 64)
@@ -41,14 +40,11 @@ or_zero a b none = same_from_bits a (bit_or a b) (λ i. sym
     (bit_at_or a b i ∙ ap (λ n. max (bit_at a i) (bit_at n i)) none ∙ ap (max (bit_at a i)) (bit_at-zero i) ∙ (omega arith)))
 
 pub none_past : (words : List ℕ) (k : ℕ) → length words ≤ k / 64 → has_bit words k ≡ false
-none_past words k past = ap (λ w. bit w (k % 64)) (word_past words (k / 64) past) ∙ zero_bit (k % 64)
+none_past words k past = search (word_past, zero_bit)
 
 -- bit 64 * i + j is bit j of word i
 pub bit_there : (words : List ℕ) (i j : ℕ) → j < 64 → has_bit words (64 * i + j) ≡ bit (get_or words i 0) j
-bit_there words i j small =
-    let word_is : (64 * i + j) / 64 ≡ i = omega (arith, small) in
-    let place_is : (64 * i + j) % 64 ≡ j = omega (arith, small) in
-    (λ k. bit (get_or words (word_is k) 0) (place_is k))
+bit_there words i j small = grind arith
 
 -- ---- the search
 pub record IsSearched (words : List ℕ) (n i word : ℕ) : Type 0 where
@@ -64,10 +60,10 @@ abbrev mask_from : ℕ → ℕ
 mask_from k = (2 ^ 64 - 1) * 2 ^ k % 2 ^ 64
 
 mask_inside : (k j : ℕ) → k ≤ j → j < 64 → bit (mask_from k) j ≡ true
-mask_inside k j low high = ap (λ m. bit m j) (ones_shl 64 k (omega (arith, low, high))) ∙ ap (λ b. nat_eq b 1) (bit_at_mask_inside k 64 j low high)
+mask_inside k j low high = ap (λ m. bit m j) (ones_shl 64 k (omega arith)) ∙ ap (λ b. nat_eq b 1) (bit_at_mask_inside k 64 j low high)
 
 mask_below : (k j : ℕ) → j < k → k ≤ 64 → bit (mask_from k) j ≡ false
-mask_below k j low high = ap (λ m. bit m j) (ones_shl 64 k high) ∙ ap (λ b. nat_eq b 1) (bit_at_mask_below k 64 j low)
+mask_below k j low high = search (ones_shl, bit_at_mask_below)
 
 pub search_starts : (words : List ℕ) (n : ℕ) → n / 64 < length words → get_or words (n / 64) 0 < 2 ^ 64
     → IsSearched words n (n / 64) (bit_and (get_or words (n / 64) 0) (mask_from (n % 64)))
@@ -78,41 +74,27 @@ search_starts words n lt fits =
       within = lt;
       from = omega arith;
       fits = and_lt 64 w mask fits (omega arith);
-      same = λ j small from. bit-and w mask j ∙ ap (λ b. bit w j && b) (mask_inside (n % 64) j (omega (arith, from)) small) ∙ and-true (bit w j)
+      same = λ j small from. bit-and w mask j ∙ ap (λ b. bit w j && b) (mask_inside (n % 64) j (omega arith) small) ∙ and-true (bit w j)
           ∙ sym (bit_there words (n / 64) j small);
-      masked = λ j small before. bit-and w mask j ∙ ap (λ b. bit w j && b) (mask_below (n % 64) j (omega (arith, before)) (omega arith)) ∙ and-false (bit w j);
-      passed = λ k low high. absurd (omega (arith, low, high));
+      masked = λ j small before. bit-and w mask j ∙ ap (λ b. bit w j && b) (mask_below (n % 64) j (omega arith) (omega arith)) ∙ and-false (bit w j);
+      passed = λ k low high. absurd (omega arith);
     }
 
 -- if the word is 0, no bit up to its end is set
 search_passed : (words : List ℕ) (n i word : ℕ) → IsSearched words n i word → word ≡ 0 → (k : ℕ) → n ≤ k → k < 64 * (i + 1) → has_bit words k ≡ false
-search_passed words n i word s empty k low high =
-    either (cases_lt k (64 * i)) (s.passed k low) (λ ge.
-    let there : 64 * i + (k - 64 * i) ≡ k = omega (arith, ge) in
-    ap (has_bit words) (sym there) ∙ sym (s.same (k - 64 * i) (omega (arith, ge, high)) (omega (arith, there, low))) ∙ ap (λ w. bit w (k - 64 * i)) empty
-    ∙ zero_bit (k - 64 * i))
+search_passed words n i word s empty k low high = grind (arith, either, cases_lt, zero_bit)
 
 pub search_goes_on : (words : List ℕ) (n i word : ℕ) → IsSearched words n i word → word ≡ 0 → i + 1 < length words → get_or words (i + 1) 0 < 2 ^ 64
     → IsSearched words n (i + 1) (get_or words (i + 1) 0)
-search_goes_on words n i word s empty within fits =
-    let from = s.from in
-    record {
-      within = within;
-      from = omega (arith, from);
-      fits = fits;
-      same = λ j small _. sym (bit_there words (i + 1) j small);
-      masked = λ j small before. absurd (omega (arith, from, before));
-      passed = search_passed words n i word s empty;
-    }
+search_goes_on words n i word s empty within fits = grind (arith, bit_there, search_passed)
 
 pub search_ends : (words : List ℕ) (n i word : ℕ) → IsSearched words n i word → word ≡ 0 → i + 1 ≡ length words → (k : ℕ) → n ≤ k → has_bit words k ≡ false
-search_ends words n i word s empty end k low =
-    either (cases_lt k (64 * (i + 1))) (search_passed words n i word s empty k low) (λ past. none_past words k (omega (arith, end, past)))
+search_ends words n i word s empty end k low = grind (arith, either, cases_lt, search_passed, none_past)
 
 pub search_finds : (words : List ℕ) (n i word : ℕ) → IsSearched words n i word → word ≢ 0 → IsFirstBit words n (Some (64 * i + trailing_zeros w64 word))
 search_finds words n i word s some =
     let t = trailing_zeros w64 word in
-    let lowest = bit_at-trailing_zeros w64 word (omega (arith, some)) s.fits in
+    let lowest = bit_at-trailing_zeros w64 word (omega arith) s.fits in
     let small = lowest.0 in
     let is_set : bit word t ≡ true = ap (λ b. nat_eq b 1) lowest.1 in
     let low : n ≤ 64 * i + t = either (cases_lt (64 * i + t) n) (λ lt. absurd (false≢true (sym (s.masked t small lt) ∙ is_set))) (λ ge. ge) in (
@@ -121,9 +103,9 @@ search_finds words n i word s some =
       (λ k from lt.
           either (cases_lt k (64 * i)) (s.passed k from)
           (λ ge.
-          let there : 64 * i + (k - 64 * i) ≡ k = omega (arith, ge) in
-          let below : k - 64 * i < t = omega (arith, ge, lt) in
-          ap (has_bit words) (sym there) ∙ sym (s.same (k - 64 * i) (omega (arith, below, small)) (omega (arith, there, from)))
+          let there : 64 * i + (k - 64 * i) ≡ k = omega arith in
+          let below : k - 64 * i < t = omega arith in
+          ap (has_bit words) (sym there) ∙ sym (s.same (k - 64 * i) (omega arith) (omega arith))
           ∙ ap (λ b. nat_eq b 1) (lowest.2 (k - 64 * i) below))),
     )
 
@@ -144,27 +126,25 @@ bit_counted (suc (suc a)) h = absurd (omega arith)
 -- the count of a number's first bits is its lowest bit and the count of its half
 ones_front : (w m : ℕ) → ones_below w (suc m) ≡ w % 2 + ones_below (w / 2) m
 unfolding ones_below
-ones_front w zero =
-    let lowest = bit_counted (bit_at w 0) (bit_at-lt w 0) ∙ bit_at_lowest w in
-    omega (arith, lowest)
+ones_front w zero = grind (arith, bit_counted, bit_at-lt, bit_at_lowest)
 ones_front w (suc m) =
     let rest = ones_front w m in
     let next = ap (λ b. one_if (nat_eq b 1)) (bit_at-suc w m) in
-    omega (arith, rest, next)
+    omega arith
 
 ones_all : (m w : ℕ) → w < 2 ^ m → ones_below w m ≡ count_ones w
 unfolding ones_below
-ones_all zero w h = let none = ones-le 0 w h in omega (arith, none)
-ones_all (suc m) w h = ones_front w m ∙ ap (λ n. w % 2 + n) (ones_all m (w / 2) (let double = pow-suc 2 m in omega (arith, double, h))) ∙ sym (ones_step w)
+ones_all zero w h = grind (arith, ones-le)
+ones_all (suc m) w h = ones_front w m ∙ ap (λ n. w % 2 + n) (ones_all m (w / 2) (let double = pow-suc 2 m in omega arith)) ∙ sym (ones_step w)
 
 count_within : (words : List ℕ) (i m : ℕ) → m ≤ 64 → bits_below words (64 * i + m) ≡ bits_below words (64 * i) + ones_below (get_or words i 0) m
 unfolding bits_below ones_below
-count_within words i zero h = ap (bits_below words) (add-zero (64 * i)) ∙ sym (add-zero (bits_below words (64 * i)))
+count_within words i zero h = grind arith
 count_within words i (suc m) h =
-    let rest = count_within words i m (omega (arith, h)) in
-    let here = ap one_if (bit_there words i m (omega (arith, h))) in
+    let rest = count_within words i m (omega arith) in
+    let here = ap one_if (bit_there words i m (omega arith)) in
     let up : 64 * i + suc m ≡ suc (64 * i + m) = omega arith in
-    ap (bits_below words) up ∙ (omega (arith, rest, here))
+    ap (bits_below words) up ∙ (omega arith)
 
 pub count_starts : (words : List ℕ) → 0 ≡ bits_below words 0
 unfolding bits_below
@@ -180,7 +160,7 @@ count_word words i fits =
 pub count_le : (words : List ℕ) (n : ℕ) → bits_below words n ≤ n
 unfolding bits_below
 count_le words zero = omega arith
-count_le words (suc n) = let rest = count_le words n in let one = at_most_one (has_bit words n) in omega (arith, rest, one)
+count_le words (suc n) = let rest = count_le words n in let one = at_most_one (has_bit words n) in omega arith
   where
     at_most_one : (b : Bool) → one_if b ≤ 1
     at_most_one true = omega arith
@@ -189,12 +169,12 @@ count_le words (suc n) = let rest = count_le words n in let one = at_most_one (h
 -- if no bit is set from n on, the count stays the same from there
 pub count_clear : (words : List ℕ) (n d : ℕ) → ((k : ℕ) → n ≤ k → has_bit words k ≡ false) → bits_below words (n + d) ≡ bits_below words n
 unfolding bits_below
-count_clear words n zero clear = ap (bits_below words) (add-zero n)
+count_clear words n zero clear = grind arith
 count_clear words n (suc d) clear =
     let rest = count_clear words n d clear in
     let none = ap one_if (clear (n + d) (omega arith)) in
     let up : n + suc d ≡ suc (n + d) = omega arith in
-    ap (bits_below words) up ∙ (omega (arith, rest, none))
+    ap (bits_below words) up ∙ (omega arith)
 
 -- ---- words that are within others
 within_false : (a b : Bool) → (a && not b) ≡ false → a ≡ true → b ≡ true
@@ -226,7 +206,7 @@ one_outside words others i fits others_fit some all =
     let both = bit_and a (bit_not w64 b) in
     let t = trailing_zeros w64 both in
     let up = others_fit i in
-    let lowest = bit_at-trailing_zeros w64 both (omega (arith, some)) (and_lt 64 a (bit_not w64 b) (fits i) (omega (arith, up))) in
+    let lowest = bit_at-trailing_zeros w64 both (omega arith) (and_lt 64 a (bit_not w64 b) (fits i) (omega arith)) in
     let small = lowest.0 in
     let parts = outside_true (bit a t) (bit b t) (ap (λ c. bit a t && c) (sym (bit-not b t up small)) ∙ sym (bit-and a (bit_not w64 b) t)
     ∙ ap (λ v. nat_eq v 1) lowest.1) in
@@ -240,7 +220,7 @@ count_four words i fits =
     let two = step (i + 1) (i + 2) (omega arith) in
     let three = step (i + 2) (i + 3) (omega arith) in
     let four = step (i + 3) (i + 4) (omega arith) in
-    omega (arith, one, two, three, four)
+    omega arith
   where
     step : (j k : ℕ) → j + 1 ≡ k → bits_below words (64 * k) ≡ bits_below words (64 * j) + count_ones (get_or words j 0)
     step j k e = ap (λ n. bits_below words (64 * n)) (sym e) ∙ count_word words j (fits j)

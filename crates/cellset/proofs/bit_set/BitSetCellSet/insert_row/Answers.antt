@@ -2,14 +2,13 @@
 -- grid (`first_there`). The words get the bits from the place of that cell on, and keep the bits before it: `IsRowAdded` says this. So the
 -- members are the old ones and the cells of the bits (`row_members`), and the words stay bits of cells of the grid, which is
 -- the invariant of the type (`row_bits`).
-use Rattle.std.proofs.Common.{◌≡◌, ◌≢◌, ℕ, ◌<◌, ◌||◌, ◌+◌, ◌*◌, ◌-◌, ◌/◌, ◌^◌, length, take, drop, ◌++◌, sym, ◌∙◌, ap, subst, arith}
+use Rattle.std.proofs.Common.{◌≡◌, ◌≢◌, ℕ, ◌<◌, ◌||◌, ◌+◌, ◌*◌, ◌-◌, ◌/◌, ◌^◌, length, take, drop, ◌++◌, ◌∙◌, ap, arith}
 use Rattle.cellset.specs.Shape.{Extent}
 use Rattle.cellset.specs.Cell.{IsOn, cell_at}
 use Rattle.cellset.specs.RowBits.{IsRowOn}
 use Rattle.cellset.specs.SortedList.{index}
 use Rattle.cellset.specs.Bits.{bit, has_bit}
 use Rattle.cellset.specs.BitSet.{first_cell}
-use Rattle.cellset.proofs.ReadingOrder.{below_index}
 use Rattle.cellset.proofs.BitSets.{put_back}
 use Rattle.cellset.proofs.Rows.{IsRowAdded, row_members, row_bits, first_there, row_empty}
 use Rattle.cellset.proofs.bit_set.BitSetCellSet.insert_row.Goals as goal
@@ -21,19 +20,19 @@ returns-then-bits-eq0-clause-members c = row_empty c.args.self.now.members c.arg
 there : (shape extent : Extent) (row part bits : ℕ) → shape ≡ extent → bits < 2 ^ 64 → bits ≢ 0 → IsRowOn extent row part bits
     → IsOn shape (first_cell row part)
 there shape extent row part bits same fits some row_on =
-    first_there shape row part bits fits some (subst (λ (e : Extent). IsRowOn e row part bits) (sym same) row_on)
+    first_there shape row part bits fits some (rw same row_on)
 
 pub overflow_mul-first : goal.overflow_mul-first
 overflow_mul-first c =
     let on = there c.self.inside.shape _ c.args.row c.args.part c.args.bits (ap (λ v. v.extent) c.self.view_is) c.ranges.bits.fits c.if-bits-eq0.false
     c.requires in
-    omega (arith, on.right, c.self.invariant.sides.not_too_wide)
+    omega arith
 
 pub overflow_add-first : goal.overflow_add-first
 overflow_add-first c =
     let on = there c.self.inside.shape _ c.args.row c.args.part c.args.bits (ap (λ v. v.extent) c.self.view_is) c.ranges.bits.fits c.if-bits-eq0.false
     c.requires in
-    omega (arith, on.right, c.self.invariant.sides.not_too_wide, c.lead.ensures)
+    omega arith
 
 pub index_of-requires : goal.index_of-requires
 index_of-requires c =
@@ -41,17 +40,11 @@ index_of-requires c =
     (there c.self.inside.shape _ c.args.row c.args.part c.args.bits (ap (λ v. v.extent) c.self.view_is) c.ranges.bits.fits c.if-bits-eq0.false c.requires)
 
 pub set_bits-requires : goal.set_bits-requires
-set_bits-requires c =
-    let shape = c.self.inside.shape in
-    let on = there c.self.inside.shape _ c.args.row c.args.part c.args.bits (ap (λ v. v.extent) c.self.view_is) c.ranges.bits.fits c.if-bits-eq0.false
-    c.requires in
-    let place_is = c.index_of.ensures.value ∙ ap (λ n. index shape (cell_at (64 * c.args.part + n) c.args.row)) c.lead.ensures in
-    omega (arith, below_index shape (first_cell c.args.row c.args.part) on, place_is, c.self.invariant.len, ap length c.deref_mut.ensures.value)
+set_bits-requires c = grind (arith, there)
 
 whole : (c : goal.After-self-1) → take c.self.inside.words.len
     (c.set_bits.new.words ++ drop (length c.set_bits.new.words) c.self.inside.words.items) ≡ c.set_bits.new.words
-whole c = put_back c.self.inside.words.len c.self.inside.words.items c.set_bits.new.words c.self.inside.words.ok.0
-    (c.set_bits.auto.words ∙ ap length c.deref_mut.ensures.value)
+whole c = grind (arith, put_back)
 
 added : (c : goal.After-self-1) → IsRowAdded c.self.inside.shape c.self.inside.words.items c.set_bits.new.words c.args.row c.args.part c.args.bits
 added c =
@@ -60,7 +53,7 @@ added c =
     let place_is = c.index_of.ensures.value ∙ ap (λ n. index shape (cell_at (64 * c.args.part + n) c.args.row)) c.lead.ensures in
     record {
       first = there shape _ c.args.row c.args.part c.args.bits (ap (λ v. v.extent) c.self.view_is) c.ranges.bits.fits c.if-bits-eq0.false c.requires;
-      row_on = subst (λ (e : Extent). IsRowOn e c.args.row c.args.part c.args.bits) (sym (ap (λ v. v.extent) c.self.view_is)) c.requires;
+      row_on = rw (ap (λ v. v.extent) c.self.view_is) c.requires;
       fits = c.ranges.bits.fits;
       len = c.set_bits.auto.words ∙ ap length old;
       before = λ k lt. c.set_bits.ensures.before k (rw place_is lt) ∙ ap (λ ws. has_bit ws k) old;
@@ -73,5 +66,4 @@ invariant_of-self c =
     rw (whole c) (row_bits c.self.inside.shape c.self.inside.words.items c.set_bits.new.words c.args.row c.args.part c.args.bits c.self.invariant (added c))
 
 pub returns-clause-members : goal.returns-clause-members
-returns-clause-members c = rw (whole c, ← c.self.view_is)
-    (row_members c.self.inside.shape c.self.inside.words.items c.set_bits.new.words c.args.row c.args.part c.args.bits c.self.invariant (added c))
+returns-clause-members c = grind (arith, whole, row_members, added)

@@ -1,11 +1,9 @@
-use Rattle.std.proofs.Common.{◌≡◌, ℕ, ◌<◌, ◌≤◌, length, get_or, List, Bor, refl, sym, ◌∙◌, ap, subst, Option, Some, None}
+use Rattle.std.proofs.Common.{◌≡◌, ℕ, ◌<◌, ◌≤◌, length, get_or, List, Bor, refl, sym, ◌∙◌, ap, Option, Some, None}
 use Rattle.std.specs.Prelude.{slice_get, IfSome}
 use Rattle.std.specs.Option.{MatchOption, option_copied}
 use Rattle.std.specs.List.{HoldsAt}
 use Rattle.std.proofs.lemmas.Option.{slice_get_read, slice_get_past}
-use Rattle.cellset.specs.CellSet.{CellsOn, IsFirstFrom}
 use Rattle.cellset.specs.declared.cell.Cell.{Cell}
-use Rattle.cellset.specs.SortedList.{IsGap, set_of}
 use Rattle.cellset.proofs.SortedCells.{first_gap}
 use Rattle.cellset.proofs.list_set.ListSetCellSet.next_from.Goals as goal
 
@@ -18,9 +16,8 @@ got xs i (Some x) is at = slice_get_read xs (length xs) i x.now refl at.0 is
 pub returns-in-Err-clause-first : goal.returns-in-Err-clause-first
 returns-in-Err-clause-first c =
     let xs = c.self.inside.cells.items in
-    let gap = subst (λ (xs : List Cell). IsGap xs c.args.cell c.in-Err.at) c.deref.ensures.value c.in-Err.ensures in
+    let gap = rw c.deref.ensures.value at c.in-Err.ensures in
     let lookup = c.get.ensures.lookup in
-    let is = ap (λ (xs : List Cell). slice_get xs c.in-Err.at) (sym c.deref-in-Err.ensures.value)
+    let is = ap (λ xs. slice_get xs c.in-Err.at) (sym c.deref-in-Err.ensures.value)
     ∙ got c.deref-in-Err.result.now c.in-Err.at c.get.result lookup.1 lookup.3 ∙ sym c.copied.ensures in
-    subst (λ (v : CellsOn). IsFirstFrom v.members c.args.cell c.copied.result) c.self.view_is
-    (subst (IsFirstFrom (set_of xs) c.args.cell) is (first_gap xs c.args.cell c.in-Err.at c.self.invariant.sorted gap))
+    rw (← c.self.view_is) (rw is at (first_gap xs c.args.cell c.in-Err.at c.self.invariant.sorted gap))
