@@ -1,6 +1,6 @@
 """Takes over the answers of the last check: gives each to the levels that have its board, and
 finds out afterwards which of them have no place any more."""
-from typing import Dict, List, NamedTuple, Sequence, Set, Tuple
+from typing import Dict, Hashable, List, NamedTuple, Sequence, Set, Tuple
 
 from . import answers, changes, kept, memory, picks
 from .blocks import Block
@@ -99,7 +99,7 @@ class Taken:
         found = {id(record): Own(record, before.levels[record.level - 1], [])
                  for record in records}
         places = {match.new + 1: match for match in changes.matches(before, self.now)}
-        carried = carry.carried(records, before.forms, self.now.forms)
+        carried = self._carried(records, before, places)
         changed = {match.old + 1: match.new + 1 for match in places.values() if match.turn is None}
         for record in records:
             if record.level in changed:
@@ -114,6 +114,25 @@ class Taken:
                                stays=stays and is_own)
                 found[id(one.record)].targets.append((number, one.text))
         return list(found.values())
+
+    def _carried(self, records: Sequence[answers.Record], before: changes.State,
+                 places: Dict[int, changes.Match]) -> Dict[int, List[carry.Carried]]:
+        """Returns the records for each level that has the board of theirs."""
+        # Of equal answers to the same board one goes to all levels that have it.
+        first: Dict[Hashable, answers.Record] = {}
+        for record in records:
+            form = before.forms[record.level - 1]
+            first.setdefault((form.key, form.turn[:4], *record.above, *record.raw[1:]), record)
+        carried = carry.carried(list(first.values()), before.forms, self.now.forms)
+        taken = {id(record) for record in first.values()}
+        numbers = {match.old + 1: match.new + 1 for match in places.values() if match.turn}
+        for record in records:
+            number = numbers.get(record.level, 0)
+            if number and id(record) not in taken:
+                text = carry.turned(record, number, before.forms[record.level - 1],
+                                    self.now.forms[number - 1])
+                carried.setdefault(number, []).append(carry.Carried(number, text, record))
+        return carried
 
     # ---- once the answers were chosen
 
