@@ -1,7 +1,7 @@
 -- The answers text around a body without a line `end` spells one record of level 1, so it has no fault.
 -- Its lines are the header, the level line, the kind line, those of the body, and `end`. Whatever the lines of a body are, the grammar
 -- reads something in them.
-use Rattle.std.proofs.Common.{◌≡◌, ◌≢◌, ℕ, ◌+◌, ◌-◌, ◌==◌, Bool, true, false, cond, List, [], ◌∷◌, ◌++◌, length, map, drop, slice_index, refl, sym, ◌∙◌, ap, subst, inr, arith, append_assoc, length-append, lit<, lit≤}
+use Rattle.std.proofs.Common.{◌≡◌, ◌≢◌, ℕ, ◌+◌, ◌-◌, ◌==◌, Bool, true, false, cond, List, [], ◌∷◌, ◌++◌, length, map, drop, slice_index, refl, sym, ◌∙◌, ap, inr, arith, append_assoc, length-append, lit<, lit≤}
 use Rattle.std.specs.Prelude.{codes, filter}
 use Rattle.std.specs.List.{AllByRecursion, flat_map}
 use Rattle.std.proofs.Math.Seq.{get_or-append_seam}
@@ -33,17 +33,17 @@ abbrev head_lines : Kind → List (List ℕ)
 head_lines k = header_text 2 ∷ level_text 1 ∷ kind_line k ∷ []
 
 kind_plain : (k : Kind) → IsPlainLine (kind_line k)
-kind_plain Solution = record { some = lit< tt; plain = refl }
-kind_plain Unsolvable = record { some = lit< tt; plain = refl }
+kind_plain Solution = grind arith
+kind_plain Unsolvable = grind arith
 
 end_plain : IsPlainLine (codes "end")
-end_plain = record { some = lit< tt; plain = refl }
+end_plain = grind arith
 
 last_is : (line : List ℕ) → length (ended line) - 1 ≡ length line
 last_is line = omega (arith, length-append line (10 ∷ []))
 
 ends_at : (line : List ℕ) → slice_index (ended line) (length (ended line) - 1) ≡ 10
-ends_at line = ap (slice_index (ended line)) (last_is line) ∙ get_or-append_seam line 10 [] 0
+ends_at line = search (last_is, get_or-append_seam)
 
 abbrev head_of : Kind → List ℕ
 head_of k = flat_map ended (head_lines k)
@@ -63,8 +63,7 @@ all_lines : (k : Kind) (body text : List ℕ) → text ≡ head_of k ++ ((body +
     → lines_in text ≡ header_text 2 ∷ level_text 1 ∷ kind_line k ∷ (lines_in (body ++ 10 ∷ []) ++ codes "end" ∷ [])
 all_lines k body text is =
     let rest = (body ++ 10 ∷ []) ++ codes "end\n" in
-    ap lines_in is
-    ∙ ap (map without_terminator) (lines-append (length (head_of k)) (head_of k) rest (omega arith) (inr (head_ends k)))
+    ap lines_in is ∙ ap (map without_terminator) (lines-append (length (head_of k)) (head_of k) rest (omega arith) (inr (head_ends k)))
     ∙ map-append without_terminator (lines_of (head_of k)) (lines_of rest)
     ∙ ap (λ (ls : List (List ℕ)). ls ++ lines_in rest) (lines_again (head_lines k) (plain_header 2, (plain_level 1, (kind_plain k, tt))))
     ∙ ap (λ (ls : List (List ℕ)). header_text 2 ∷ level_text 1 ∷ kind_line k ∷ ls) (body_lines body)
@@ -143,5 +142,4 @@ no_fault one refused level kind body line why none (levels, are, count) (short, 
     let (others, they, few, fault) = error in
     let number : length others ≡ 1 = ap length (one others levels (lines_in (without_mark level)) they are) ∙ count in
     let (entry, spells) = spells_by (kind == 1) body none in
-    refused (answers_around kind body) 1 (entry ∷ []) (answers_fault_of line why) spells
-    (subst (λ (n : ℕ). IsFirstAnswersFault (answers_around kind body) n (answers_fault_of line why)) number fault)
+    refused (answers_around kind body) 1 (entry ∷ []) (answers_fault_of line why) spells (rw number at fault)

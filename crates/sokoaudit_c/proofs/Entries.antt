@@ -27,10 +27,10 @@ use Rattle.sokoaudit_c.proofs.Spelled.{refused_status, spelled_words}
 -- ---- the entry at a position
 written : {A : Type 0} (old xs : List A) (n : ℕ) (x : A) → n < length xs → slice_get (take (length old) xs ++ drop (length xs) old) n ≡ Some x
     → slice_get xs n ≡ Some x
-written old [] n x below there = absurd (omega (arith, below))
+written old [] n x below there = absurd (omega arith)
 written [] (y ∷ xs) n x below there = absurd cc
 written (o ∷ old) (y ∷ xs) zero x below there = there
-written (o ∷ old) (y ∷ xs) (suc n) x below there = written old xs n x (omega (arith, below)) there
+written (o ∷ old) (y ∷ xs) (suc n) x below there = written old xs n x (omega arith) there
 
 mapped : {A B : Type 0} (f : A → B) (xs : List A) (n : ℕ) (y : B) → slice_get (map f xs) n ≡ Some y → (x : A) × (slice_get xs n ≡ Some x) × (f x ≡ y)
 mapped f [] n y there = absurd cc
@@ -44,76 +44,57 @@ same_length f (x ∷ xs) = ap suc (same_length f xs)
 -- an entry at the position of a level is the entry of its status
 entry_at : (old new : List Line) (statuses : List Status) → Holds old new (map numbers_of statuses) → (n : ℕ) (line : Line) → n < length statuses
     → slice_get new n ≡ Some line → (status : Status) × (slice_get statuses n ≡ Some status) × (numbers_of status ≡ line)
-entry_at old new statuses holds n line below there =
-    let long = same_length numbers_of statuses in
-    let within : n < length (map numbers_of statuses) = omega (arith, below, long) in
-    mapped numbers_of statuses n line (written old (map numbers_of statuses) n line within (subst (λ (ls : List Line). slice_get ls n ≡ Some line) holds there))
+entry_at old new statuses holds n line below there = grind (arith, same_length, mapped, written)
 
 -- ---- the entries as they are written
 
 next_entry : {A B : Type 0} (f : A → B) (xs : List A) (old : List B) (k : ℕ) (d : A) → k < length xs → k < length old
     → slice_set (take k (map f xs) ++ drop k old) k (f (get_or xs k d)) ≡ take (suc k) (map f xs) ++ drop (suc k) old
-next_entry f [] old k d below room = absurd (omega (arith, below))
-next_entry f (x ∷ xs) [] k d below room = absurd (omega (arith, room))
+next_entry f [] old k d below room = absurd (omega arith)
+next_entry f (x ∷ xs) [] k d below room = absurd (omega arith)
 next_entry f (x ∷ xs) (o ∷ old) zero d below room = refl
-next_entry f (x ∷ xs) (o ∷ old) (suc k) d below room = ap (λ ls. f x ∷ ls) (next_entry f xs old k d (omega (arith, below)) (omega (arith, room)))
+next_entry f (x ∷ xs) (o ∷ old) (suc k) d below room = ap (λ ls. f x ∷ ls) (next_entry f xs old k d (omega arith) (omega arith))
 
 -- one more entry is written at its position, over the old one
 pub entry_added : {A B : Type 0} (f : A → B) (xs : List A) (old lines : List B) (k taken : ℕ) (d : A) (x : B) → k < taken → taken ≡ min (length xs) (length old)
     → lines ≡ take k (map f xs) ++ drop k old → x ≡ f (get_or xs k d) → slice_set lines k x ≡ take (k + 1) (map f xs) ++ drop (k + 1) old
-entry_added {A = A} {B = B} f xs old lines k taken d x below room so_far is =
-    let one : suc k ≡ k + 1 = omega arith in
-    let left = min-le_left (length xs) (length old) in
-    let right = min-le_right (length xs) (length old) in
-    ap (λ (ls : List B). slice_set ls k x) so_far ∙ ap (λ (y : B). slice_set (take k (map f xs) ++ drop k old) k y) is
-    ∙ next_entry f xs old k d (omega (arith, below, room, left)) (omega (arith, below, room, right))
-    ∙ ap (λ (n : ℕ). take n (map f xs) ++ drop n old) one
+entry_added {A = A} {B = B} f xs old lines k taken d x below room so_far is = grind (arith, min-le_left, min-le_right, next_entry)
 
 -- ---- what an entry claims
 right_solved : (rows : List (List ℕ)) (answer : Option Body) (status : Status) → Means rows answer status → (numbers_of status).status ≡ 1
     → IsSolvedBy rows answer (tally_of (numbers_of status))
 right_solved rows answer (Solved tally) means is = means
-right_solved rows answer (Unsolvable k) means is = absurd (omega (arith, is))
-right_solved rows answer (UnsolvableZone k) means is = absurd (omega (arith, is))
-right_solved rows answer (Refused why) means is =
-    elim (refused_status why) [ inl none ↦ absurd (omega (arith, is, none)) | inr some ↦ let low = some.0 in absurd (omega (arith, is, low)) ]
-right_solved rows answer Missing means is = absurd (omega (arith, is))
+right_solved rows answer (Unsolvable k) means is = absurd (omega arith)
+right_solved rows answer (UnsolvableZone k) means is = absurd (omega arith)
+right_solved rows answer (Refused why) means is = grind (arith, refused_status)
+right_solved rows answer Missing means is = absurd (omega arith)
 
 right_unsolvable : (rows : List (List ℕ)) (answer : Option Body) (status : Status) → Means rows answer status
     → ((numbers_of status).status ≡ 2) ⊎ ((numbers_of status).status ≡ 3) → IsUnsolvable rows
-right_unsolvable rows answer (Solved tally) means (inl is) = absurd (omega (arith, is))
-right_unsolvable rows answer (Solved tally) means (inr is) = absurd (omega (arith, is))
+right_unsolvable rows answer (Solved tally) means (inl is) = absurd (omega arith)
+right_unsolvable rows answer (Solved tally) means (inr is) = absurd (omega arith)
 right_unsolvable rows answer (Unsolvable k) means is = means
 right_unsolvable rows answer (UnsolvableZone k) means is = means
-right_unsolvable rows answer (Refused why) means (inl is) =
-    elim (refused_status why) [ inl none ↦ absurd (omega (arith, is, none)) | inr some ↦ let low = some.0 in absurd (omega (arith, is, low)) ]
-right_unsolvable rows answer (Refused why) means (inr is) =
-    elim (refused_status why) [ inl none ↦ absurd (omega (arith, is, none)) | inr some ↦ let low = some.0 in absurd (omega (arith, is, low)) ]
-right_unsolvable rows answer Missing means (inl is) = absurd (omega (arith, is))
-right_unsolvable rows answer Missing means (inr is) = absurd (omega (arith, is))
+right_unsolvable rows answer (Refused why) means (inl is) = grind (arith, refused_status)
+right_unsolvable rows answer (Refused why) means (inr is) = grind (arith, refused_status)
+right_unsolvable rows answer Missing means (inl is) = absurd (omega arith)
+right_unsolvable rows answer Missing means (inr is) = absurd (omega arith)
 
 -- the entry of a level is that of a status that the level has
 module _ (lt at : List ℕ) (statuses : List Status) (are : AreStatuses lt at statuses) (old new : List Line)
     (holds : Holds old new (map numbers_of statuses)) where
   meant : (before : ℕ) (rows : List (List ℕ)) (line : Line) → slice_get are.levels before ≡ Some rows → slice_get new before ≡ Some line
       → (status : Status) × Means rows (answer_to (before + 1) are.entries) status × (numbers_of status ≡ line)
-  meant before rows line level there =
-      let (status, got, means) = each_at Means 1 before are.levels are.entries statuses rows are.mean level in
-      let (other, at_place, is) = entry_at old new statuses holds before line (slice_get_within statuses before status got) there in
-      let both : Some status ≡ Some other = sym got ∙ at_place in
-      let same : status ≡ other = cc in
-      (status, means, ap numbers_of same ∙ is)
+  meant before rows line level there = grind (arith, each_at, entry_at, slice_get_within)
 
   pub are_right : AreRight are.levels are.entries new
   are_right = record {
     solved = λ before rows line level there is.
         let (status, means, line_is) = meant before rows line level there in
-        subst (λ (l : Line). IsSolvedBy rows (answer_to (before + 1) are.entries) (tally_of l)) line_is
-        (right_solved rows (answer_to (before + 1) are.entries) status means (ap (λ (l : Line). l.status) line_is ∙ is));
+        rw line_is at (right_solved rows (answer_to (before + 1) are.entries) status means (ap (λ (l : Line). l.status) line_is ∙ is));
     unsolvable = λ before rows line level there is.
         let (status, means, line_is) = meant before rows line level there in
-        right_unsolvable rows (answer_to (before + 1) are.entries) status means
-        (subst (λ (l : Line). (l.status ≡ 2) ⊎ (l.status ≡ 3)) (sym line_is) is);
+        right_unsolvable rows (answer_to (before + 1) are.entries) status means (rw line_is is);
   }
 
   pub spell_report :
@@ -125,7 +106,6 @@ module _ (lt at : List ℕ) (statuses : List Status) (are : AreStatuses lt at st
       let mine = report_by lt at statuses (report_text statuses) (summary_of statuses) are refl refl in
       let same = one lt at text (report_text statuses) summary (summary_of statuses) report mine in
       let count = ap (λ (s : Summary). s.levels) same.1 in
-      let within : before < length statuses = omega (arith, below, count) in
+      let within : before < length statuses = omega arith in
       let (status, got, is) = entry_at old new statuses holds before line within there in
-      subst (λ (w : List ℕ). HasWords text before w) (sym (spelled_words status) ∙ ap spelled is)
-      (subst (λ (t : List ℕ). HasWords t before (words_of status)) (sym same.0) (words statuses before status got))
+      rw (sym (spelled_words status) ∙ ap spelled is) at (subst (λ (t : List ℕ). HasWords t before (words_of status)) (sym same.0) (words statuses before status got))

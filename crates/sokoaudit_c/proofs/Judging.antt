@@ -1,11 +1,10 @@
 -- A verdict is the one status of the two texts, and a fault comes from their error or from the number of their statuses.
 -- There are as many statuses as levels. An error of the answers can come of a text without levels, so these are counted first.
-use Rattle.std.proofs.Common.{◌≡◌, ◌⊎◌, ℕ, ◌<◌, List, [], ◌∷◌, length, refl, sym, ◌∙◌, subst, inl, inr, arith}
+use Rattle.std.proofs.Common.{◌≡◌, ◌⊎◌, ℕ, ◌<◌, List, [], ◌∷◌, length, refl, sym, subst, inl, inr, arith}
 use Rattle.std.specs.Prelude.{Result, Ok, Err, IfOk, IfErr}
 use Rattle.report.specs.Audit.{IsFirstError}
 use Rattle.report.specs.Collection.{HasTooManyLevels}
 use Rattle.report.specs.Report.{AreStatuses}
-use Rattle.report.specs.Status.{Says}
 use Rattle.report.specs.declared.fault.AuditError.{AuditError}
 use Rattle.report.specs.declared.fault.AuditError.TheVariants as error_is
 use Rattle.report.specs.declared.fault.Why.{Why}
@@ -16,7 +15,7 @@ use Rattle.sokoaudit_c.specs.declared.judge.Fault.{Fault}
 use Rattle.sokoaudit_c.specs.declared.judge.Fault.TheVariants as fault
 
 levels_as : (level at : List ℕ) (statuses : List Status) → AreStatuses level at statuses → HasLevels level (length statuses)
-levels_as level at statuses are = (are.levels, are.levels_are, sym (each_long Says 1 are.levels are.entries statuses are.say))
+levels_as level at statuses are = grind (arith, each_long)
 
 pub one_ok : (level at : List ℕ) (statuses : List Status) (r : Result Status Fault) → AreStatuses level at statuses
     → IfOk r (λ status. statuses ≡ status ∷ []) → IfOk r (λ status. AreStatuses level at (status ∷ []))
@@ -28,7 +27,7 @@ pub one_err : (level : List ℕ) (kind : ℕ) (body at : List ℕ) (statuses : L
 one_err level kind body at statuses (Ok status) are is = tt
 one_err level kind body at statuses (Err f) are (inl none) =
     let (is, long) = none in
-    let no_level : HasFault level kind body fault.NoLevel = subst (HasLevels level) long (levels_as level at statuses are) in
+    let no_level : HasFault level kind body fault.NoLevel = rw long at (levels_as level at statuses are) in
     subst (HasFault level kind body) (sym is) no_level
 one_err level kind body at statuses (Err f) are (inr many) =
     let (is, above) = many in
@@ -36,12 +35,12 @@ one_err level kind body at statuses (Err f) are (inr many) =
     subst (HasFault level kind body) (sym is) levels
 
 pub many : (level : List ℕ) → HasTooManyLevels level → (n : ℕ) × HasLevels level n × (1 < n)
-many level (levels, are, above) = (length levels, (levels, are, refl), omega (arith, above))
+many level (levels, are, above) = (length levels, (levels, are, refl), omega arith)
 
 -- an error of two texts is their first error, unless it is out of memory
 pub error_of : (level at : List ℕ) (error this : AuditError) → error ≡ this → (this ≡ error_is.Memory → ⊥)
     → (error ≡ error_is.Memory) ⊎ IsFirstError level at error → IsFirstError level at this
-error_of level at error this is other (inl none) = absurd (other (sym is ∙ none))
+error_of level at error this is other (inl none) = grind arith
 error_of level at error this is other (inr first) = subst (IsFirstError level at) is first
 
 pub many_by : (level at : List ℕ) → IsFirstError level at error_is.TooManyLevels → (n : ℕ) × HasLevels level n × (1 < n)

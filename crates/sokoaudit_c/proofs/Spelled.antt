@@ -1,6 +1,6 @@
 -- The numbers of a status spell the words of its line. Each kind of line has its own status, and each of its numbers is there.
-use Rattle.std.proofs.Common.{◌≡◌, ◌⊎◌, ℕ, ◌<◌, List, [], ◌∷◌, ◌++◌, ap, refl, inl, inr, lit<}
-use Rattle.std.specs.Prelude.{codes, decimal}
+use Rattle.std.proofs.Common.{◌≡◌, ◌⊎◌, ◌<◌, [], ◌∷◌, ◌++◌, refl, inl, inr, lit<}
+use Rattle.std.specs.Prelude.{codes}
 use Rattle.cellset.specs.declared.dir.Dir.{Dir}
 use Rattle.cellset.specs.declared.dir.Dir.TheVariants.{L, U, R, D}
 use Rattle.board.specs.declared.reading.BoardFault.{BoardFault}
@@ -61,28 +61,25 @@ letter R = refl
 letter D = refl
 
 solution : (fault : ReplayFault) → refusal_spelled (numbers_of_solution fault) ≡ solution_words fault
-solution (replay_fault.Move number why) = ap (λ (w : List ℕ). codes "move " ++ decimal number ++ codes " " ++ w) (step why)
+solution (replay_fault.Move number why) = search (step)
 solution (replay_fault.Unsolved boxes) = refl
 solution replay_fault.Memory = refl
 
 list : (fault : CheckFault) → refusal_spelled (numbers_of_list fault) ≡ patterns_words fault
-list (check_fault.Line n why) = ap (λ (w : List ℕ). codes "line " ++ decimal n ++ codes " " ++ w) (line why)
+list (check_fault.Line n why) = search (line)
 list check_fault.Start = refl
-list (check_fault.Push n player dir) =
-    ap (λ (w : List ℕ). codes "line " ++ decimal n ++ codes " push " ++ (decimal player.column ++ codes "," ++ decimal player.row ++ codes " " ++ w))
-    (letter dir)
+list (check_fault.Push n player dir) = search (letter)
 list check_fault.Memory = refl
 
 zone : (fault : ZoneFault) → refusal_spelled (numbers_of_zone fault) ≡ zone_words fault
-zone (zone_fault.Line n why) = ap (λ (w : List ℕ). codes "line " ++ decimal n ++ codes " " ++ w) (zone_line why)
-zone (zone_fault.Leak n cell dir) =
-    ap (λ (w : List ℕ). codes "line " ++ decimal n ++ codes " leak " ++ (decimal cell.column ++ codes "," ++ decimal cell.row ++ codes " " ++ w)) (letter dir)
+zone (zone_fault.Line n why) = search (zone_line)
+zone (zone_fault.Leak n cell dir) = search (letter)
 zone (zone_fault.Fits n) = refl
 zone zone_fault.Memory = refl
 
 refusal : (why : Refusal) → refusal_spelled (numbers_of_refusal why) ≡ refusal_words why
-refusal (Board why) = ap (λ (w : List ℕ). codes "board " ++ w) (board why)
-refusal (BadLine n why) = ap (λ (w : List ℕ). codes "line " ++ decimal n ++ codes " " ++ w) (bad why)
+refusal (Board why) = search (board)
+refusal (BadLine n why) = search (bad)
 refusal (Solution fault) = solution fault
 refusal (Patterns fault) = list fault
 refusal (Zone fault) = zone fault
@@ -104,17 +101,17 @@ refused_status (Zone (zone_fault.Fits n)) = inr (lit< tt, lit< tt)
 refused_status (Zone zone_fault.Memory) = inl refl
 
 refused : (why : Refusal) → spelled (numbers_of_refusal why) ≡ codes "refused " ++ refusal_words why
-refused (Board why) = ap (λ (w : List ℕ). codes "refused " ++ w) (refusal (Board why))
-refused (BadLine n why) = ap (λ (w : List ℕ). codes "refused " ++ w) (refusal (BadLine n why))
-refused (Solution (replay_fault.Move number why)) = ap (λ (w : List ℕ). codes "refused " ++ w) (solution (replay_fault.Move number why))
+refused (Board why) = search (refusal)
+refused (BadLine n why) = search (refusal)
+refused (Solution (replay_fault.Move number why)) = search (solution)
 refused (Solution (replay_fault.Unsolved boxes)) = refl
 refused (Solution replay_fault.Memory) = refl
-refused (Patterns (check_fault.Line n why)) = ap (λ (w : List ℕ). codes "refused " ++ w) (list (check_fault.Line n why))
+refused (Patterns (check_fault.Line n why)) = search (list)
 refused (Patterns check_fault.Start) = refl
-refused (Patterns (check_fault.Push n player dir)) = ap (λ (w : List ℕ). codes "refused " ++ w) (list (check_fault.Push n player dir))
+refused (Patterns (check_fault.Push n player dir)) = search (list)
 refused (Patterns check_fault.Memory) = refl
-refused (Zone (zone_fault.Line n why)) = ap (λ (w : List ℕ). codes "refused " ++ w) (zone (zone_fault.Line n why))
-refused (Zone (zone_fault.Leak n cell dir)) = ap (λ (w : List ℕ). codes "refused " ++ w) (zone (zone_fault.Leak n cell dir))
+refused (Zone (zone_fault.Line n why)) = search (zone)
+refused (Zone (zone_fault.Leak n cell dir)) = search (zone)
 refused (Zone (zone_fault.Fits n)) = refl
 refused (Zone zone_fault.Memory) = refl
 

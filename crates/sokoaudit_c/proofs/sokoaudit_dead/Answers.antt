@@ -1,5 +1,5 @@
-use Rattle.std.proofs.Common.{ℕ, List, length, ◌++◌, Some, sym, ap, subst, ◌∙◌, Bor}
-use Rattle.sokoaudit_c.specs.Outcome.{Holds, outcome_of_map}
+use Rattle.std.proofs.Common.{ℕ, List, length, ◌++◌, Some, sym, ap, ◌∙◌, Bor}
+use Rattle.sokoaudit_c.specs.Outcome.{outcome_of_map}
 use Rattle.sokoaudit_c.proofs.sokoaudit_dead.Goals as goal
 
 -- the buffer begins with the text that was written in memory
@@ -10,6 +10,6 @@ returns-in-Ok-clause-done c _ =
     let whole = c.deref.ensures.value ∙ ap (λ v. v.items) c.into_inner-text.ensures ∙ written.2 ∙ ap (λ (xs : List ℕ). xs ++ written.0) empty in (
       written.0,
       written.1,
-      subst (λ (text : List ℕ). Holds c.args.map.now c.put.new.buffer text) whole c.put.ensures,
+      rw whole at c.put.ensures,
       c.of_map.ensures ∙ ap outcome_of_map (c.len.ensures ∙ sym c.deref.ensures.len ∙ ap length whole),
     )

@@ -1,5 +1,5 @@
-use Rattle.std.proofs.Common.{ℕ, List, length, ◌++◌, Some, sym, ap, subst, ◌∙◌, Bor}
-use Rattle.sokoaudit_c.specs.Outcome.{Holds, outcome_of_answers}
+use Rattle.std.proofs.Common.{ℕ, List, length, ◌++◌, Some, sym, ap, ◌∙◌, Bor}
+use Rattle.sokoaudit_c.specs.Outcome.{outcome_of_answers}
 use Rattle.sokoaudit_c.proofs.sokoaudit_make.Goals as goal
 
 -- the buffer begins with the text that was written in memory
@@ -11,6 +11,6 @@ returns-in-Ok-clause-done c _ =
       written.0,
       _,
       written.1,
-      subst (λ (text : List ℕ). Holds c.args.answers.now c.put.new.buffer text) whole c.put.ensures,
+      rw whole at c.put.ensures,
       c.of_answers.ensures ∙ ap (λ (n : ℕ). outcome_of_answers n c.in-Ok.records) (c.len.ensures ∙ sym c.deref.ensures.len ∙ ap length whole),
     )

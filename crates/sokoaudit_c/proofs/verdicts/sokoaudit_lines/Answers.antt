@@ -1,8 +1,5 @@
-use Rattle.std.proofs.Common.{List, ap, subst, ◌∙◌}
-use Rattle.std.specs.Prelude.{map}
-use Rattle.report.specs.declared.status.Status.{Status}
-use Rattle.sokoaudit_c.specs.Numbers.{numbers_of}
-use Rattle.sokoaudit_c.specs.Outcome.{Holds, outcome_of_report, status_of}
+use Rattle.std.proofs.Common.{ap, ◌∙◌}
+use Rattle.sokoaudit_c.specs.Outcome.{outcome_of_report, status_of}
 use Rattle.sokoaudit_c.proofs.Entries.{are_right, spell_report}
 use Rattle.sokoaudit_c.proofs.verdicts.sokoaudit_lines.Goals as goal
 
@@ -11,7 +8,7 @@ returns-in-Ok-clause-done c _ =
     let statuses = c.in-Ok.statuses.items in
     let are = c.in-Ok.ensures.ok.0 in
     let numbers = c.in-Ok.ensures.ok.1 in
-    let holds = subst (λ (ss : List Status). Holds c.args.lines.now c.put_lines.new.lines (map numbers_of ss)) c.deref.ensures.value c.put_lines.ensures in (
+    let holds = rw c.deref.ensures.value at c.put_lines.ensures in (
       statuses,
       are,
       holds,
@@ -24,6 +21,6 @@ pub returns-in-Ok-clause-printed : goal.returns-in-Ok-clause-printed
 returns-in-Ok-clause-printed c _ =
     let statuses = c.in-Ok.statuses.items in
     let are = c.in-Ok.ensures.ok.0 in
-    let holds = subst (λ (ss : List Status). Holds c.args.lines.now c.put_lines.new.lines (map numbers_of ss)) c.deref.ensures.value c.put_lines.ensures in
+    let holds = rw c.deref.ensures.value at c.put_lines.ensures in
     spell_report c.args.levels.now c.args.answers.now statuses are c.args.lines.now c.put_lines.new.lines holds c.texts_have_one_report.ensures.same
     c.reports_can_be_read_back.ensures.line
