@@ -6,7 +6,7 @@ use Rattle.std.specs.FinSet as set
 use Rattle.std.specs.List.{Contains}
 use Rattle.std.proofs.lemmas.List.{get_or-map, length-map}
 use Rattle.cellset.specs.declared.cell.Cell.{Cell}
-use Rattle.closure.specs.Pattern.{Pattern, cell_of, cells_of, pattern_of}
+use Rattle.closure.specs.Pattern.{cell_of, cells_of, pattern_of}
 use Rattle.closure.specs.Arena.{boxes_at, coord_of, line_at, line_in, lines_in, list_in, pattern_at}
 use Rattle.closure.specs.Sides.{cells_in}
 use Rattle.closure.specs.declared.arena.Arena.{Arena}
@@ -15,7 +15,7 @@ use Rattle.closure.proofs.CellLists.{at_any}
 -- Cells are those of their coordinates.
 back_again : (cells : List Cell) → map cell_of (map coord_of cells) ≡ cells
 back_again [] = refl
-back_again (c ∷ cs) = ap (λ (l : List Cell). c ∷ l) (back_again cs)
+back_again (c ∷ cs) = ap (λ l. c ∷ l) (back_again cs)
 
 -- The coordinates of cells name just these cells.
 pub same_cells : (cells : List Cell) → cells_of (map coord_of cells) ≡ cells_in cells
@@ -23,14 +23,11 @@ same_cells cells = ap set.from_list (back_again cells)
 
 -- An arena has as many patterns as lines.
 pub list_long : (arena : Arena) → length (list_in arena) ≡ length arena.lines.items
-list_long arena = length-map (lines_in arena) pattern_of ∙ length-map arena.lines.items (line_in arena.boxes.items arena.seeds.items)
+list_long arena = search (length-map)
 
 -- The pattern of each line is in the list.
 pub listed_at : (arena : Arena) (j : ℕ) → j < length arena.lines.items → Contains (list_in arena) (pattern_at (list_in arena) j)
-listed_at arena j lt =
-    let long = list_long arena in
-    let low : j < length (list_in arena) = omega (arith, lt, long) in
-    (j, low, at_any (list_in arena) j _ _ low)
+listed_at arena j lt = search (list_long, at_any)
 
 -- The pattern of a line is read by the number of the line.
 pub line_pattern : (arena : Arena) (j : ℕ) → j < length arena.lines.items
@@ -38,8 +35,8 @@ pub line_pattern : (arena : Arena) (j : ℕ) → j < length arena.lines.items
 line_pattern arena j lt =
     let read = line_in arena.boxes.items arena.seeds.items in
     let long = length-map arena.lines.items read in
-    get_or-map pattern_of (lines_in arena) j (read (line_at arena j)) _ (omega (arith, lt, long)) ∙ ap pattern_of (get_or-map read arena.lines.items j _ _ lt)
+    get_or-map pattern_of (lines_in arena) j (read (line_at arena j)) _ (omega arith) ∙ ap pattern_of (get_or-map read arena.lines.items j _ _ lt)
 
 -- The boxes of a line's pattern are the boxes of the line.
 pub boxes_is : (arena : Arena) (j : ℕ) → j < length arena.lines.items → (pattern_at (list_in arena) j).boxes ≡ cells_in (boxes_at arena j)
-boxes_is arena j lt = ap (λ (p : Pattern). p.boxes) (line_pattern arena j lt) ∙ same_cells (boxes_at arena j)
+boxes_is arena j lt = search (line_pattern, same_cells)

@@ -61,7 +61,7 @@ list_all xs n past = ap cells_in (take_all n xs past)
 pub in_cells : (coords : List Coord) (i : ℕ) (d : Coord) → i < length coords → Has (cells_of coords) (cell_of (get_or coords i d))
 in_cells coords i d lt =
     let long = length-map coords cell_of in
-    subst (Has (cells_of coords)) (get_or-map cell_of coords i d (cell_of d) lt) (in_list (map cell_of coords) i (cell_of d) (omega (arith, lt, long)))
+    subst (Has (cells_of coords)) (get_or-map cell_of coords i d (cell_of d) lt) (in_list (map cell_of coords) i (cell_of d) (omega arith))
 
 -- Each cell in the set of a list of coordinates is the cell of one of them.
 pub of_cells : (coords : List Coord) (c : Cell) → Has (cells_of coords) c → (q : Coord) × Contains coords q × (cell_of q ≡ c)

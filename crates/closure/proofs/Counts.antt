@@ -41,7 +41,7 @@ IsFewer s = (t : Cells) → ((c : Cell) → Has s c → Has t c) → set.len s �
 
 none_fewer : IsFewer set.empty
 unfolding IsFewer
-none_fewer t within = let none = len-empty cell_cmp in omega (arith, none)
+none_fewer t within = let none = len-empty cell_cmp in omega arith
 
 more_fewer : (s : Cells) (k : Cell) → Lacks s k → IsFewer s → IsFewer (set.insert s k)
 unfolding IsFewer
@@ -49,7 +49,7 @@ more_fewer s k lacks fewer t within =
     let rest = fewer (set.remove t k) (λ c h. kept_by_remove t k c (other_member s c k h lacks) (within c (kept_by_insert s k c h))) in
     let one_more = len-insert_new s k lacks in
     let one_fewer = len-remove_member t k (within k (inserted s k)) in
-    omega (arith, rest, one_more, one_fewer)
+    omega arith
 
 pub len-within : (s t : Cells) → ((c : Cell) → Has s c → Has t c) → set.len s ≤ set.len t
 unfolding IsFewer
@@ -70,7 +70,7 @@ none_adds s =
     let union_len = ap set.len same_union in
     let common_len = ap set.len no_common in
     let none = len-empty cell_cmp in
-    omega (arith, union_len, common_len, none)
+    omega arith
 
 -- If the second of two sets gets a cell of the first one, the union stays, and they have one more cell in common.
 shared_adds : (s t : Cells) (k : Cell) → Has s k → Lacks t k → Adds s t → Adds s (set.insert t k)
@@ -98,7 +98,7 @@ shared_adds s t k has lacks adds =
     let not_common = lacks_where (set.intersection s t) k (λ h. not_both t k (has_intersection s t k h).1 lacks) in
     let common_len = ap set.len one_common ∙ len-insert_new (set.intersection s t) k not_common in
     let t_len = len-insert_new t k lacks in
-    omega (arith, adds, union_len, common_len, t_len)
+    omega arith
 
 -- If the second of two sets gets a cell that the first one lacks, the union has one more, and the intersection stays.
 apart_adds : (s t : Cells) (k : Cell) → Lacks s k → Lacks t k → Adds s t → Adds s (set.insert t k)
@@ -126,7 +126,7 @@ apart_adds s t k off lacks adds =
     let union_len = ap set.len one_more ∙ len-insert_new (set.union s t) k not_there in
     let common_len = ap set.len same_common in
     let t_len = len-insert_new t k lacks in
-    omega (arith, adds, union_len, common_len, t_len)
+    omega arith
 
 pub len-union : (s t : Cells) → set.len (set.union s t) + set.len (set.intersection s t) ≡ set.len s + set.len t
 unfolding Adds
@@ -134,4 +134,4 @@ len-union s t = of_every_set (Adds s) (none_adds s) (λ u k lacks adds. has_or_l
     (λ off. apart_adds s u k off lacks adds)) t
 
 pub len-union_right : (s t : Cells) → set.len t ≤ set.len (set.union s t)
-len-union_right s t = len-within t (set.union s t) (λ c h. in_union_right s t c h)
+len-union_right s t = search (len-within, in_union_right)

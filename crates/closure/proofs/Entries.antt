@@ -5,7 +5,7 @@ use Rattle.std.proofs.Common.{◌≡◌, ◌≢◌, ℕ, zero, suc, ◌+◌, ◌
 use Rattle.std.specs.Prelude.{◌↔◌}
 use Rattle.std.specs.List.{All, AllZip, Contains}
 use Rattle.std.proofs.lemmas.List.{take_more}
-use Rattle.std.proofs.lemmas.List.Elements.{All-nil, All-cons, Contains-append_right}
+use Rattle.std.proofs.lemmas.List.Elements.{All-cons, Contains-append_right}
 use Rattle.cellset.specs.CellSet.{Has}
 use Rattle.cellset.specs.declared.cell.Cell.{Cell}
 use Rattle.cellset.proofs.Members.{not_both, lacks_where}
@@ -17,7 +17,7 @@ use Rattle.closure.specs.Scan.{EntryCells, EntryCovers, EntriesCover, IsEntryOf}
 -- An element of a list is its first one or one of the rest.
 pub first_or_rest : {X : Type 0} (x : X) (xs : List X) (y : X) → Contains (x ∷ xs) y → (x ≡ y) ⊎ Contains xs y
 first_or_rest x xs y (zero, lt, is) = inl is
-first_or_rest x xs y (suc k, lt, is) = inr (k, omega arith, is)
+first_or_rest x xs y (suc k, lt, is) = grind arith
 
 module _ (level : Level) (s : State) where
   entry_covers : (pattern : Pattern) (entry : EntryCells) → IsEntryOf level pattern entry → EntryCovers level.room entry s ↔ Covers level pattern s
@@ -66,12 +66,12 @@ module _ (level : Level) (s : State) where
 -- the entries cover what the patterns cover
 pub entries_cover : (level : Level) (patterns : List Pattern) (entries : List EntryCells) → AllZip (IsEntryOf level) patterns entries → (s : State)
     → EntriesCover level.room entries s ↔ IsCovered level patterns s
-entries_cover level patterns entries all s = (covered_by level s patterns entries all, covers_by level s patterns entries all)
+entries_cover level patterns entries all s = search (covered_by, covers_by)
 
 -- the entries are on the grid of the level
 pub entries_grid : (level : Level) (patterns : List Pattern) (entries : List EntryCells) → AllZip (IsEntryOf level) patterns entries
     → All (λ (e : EntryCells). e.extent ≡ level.shape) entries
-entries_grid level [] [] all = All-nil (λ (e : EntryCells). e.extent ≡ level.shape)
+entries_grid level [] [] all = grind arith
 entries_grid level (p ∷ ps) [] all = absurd all
 entries_grid level [] (e ∷ es) all = absurd all
 entries_grid level (p ∷ ps) (e ∷ es) (head, rest) = All-cons (λ (x : EntryCells). x.extent ≡ level.shape) e es head.extent (entries_grid level ps es rest)
@@ -85,5 +85,4 @@ zip_push R (a ∷ xs) (b ∷ ys) x y (head, rest) r = (head, zip_push R xs ys x 
 
 pub zip_more : {X Y : Type 0} (R : X → Y → Type 0) (xs : List X) (ys : List Y) (i : ℕ) (x : X) (y : Y) → i < length xs → x ≡ get_or xs i x →
     AllZip R (take i xs) ys → R x y → AllZip R (take (i + 1) xs) (ys ++ y ∷ [])
-zip_more R xs ys i x y lt is all r =
-    rw (take_more xs i x lt) (zip_push R (take i xs) ys (get_or xs i x) y all (rw is at r))
+zip_more R xs ys i x y lt is all r = grind (arith, take_more, zip_push)

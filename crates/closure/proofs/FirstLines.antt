@@ -23,14 +23,11 @@ use Rattle.closure.proofs.Entries.{first_or_rest}
 -- What holds of each pattern by its number holds of each pattern of the list.
 pub each_pattern : (P : Pattern → Type 0) (patterns : List Pattern) (n : ℕ) (d : Pattern) → length patterns ≤ n → ((j : ℕ) → j < n → P (get_or patterns j d))
     → (pattern : Pattern) → Contains patterns pattern → P pattern
-each_pattern P patterns n d past each pattern (k, lt, is) = subst P (at_any patterns k d pattern lt ∙ is) (each k (omega (arith, lt, past)))
+each_pattern P patterns n d past each pattern (k, lt, is) = subst P (at_any patterns k d pattern lt ∙ is) (each k (omega arith))
 
 -- What holds of the first numbers and of the next one holds of one number more.
 pub one_more : (P : ℕ → Type 0) (n : ℕ) → ((j : ℕ) → j < n → P j) → P n → (j : ℕ) → j < n + 1 → P j
-one_more P n each here j lt = elim (cases_lt j n) [
-  | inl before ↦ each j before
-  | inr past ↦ let same : n ≡ j = omega (arith, lt, past) in rw same at here
-]
+one_more P n each here j lt = grind (arith, cases_lt)
 
 -- A line at fault, with fine lines before it, is the first line at fault.
 pub first_line : (IsFine IsFaulty : Pattern → Type 0) (lines : List PatternLine) (i : ℕ) (p : Pattern) (d : PatternLine) → i < length lines
@@ -47,12 +44,12 @@ first_line IsFine IsFaulty (l ∷ ls) zero p d lt fine faulty = record {
   faulty = faulty;
 }
 first_line IsFine IsFaulty (l ∷ ls) (suc i) p d lt fine faulty =
-    let rest = first_line IsFine IsFaulty ls i p d (omega arith) (λ j less. fine (suc j) (omega (arith, less))) faulty in
+    let rest = first_line IsFine IsFaulty ls i p d (omega arith) (λ j less. fine (suc j) (omega arith)) faulty in
     record {
       before = l ∷ rest.before;
       line = rest.line;
       after = rest.after;
-      list = ap (λ (xs : List PatternLine). l ∷ xs) rest.list;
+      list = ap (λ xs. l ∷ xs) rest.list;
       number_is = rest.number_is;
       fine = λ earlier listed. elim (first_or_rest l rest.before earlier listed) [
         | inl same ↦ rw same at (fine 0 (omega arith))
@@ -64,14 +61,9 @@ first_line IsFine IsFaulty (l ∷ ls) (suc i) p d lt fine faulty =
 -- ---- a fault and a closed list exclude each other
 pub unlawful_not : (level : Level) (pattern : Pattern) (why : LineWhy) → IsUnlawful level pattern why → IsLawful level pattern → ⊥
 unlawful_not level pattern Board (c, named, off) lawful = off (lawful.board c named)
-unlawful_not level pattern Wall (board, c, box, wall) lawful = not_both level.walls c wall (lawful.wall c box)
-unlawful_not level pattern Seed (board, off, c, seed, bad) lawful =
-    elim bad [
-      | inl outside ↦ not_both level.room c (lawful.seed c seed).0 outside
-      | inr box ↦ not_both pattern.boxes c box (lawful.seed c seed).1
-    ]
-unlawful_not level pattern Goals (board, off, fair, all) lawful =
-    let (c, box, lacks) = lawful.goals in not_both level.goals c (all c box) lacks
+unlawful_not level pattern Wall (board, c, box, wall) lawful = grind (arith, not_both)
+unlawful_not level pattern Seed (board, off, c, seed, bad) lawful = grind (arith, not_both)
+unlawful_not level pattern Goals (board, off, fair, all) lawful = grind (arith, not_both)
 
 -- the pattern of the line at fault is in the list
 pub line_listed : (before : List PatternLine) (line : PatternLine) (after lines : List PatternLine) → lines ≡ before ++ line ∷ after →
@@ -96,7 +88,7 @@ fault_not_closed level lines Memory found closed = found
 pub only_memory : (level : Level) (lines : List PatternLine) (fault : CheckFault) → (fault ≢ Memory → IsFirstPatternFault level lines fault) →
     Closed level (patterns_of lines) → fault ≡ Memory
 only_memory level lines (Line number why) found closed = absurd (fault_not_closed level lines (Line number why) (found (λ e. cc)) closed)
-only_memory level lines Start found closed = absurd (fault_not_closed level lines Start (found (λ e. cc)) closed)
+only_memory level lines Start found closed = grind (arith, fault_not_closed)
 only_memory level lines (Push number player dir) found closed = absurd (fault_not_closed level lines (Push number player dir) (found (λ e. cc)) closed)
 only_memory level lines Memory found closed = refl
 

@@ -3,12 +3,10 @@
 -- is on the side of the box from which it came. So a group that has this box covers the result if its boxes are all there after the push
 -- and its region lies on that side. A push out of a pattern is a push out of its group.
 use Rattle.std.proofs.Common.{◌≡◌, ◌≢◌, Bool, false, ℕ, ◌<◌, ◌≤◌, List, length, get_or, set, refl, sym, ◌∙◌, ap, subst, inl, inr, arith}
-use Rattle.std.specs.Prelude.{Option, None, Some, IsTrue, MatchOption, slice_index}
+use Rattle.std.specs.Prelude.{IsTrue, slice_index}
 use Rattle.std.specs.List.{Contains}
 use Rattle.std.proofs.lemmas.Bool.{cases_lt}
 use Rattle.std.proofs.lemmas.List.{get_or-set_other, get_or-set_same, length-set}
-use Rattle.std.specs.FinSet.{contains}
-use Rattle.std.specs.Option.{is_some}
 use Rattle.cellset.specs.Shape.{Extent}
 use Rattle.cellset.specs.Cell.{neighbor, opposite}
 use Rattle.cellset.specs.CellSet.{Cells, Has, Lacks}
@@ -30,7 +28,7 @@ use Rattle.closure.specs.GroupPushes.{AreNoted, CoversFrom, CoversToward, HasNoP
 use Rattle.closure.specs.Groups.{IsGrouped, boxes_of, list_of, position_at}
 use Rattle.closure.specs.Tables.{AreTables}
 use Rattle.closure.proofs.Arenas.{list_long}
-use Rattle.closure.proofs.CellLists.{at_any, in_list, no_cell, of_list}
+use Rattle.closure.proofs.CellLists.{at_any, no_cell, of_list}
 use Rattle.closure.proofs.Grouped.{box_floor, covered_of_group, group_in_room, line_boxes, of_line}
 use Rattle.closure.proofs.Regions.{region_on}
 use Rattle.closure.proofs.Traps.{onto_trap, trapped_push}
@@ -38,21 +36,17 @@ use Rattle.closure.proofs.Traps.{onto_trap, trapped_push}
 -- A push of the box on a cell to a free cell of the grid is a push of one of the boxes.
 pub push_in_box : (shape : Extent) (boxes : Cells) (cell : Cell) (dir : Dir) (push : Push) → Has boxes cell → Lacks boxes push.to →
     IsPushAt shape cell dir push → IsPushOf shape boxes push
-push_in_box shape boxes cell dir push has free at = record { box = rw at.from has; to_on = at.to_on; to_free = free; back = at.back }
+push_in_box shape boxes cell dir push has free at = search
 
 module _ (level : Level) (pattern : Pattern) (cell : Cell) (dir : Dir) where
   player_behind : (push : Push) → PushesOut level pattern push → push.from ≡ cell → push.dir ≡ dir → push.player ≡ neighbor cell (opposite dir)
-  player_behind push out from toward =
-      let on = region_on level pattern push.player out.standing in
-      sym (neighbor_back push.player push.dir on.top on.left)
-      ∙ (ap (λ q. neighbor q (opposite push.dir)) (sym out.next_cell ∙ from) ∙ ap (λ e. neighbor cell (opposite e)) toward)
+  player_behind push out from toward = grind (arith, region_on, neighbor_back)
 
   pub unreached : (InPatternRegion level pattern (neighbor cell (opposite dir)) → ⊥) → HasNoPush level pattern cell dir
-  unreached lacks push out from toward = lacks (rw (player_behind push out from toward) at out.standing)
+  unreached lacks push out from toward = grind (arith, player_behind)
 
   pub barred : (IsFree level.shape level.walls pattern.boxes (neighbor cell dir) → ⊥) → HasNoPush level pattern cell dir
-  barred bar push out from toward =
-      bar (rw (out.cell_behind ∙ (ap (λ q. neighbor q push.dir) from ∙ ap (λ e. neighbor cell e) toward)) at out.free)
+  barred bar push out from toward = grind arith
 
   -- If the result of one push of a box in a direction is covered, so is that of each push that moves the box that way.
   pub covered_one : (patterns : List Pattern) (p : Push) → IsPushAt level.shape cell dir p → IsCovered level patterns (after_push pattern p) →
@@ -60,30 +54,18 @@ module _ (level : Level) (pattern : Pattern) (cell : Cell) (dir : Dir) where
   covered_one patterns p at covered q out from toward =
       let from_same : p.from ≡ q.from = at.from ∙ sym from in
       let to_same : p.to ≡ q.to = at.to ∙ sym (out.cell_behind ∙ (ap (λ c. neighbor c q.dir) from ∙ ap (λ e. neighbor cell e) toward)) in
-      subst (λ (f : Cell). IsCovered level patterns (record { player = f; boxes = moved pattern.boxes f q.to })) from_same
-      (rw to_same at covered)
+      subst (λ f. IsCovered level patterns (record { player = f; boxes = moved pattern.boxes f q.to })) from_same (rw to_same at covered)
 
 -- The results of a box's pushes are covered if those in each direction are.
 pub covered_each_way : (level : Level) (patterns : List Pattern) (pattern : Pattern) (cell : Cell)
     → CoversToward level patterns pattern cell L → CoversToward level patterns pattern cell U → CoversToward level patterns pattern cell R →
-    CoversToward level patterns pattern cell D
-    → CoversFrom level patterns pattern cell
-covered_each_way level patterns pattern cell l u r d push out from =
-    elim push.dir as (λ e. push.dir ≡ e → IsCovered level patterns (after_push pattern push)) [
-      | L ↦ l push out from
-      | U ↦ u push out from
-      | R ↦ r push out from
-      | D ↦ d push out from
-    ] refl
+    CoversToward level patterns pattern cell D → CoversFrom level patterns pattern cell
+covered_each_way level patterns pattern cell l u r d push out from = grind arith
 
 -- The results of the pushes out of a pattern are covered if those of each of its boxes are.
 pub covered_each_box : (level : Level) (patterns : List Pattern) (pattern : Pattern) (boxes : List Cell) (n : ℕ) → length boxes ≤ n →
-    cells_in boxes ≡ pattern.boxes
-    → ((i : ℕ) → i < n → CoversFrom level patterns pattern (cell_no boxes i)) → CoversPushesOf level patterns pattern
-covered_each_box level patterns pattern boxes n past own each push out =
-    let q = of_list boxes push.from (rw own out.box) in
-    let low = q.1 in
-    each q.0 (omega (arith, low, past)) push out (sym (at_any boxes q.0 no_cell push.from low ∙ q.2))
+    cells_in boxes ≡ pattern.boxes → ((i : ℕ) → i < n → CoversFrom level patterns pattern (cell_no boxes i)) → CoversPushesOf level patterns pattern
+covered_each_box level patterns pattern boxes n past own each push out = grind (arith, of_list, at_any, no_cell)
 
 -- The results of the pushes out of a pattern are covered if those of its group are.
 pub pattern_of_group : (level : Level) (groups : Groups) → IsGrouped groups → (j : ℕ) → j < length groups.arena.lines.items
@@ -92,19 +74,13 @@ pub pattern_of_group : (level : Level) (groups : Groups) → IsGrouped groups �
 pattern_of_group level groups grouped j lt covers push out =
     let g = slice_index groups.of.items j in
     let same = line_boxes level groups grouped g j lt refl in
-    subst (λ (b : Cells). IsCovered level (list_of groups) (state_after b push)) (sym same) (covers push (record {
+    subst (λ b. IsCovered level (list_of groups) (state_after b push)) (sym same) (covers push (record {
       standing = of_line level groups grouped g j lt refl push.player out.standing;
       next_cell = out.next_cell;
       box = rw same at out.box;
       cell_behind = out.cell_behind;
       free = rw same at out.free;
     }))
-
--- A cell has a number in a list exactly if it is in the set of the list.
-pub has_number : (cells : List Cell) (cell : Cell) (number : Option ℕ)
-    → MatchOption number (Lacks (cells_in cells) cell) (λ n. (n < length cells) × (cell_no cells n ≡ cell)) → is_some number ≡ contains (cells_in cells) cell
-has_number cells cell None found = sym found
-has_number cells cell (Some n) found = sym (rw found.1 at (in_list cells n no_cell found.0))
 
 -- ---- the facts about a group
 module _ {S : Type 0} (tables : Tables S) (is : AreTables tables) (g : ℕ) where
@@ -128,9 +104,7 @@ module _ {S : Type 0} (tables : Tables S) (is : AreTables tables) (g : ℕ) wher
     -- The results of the pushes of a group with a box on the trap are covered, and those of the pushes of a group to the trap.
     pub trapped_pushes : (c : Cell) → Has (cells_in (boxes_of tables.groups g)) c → Has tables.trap.members c →
         CoversPushesOf tables.board.now (list_of tables.groups) position
-    trapped_pushes c box has push out =
-        trapped_push tables.board.now is.formed (list_of tables.groups) tables.trap is.trap position (box_floor tables.board.now tables.groups is.lawful is.grouped g lt)
-        (group_in_room tables.board.now is.formed tables.groups is.grouped is.lawful g) push out c box has
+    trapped_pushes c box has push out = search (trapped_push, box_floor, group_in_room)
 
     pub toward_trap : (cell : Cell) (dir : Dir) (p : Push) → IsPushAt tables.board.now.shape cell dir p → Has tables.trap.members p.to →
         CoversToward tables.board.now (list_of tables.groups) position cell dir
@@ -149,16 +123,16 @@ module _ (level : Level) (groups : Groups) (noted : List Bool) (are : AreNoted l
     covers = λ k low.
         let was = length-set noted g b in
         let long = are.long in
-        let low_old : k < length noted = omega (arith, low, was) in
+        let low_old : k < length noted = omega arith in
         let other = λ (ne : k ≢ g) (true_there : IsTrue (get_or (set noted g b) k false)).
         are.covers k low_old (rw (get_or-set_other noted g k b false ne) at true_there) in
         elim (cases_lt k g) [
-          | inl before ↦ other (λ e. omega (arith, before, e))
+          | inl before ↦ other (λ e. omega arith)
           | inr from ↦ elim (cases_lt g k) [
-            | inl past ↦ other (λ e. omega (arith, past, e))
+            | inl past ↦ other (λ e. omega arith)
             | inr until ↦
-                let same : g ≡ k = omega (arith, from, until) in
-                λ true_there. rw same at (here (rw (← same, get_or-set_same noted g b false (omega (arith, lt, long))) at true_there))
+                let same : g ≡ k = omega arith in
+                λ true_there. rw same at (here (rw (← same, get_or-set_same noted g b false (omega arith)) at true_there))
           ]
         ];
   }
@@ -168,10 +142,10 @@ module _ (level : Level) (groups : Groups) (noted : List Bool) (are : AreNoted l
       CoversPushesOf level (list_of groups) p
   covers_all grouped all p (k, low, is) =
       let listed = list_long groups.arena in
-      let lt : k < length groups.arena.lines.items = omega (arith, low, listed) in
+      let lt : k < length groups.arena.lines.items = omega arith in
       let g = slice_index groups.of.items k in
       let into = grouped.all.into k lt in
       let long = are.long in
-      let in_notes : g < length noted = omega (arith, into, long) in
+      let in_notes : g < length noted = omega arith in
       subst (CoversPushesOf level (list_of groups)) (at_any (list_of groups) k _ p low ∙ is)
       (pattern_of_group level groups grouped k lt (are.covers g in_notes (all g in_notes)))

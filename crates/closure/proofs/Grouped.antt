@@ -32,13 +32,11 @@ module _ (level : Level) (g : ℕ) where
   seeded_in : (ps : List Pattern) (of : List ℕ) (j : ℕ) → j < length ps → j < length of → slice_index of j ≡ g → (c : Cell) →
       Has (seed_cells level (pattern_at ps j).boxes (pattern_at ps j).seeds) c → Has (seeds_with level g ps of) c
   unfolding seeds_with
-  seeded_in [] of j lt low is c has = absurd (omega (arith, lt))
-  seeded_in (p ∷ ps) [] j lt low is c has = absurd (omega (arith, low))
-  seeded_in (p ∷ ps) (k ∷ of) zero lt low is c has =
-      in_union_left _ (seeds_with level g ps of) c (rw (cond-true (nat_eq k g) (seed_cells level p.boxes p.seeds) set.empty
-      (eq-eqb k g is)) has)
+  seeded_in [] of j lt low is c has = absurd (omega arith)
+  seeded_in (p ∷ ps) [] j lt low is c has = absurd (omega arith)
+  seeded_in (p ∷ ps) (k ∷ of) zero lt low is c has = search (in_union_left, cond-true, eq-eqb)
   seeded_in (p ∷ ps) (k ∷ of) (suc j) lt low is c has =
-      in_union_right _ (seeds_with level g ps of) c (seeded_in ps of j (omega (arith, lt)) (omega (arith, low)) is c has)
+      in_union_right _ (seeds_with level g ps of) c (seeded_in ps of j (omega arith) (omega arith) is c has)
 
   kept_if : (b : Bool) (s : Cells) (c : Cell) → Has (cond b s set.empty) c → (b ≡ true) × Has s c
   kept_if true s c has = (refl, has)
@@ -51,7 +49,7 @@ module _ (level : Level) (g : ℕ) where
   seeded_by (p ∷ ps) [] c has = has_empty c has
   seeded_by (p ∷ ps) (k ∷ of) c has = elim (has_union _ (seeds_with level g ps of) c has) [
     | inl first ↦ let here = kept_if (nat_eq k g) (seed_cells level p.boxes p.seeds) c first in (0, omega arith, eqb-true k g here.0, here.1)
-    | inr rest ↦ let later = seeded_by ps of c rest in let low = later.1 in (suc later.0, omega (arith, low), later.2, later.3)
+    | inr rest ↦ let later = seeded_by ps of c rest in let low = later.1 in (suc later.0, omega arith, later.2, later.3)
   ]
 
 seed_is : (level : Level) (boxes : Cells) (s : Seeds) (c : Cell) → Has level.room c → Lacks boxes c → IsSeed s c → Has (seed_cells level boxes s) c
@@ -68,7 +66,7 @@ seed_among (listed cells) P c all h = all c h
 
 pub seeds_more : (s : Seeds) (P Q : Cell → Type 0) → ((c : Cell) → P c → Q c) → SeedsAreIn s P → SeedsAreIn s Q
 seeds_more whole_room P Q into all = absurd all
-seeds_more (listed cells) P Q into all = λ c has. into c (all c has)
+seeds_more (listed cells) P Q into all = search
 
 -- ---- positions
 module _ (level : Level) (groups : Groups) (grouped : IsGrouped groups) where
@@ -76,31 +74,21 @@ module _ (level : Level) (groups : Groups) (grouped : IsGrouped groups) where
     -- The boxes of a line are those of its group.
     pub line_boxes : (j : ℕ) → j < length groups.arena.lines.items → slice_index groups.of.items j ≡ g →
         (pattern_at (list_of groups) j).boxes ≡ cells_in (boxes_of groups g)
-    line_boxes j lt is =
-        boxes_is groups.arena j lt ∙ (ap cells_in (sym (grouped.all.same j lt)) ∙ ap (λ (k : ℕ). cells_in (boxes_of groups k)) is)
+    line_boxes j lt is = grind (arith, boxes_is)
 
     pub seed_of_line : (c : Cell) → HasLine groups g (λ p. Has (seed_cells level p.boxes p.seeds) c) →
         Has (seeds_with level g (list_of groups) groups.of.items) c
-    seed_of_line c line =
-        let lt = line.within in
-        let listed = list_long groups.arena in
-        let long = grouped.all.long in
-        seeded_in level g (list_of groups) groups.of.items line.line (omega (arith, lt, listed)) (omega (arith, lt, long)) line.grouped c line.fact
+    seed_of_line c line = grind (arith, list_long, seeded_in)
 
     pub line_of_seed : (c : Cell) → Has (seeds_with level g (list_of groups) groups.of.items) c →
         HasLine groups g (λ p. Has (seed_cells level p.boxes p.seeds) c)
-    line_of_seed c has =
-        let found = seeded_by level g (list_of groups) groups.of.items c has in
-        let low = found.1 in
-        let listed = list_long groups.arena in
-        record { line = found.0; within = omega (arith, low, listed); grouped = found.2; fact = found.3 }
+    line_of_seed c has = grind (arith, seeded_by, list_long)
 
     -- A cell is in the region of a position exactly if it is in the region of one of its lines.
     pub of_line : (j : ℕ) → j < length groups.arena.lines.items → slice_index groups.of.items j ≡ g → (c : Cell) →
         InPatternRegion level (pattern_at (list_of groups) j) c → InPatternRegion level (position_at level groups g) c
     of_line j lt is c (region.at_seed seed free) =
-        region.at_seed (seed_of_line c (record { line = j; within = lt; grouped = is; fact = seed }))
-        (rw (line_boxes j lt is) at free)
+        region.at_seed (seed_of_line c (record { line = j; within = lt; grouped = is; fact = seed })) (rw (line_boxes j lt is) at free)
     of_line j lt is c (region.beside {c = b} d before free) =
         region.beside d (of_line j lt is b before) (rw (line_boxes j lt is) at free)
 
@@ -126,14 +114,14 @@ module _ (level : Level) (groups : Groups) (grouped : IsGrouped groups) where
   pub covered_by_group : (s : State) → IsCovered level (list_of groups) s → (g : ℕ) × GroupCovers level groups g s
   covered_by_group s (pattern, (k, low, is), covers) =
       let long = list_long groups.arena in
-      let lt : k < length groups.arena.lines.items = omega (arith, low, long) in
+      let lt : k < length groups.arena.lines.items = omega arith in
       let here : pattern_at (list_of groups) k ≡ pattern = at_any (list_of groups) k _ pattern low ∙ is in
       let g = slice_index groups.of.items k in (
         g,
         (
           grouped.all.into k lt,
           record {
-            boxes = λ c has. covers.boxes c (rw (sym (line_boxes g k lt refl) ∙ ap (λ (p : Pattern). p.boxes) here) at has);
+            boxes = λ c has. covers.boxes c (rw (sym (line_boxes g k lt refl) ∙ ap (λ p. p.boxes) here) at has);
             player = of_line g k lt refl s.player (rw here covers.player);
           },
         ),
@@ -163,7 +151,7 @@ module _ (level : Level) (formed : IsWellFormed level) where
   chain_in_room boxes seeds fair c (region.beside {c = b} d before free) = formed.goes_on b d (chain_in_room boxes seeds fair b before) (free.on, free.no_wall)
 
   pub region_in_room : (p : Pattern) → IsLawful level p → (c : Cell) → InPatternRegion level p c → Has level.room c
-  region_in_room p lawful = chain_in_room p.boxes (seed_cells level p.boxes p.seeds) (λ q has. seed_in_room p.boxes p.seeds q (λ x h. (lawful.seed x h).0) has)
+  region_in_room p lawful = grind (arith, chain_in_room, seed_in_room)
 
   pub group_in_room : (groups : Groups) → IsGrouped groups → AreLawful level (list_of groups) → (g : ℕ) (c : Cell) →
       InPatternRegion level (position_at level groups g) c → Has level.room c
@@ -207,10 +195,10 @@ module _ (level : Level) (formed : IsWellFormed level) (groups : Groups) (groupe
   In = InPatternRegion level (position_at level groups g)
 
   is_free : (c : Cell) → Free c → IsFree level.shape level.walls (cells_in (boxes_of groups g)) c
-  is_free c f = let both = (free c).0 f in let floor = formed.room c both.0 in record { on = floor.0; no_wall = floor.1; no_bar = both.1 }
+  is_free c f = grind arith
 
   position_free : (c : Cell) → In c → Free c
-  position_free c inside = (free c).1 (group_in_room level formed groups grouped lawful g c inside, region_lacks level (position_at level groups g) c inside)
+  position_free c inside = grind (arith, group_in_room, region_lacks)
 
   abbrev Seed : Cell → Type 0
   Seed c = Free c × IsSeedOf groups g c

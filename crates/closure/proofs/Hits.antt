@@ -1,7 +1,7 @@
 -- Paths to the root. A step between free cells of a grid leads back, so a region that has the one cell has the other. A walk keeps
 -- the boxes on its path. For a pattern that has none of them, each cell of the path is in the region exactly if the first one is.
 -- Once the path has met a box of a pattern, the rest of it says nothing more about that pattern.
-use Rattle.std.proofs.Common.{◌≡◌, ℕ, ◌<◌, List, [], ◌∷◌, ◌++◌, length, get_or, refl, sym, ◌∙◌, ap, subst, inl, inr, arith}
+use Rattle.std.proofs.Common.{◌≡◌, ℕ, ◌<◌, List, [], ◌∷◌, ◌++◌, length, get_or, refl, sym, ◌∙◌, ap, inl, inr, arith}
 use Rattle.std.specs.Prelude.{◌↔◌}
 use Rattle.std.proofs.lemmas.Bool.{cases_lt}
 use Rattle.cellset.specs.Cell.{IsOn, neighbor, opposite}
@@ -20,8 +20,7 @@ use Rattle.closure.proofs.Turns.{through}
 use Rattle.closure.proofs.Lists.{old_item, new_item, length_more}
 
 pub step_decides : (level : Level) (pattern : Pattern) (c : Cell) (d : Dir) → IsFree level.shape level.walls pattern.boxes c →
-    IsFree level.shape level.walls pattern.boxes (neighbor c d)
-    → InPatternRegion level pattern c ↔ InPatternRegion level pattern (neighbor c d)
+    IsFree level.shape level.walls pattern.boxes (neighbor c d) → InPatternRegion level pattern c ↔ InPatternRegion level pattern (neighbor c d)
 step_decides level pattern c d here there =
     let back : neighbor (neighbor c d) (opposite d) ≡ c = neighbor_back c d here.on.top here.on.left in (
       λ inside. beside d inside there,
@@ -32,23 +31,14 @@ module _ (level : Level) (formed : IsWellFormed level) (boxes : Cells) (player :
   module _ (last next : Cell) (dir : Dir) (to : neighbor last dir ≡ next) (here : Has level.room last) (there : Has level.room next) (hits : List Hit)
       (so_far : AreHits level boxes player last hits) where
     free_at : (pattern : Pattern) (c : Cell) → Has level.room c → Lacks pattern.boxes c → IsFree level.shape level.walls pattern.boxes c
-    free_at pattern c room lacks = let floor = formed.room c room in record { on = floor.0; no_wall = floor.1; no_bar = lacks }
+    free_at pattern c room lacks = grind arith
 
     onward : (pattern : Pattern) → Lacks pattern.boxes last → Lacks pattern.boxes next → InPatternRegion level pattern last ↔ InPatternRegion level pattern next
-    onward pattern free ahead =
-        subst (λ (q : Cell). InPatternRegion level pattern last ↔ InPatternRegion level pattern q) to
-        (step_decides level pattern last dir (free_at pattern last here free) (rw to (free_at pattern next there ahead)))
+    onward pattern free ahead = grind (arith, step_decides, free_at)
 
     -- A step to a cell without a box adds no hit.
     pub hits_on : Lacks boxes next → AreHits level boxes player next hits
-    hits_on none pattern within lacks =
-        let old = so_far pattern within lacks in
-        let ahead = has_or_lacks pattern.boxes next (λ has. not_both boxes next (within next has) none) (λ l. l) in
-        record {
-          free = λ _. ahead;
-          passed = λ none_met. through (old.passed none_met) (onward pattern (old.free none_met) ahead);
-          first = old.first;
-        }
+    hits_on none pattern within lacks = grind (arith, has_or_lacks, not_both, through, onward)
 
     -- A step onto a box adds a hit.
     pub hits_to : (m : Hit) → m.cell ≡ next → m.side ≡ opposite dir → AreHits level boxes player next (hits ++ m ∷ [])
@@ -56,7 +46,7 @@ module _ (level : Level) (formed : IsWellFormed level) (boxes : Cells) (player :
         let old = so_far pattern within lacks in
         let shorter = λ (none : (i : ℕ) (e : Hit) → i < length (hits ++ m ∷ []) → Lacks pattern.boxes (get_or (hits ++ m ∷ []) i e).cell) (i : ℕ) (e : Hit)
         (lt : i < length hits).
-        rw (old_item hits m i e lt) at (none i e (omega (arith, lt, length_more hits m))) in
+        rw (old_item hits m i e lt) at (none i e (omega (arith, length_more hits m))) in
         let ahead = λ (none : (i : ℕ) (e : Hit) → i < length (hits ++ m ∷ []) → Lacks pattern.boxes (get_or (hits ++ m ∷ []) i e).cell).
         rw (new_item hits m (length hits) m refl, cell_is) at (none (length hits) m (omega (arith, length_more hits m))) in
         record {
@@ -65,11 +55,11 @@ module _ (level : Level) (formed : IsWellFormed level) (boxes : Cells) (player :
           first = λ i e lt before has. elim (cases_lt i (length hits)) [
             | inl low ↦
                 let same = old_item hits m i e low in
-                rw same (old.first i e low (λ j f lt_j. rw (old_item hits m j f (omega (arith, lt_j, low))) at (before j f lt_j))
+                rw same (old.first i e low (λ j f lt_j. rw (old_item hits m j f (omega arith)) at (before j f lt_j))
                 (rw same at has))
             | inr past ↦
-                let here : i ≡ length hits = omega (arith, past, lt, length_more hits m) in
-                let none = λ (j : ℕ) (f : Hit) (lt_j : j < length hits). rw (old_item hits m j f lt_j) at (before j f (omega (arith, lt_j, here))) in
+                let here : i ≡ length hits = omega (arith, length_more hits m) in
+                let none = λ (j : ℕ) (f : Hit) (lt_j : j < length hits). rw (old_item hits m j f lt_j) at (before j f (omega arith)) in
                 rw (new_item hits m i e here, back) (old.passed none)
           ];
         }

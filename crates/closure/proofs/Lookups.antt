@@ -29,18 +29,15 @@ module _ (level : Level) (groups : Groups) (lawful : AreLawful level (list_of gr
   listed_some =
       let box = some_box level groups lawful grouped g lt in
       let low = (of_list (boxes_of groups g) box.0 box.1).1 in
-      omega (arith, low)
+      omega arith
 
   -- The indexes of a group's boxes, and so its key, are within the table.
   pub index_in : HasSides level.shape.width level.shape.height → (c : Cell) → Has (cells_in (boxes_of groups g)) c → index_of c < 256 * (level.shape.height + 1)
-  index_in sides c has = index_within level.shape sides c (box_on level groups lawful grouped g lt c has)
+  index_in sides c has = search (index_within, box_on)
 
   pub key_within : HasSides level.shape.width level.shape.height → (keys : List ℕ) → IsInBucket groups keys g →
       slice_index keys g < 256 * (level.shape.height + 1)
-  key_within sides keys bucket =
-      let low = index_in sides bucket.cell bucket.has in
-      let key = bucket.key in
-      omega (arith, low, key)
+  key_within sides keys bucket = grind (arith, index_in)
 
 -- If each group so far and the next one are in buckets, so is each of one group more.
 pub bucket_more : (groups : Groups) (keys new : List ℕ) (n key : ℕ) → length keys ≡ n → new ≡ keys ++ key ∷ [] → ((k : ℕ) → k < n → IsInBucket groups keys k)
@@ -48,13 +45,13 @@ pub bucket_more : (groups : Groups) (keys new : List ℕ) (n key : ℕ) → leng
 bucket_more groups keys new n key long is old c has at k lt = elim (cases_lt k n) [
   | inl low ↦
       let was = old k low in
-      record { cell = was.cell; has = was.has; key = ap (λ (l : List ℕ). slice_index l k) is ∙ old_item keys key k 0 (omega (arith, low, long)) ∙ was.key }
+      record { cell = was.cell; has = was.has; key = ap (λ l. slice_index l k) is ∙ old_item keys key k 0 (omega arith) ∙ was.key }
   | inr past ↦
-      let here : k ≡ n = omega (arith, lt, past) in
+      let here : k ≡ n = omega arith in
       record {
         cell = c;
         has = rw here has;
-        key = ap (λ (l : List ℕ). slice_index l k) is ∙ new_item keys key k 0 (omega (arith, here, long)) ∙ at;
+        key = ap (λ l. slice_index l k) is ∙ new_item keys key k 0 (omega arith) ∙ at;
       }
 ]
 

@@ -39,7 +39,7 @@ listed (x ∷ xs) line after = Contains-append_right (x ∷ []) (xs ++ line ∷ 
 
 listed_before : (before : List PatternLine) (line : PatternLine) (between all : List PatternLine) → all ≡ (before ++ line ∷ []) ++ between → Contains all line
 listed_before before line between all e =
-    subst (λ (l : List PatternLine). Contains l line) (sym (e ∙ append_assoc before (line ∷ []) between)) (listed before line between)
+    subst (λ l. Contains l line) (sym (e ∙ append_assoc before (line ∷ []) between)) (listed before line between)
 
 -- Two first lines at fault are the same line, if no line is both fine and at fault.
 same_line : (IsFine IsFaulty IsBad : PatternLine → Type 0) (lines : List PatternLine) (n m : ℕ)
@@ -54,15 +54,13 @@ same_line IsFine IsFaulty IsBad lines n m not_faulty not_bad x y =
 -- ---- one reason
 module _ (level : Level) (p : Pattern) where
   off_board : {G : Type 0} → IsUnlawful level p Board → IsOnBoard level p → G
-  off_board (c, named, off) on = absurd (off (on c named))
+  off_board (c, named, off) on = search
 
   on_wall : {G : Type 0} → IsUnlawful level p Wall → IsOffWalls level p → G
-  on_wall (on, c, box, wall) off = absurd (not_both level.walls c wall (off c box))
+  on_wall (on, c, box, wall) off = grind (arith, not_both)
 
   unfair : {G : Type 0} → IsUnlawful level p Seed → HasFairSeeds level p → G
-  unfair (on, off, c, seed, bad) fair = ⊎_elim
-      (λ outside. absurd (not_both level.room c (fair c seed).0 outside))
-      (λ box. absurd (not_both p.boxes c box (fair c seed).1)) bad
+  unfair (on, off, c, seed, bad) fair = grind (arith, not_both)
 
   why_one : (a b : LineWhy) → IsUnlawful level p a → IsUnlawful level p b → a ≡ b
   why_one Board Board x y = refl
@@ -105,7 +103,7 @@ leak_one level zone x y d e p q =
     (λ less. absurd (q.first x d p.leaks (inr (here, less))))
     (λ not_less. ⊎_elim
     (λ more. absurd (p.first y e q.leaks (inr (sym here, more))))
-    (λ not_more. (here, same_dir d e (omega (arith, not_less, not_more))))
+    (λ not_more. (here, same_dir d e (omega arith)))
     (cases_lt (dir_rank e) (dir_rank d)))
     (cases_lt (dir_rank d) (dir_rank e)))
     (λ after. absurd (p.first y e q.leaks (inl after)))
@@ -123,7 +121,7 @@ module _ (level : Level) (lines : List PatternLine) where
       let here = same_line (λ l. IsLawful level (pattern_of l)) (λ l. IsUnlawful level (pattern_of l) why) (λ l. IsUnlawful level (pattern_of l) other) lines
       n m
       (λ l fine faulty. unlawful_not level (pattern_of l) why faulty fine) (λ l fine faulty. unlawful_not level (pattern_of l) other faulty fine) x y in (
-        sym x.number_is ∙ ap (λ (l : PatternLine). l.line) here ∙ y.number_is,
+        sym x.number_is ∙ ap (λ l. l.line) here ∙ y.number_is,
         why_one level (pattern_of y.line) why other (rw here at x.faulty) y.faulty,
       )
 
@@ -138,7 +136,7 @@ module _ (level : Level) (lines : List PatternLine) where
       let here = same_line (λ l. CoversPushesOf level (patterns_of lines) (pattern_of l)) (IsAt c d) (IsAt k e) lines n m (covers_not c d) (covers_not k e) x
       y in
       let one = push_one level (patterns_of lines) (pattern_of y.line) c k d e (rw here at x.faulty) y.faulty in
-      (sym x.number_is ∙ ap (λ (l : PatternLine). l.line) here ∙ y.number_is, one.0, one.1)
+      (sym x.number_is ∙ ap (λ l. l.line) here ∙ y.number_is, one.0, one.1)
 
   pub one_pattern_fault : (a b : CheckFault) → IsFirstPatternFault level lines a → IsFirstPatternFault level lines b → a ≡ b
   one_pattern_fault (Line n why) (Line m other) x y = let one = line_one n m why other x y in λ i. Line (one.0 i) (one.1 i)
@@ -158,12 +156,12 @@ module _ (level : Level) (lines : List PatternLine) where
 -- ---- one first fault of a zone
 module _ (level : Level) (line : ZoneLine) where
   off_zone : {G : Type 0} → IsUnlawfulZone level (cells_of line.cells) zone_why.Board → IsZoneOnBoard level (cells_of line.cells) → G
-  off_zone (c, has, off) on = absurd (off (on c has))
+  off_zone (c, has, off) on = search
 
   not_lawful_zone : {G : Type 0} (why : ZoneLineWhy) → IsUnlawfulZone level (cells_of line.cells) why → IsZoneOnBoard level (cells_of line.cells) →
       IsZoneOffWalls level (cells_of line.cells) → G
   not_lawful_zone zone_why.Board x on apart = off_zone x on
-  not_lawful_zone zone_why.Wall (_, c, has, wall) on apart = absurd (not_both level.walls c wall (apart c has))
+  not_lawful_zone zone_why.Wall (_, c, has, wall) on apart = grind (arith, not_both)
 
   zone_why_one : (a b : ZoneLineWhy) → IsUnlawfulZone level (cells_of line.cells) a → IsUnlawfulZone level (cells_of line.cells) b → a ≡ b
   zone_why_one zone_why.Board zone_why.Board x y = refl
@@ -172,14 +170,12 @@ module _ (level : Level) (line : ZoneLine) where
   zone_why_one zone_why.Wall zone_why.Wall x y = refl
 
   pub one_zone_fault : (a b : ZoneFault) → IsFirstZoneFault level line a → IsFirstZoneFault level line b → a ≡ b
-  one_zone_fault (zone_fault.Line n why) (zone_fault.Line m other) (number, x) (again, y) =
-      let same_why = zone_why_one why other x y in λ i. zone_fault.Line ((sym number ∙ again) i) (same_why i)
+  one_zone_fault (zone_fault.Line n why) (zone_fault.Line m other) (number, x) (again, y) = grind (arith, zone_why_one)
   one_zone_fault (zone_fault.Line n why) (zone_fault.Leak m y e) (_, x) z = not_lawful_zone why x z.1 z.2
   one_zone_fault (zone_fault.Line n why) (zone_fault.Fits m) (_, x) z = not_lawful_zone why x z.1 z.2
   one_zone_fault (zone_fault.Line n why) zone_fault.Memory x y = absurd y
   one_zone_fault (zone_fault.Leak n c d) (zone_fault.Line m other) z (_, y) = not_lawful_zone other y z.1 z.2
-  one_zone_fault (zone_fault.Leak n c d) (zone_fault.Leak m k e) x y =
-      let one = leak_one level (cells_of line.cells) c k d e x.3 y.3 in λ i. zone_fault.Leak ((sym x.0 ∙ y.0) i) (one.0 i) (one.1 i)
+  one_zone_fault (zone_fault.Leak n c d) (zone_fault.Leak m k e) x y = grind (arith, leak_one)
   one_zone_fault (zone_fault.Leak n c d) (zone_fault.Fits m) x y = absurd (y.3 c d x.3.leaks)
   one_zone_fault (zone_fault.Leak n c d) zone_fault.Memory x y = absurd y
   one_zone_fault (zone_fault.Fits n) (zone_fault.Line m other) z (_, y) = not_lawful_zone other y z.1 z.2
@@ -191,9 +187,9 @@ module _ (level : Level) (line : ZoneLine) where
 -- a zone that refutes a level has no first fault
 pub refuting_no_fault : (level : Level) (line : ZoneLine) (fault : ZoneFault) → IsRefuting level (cells_of line.cells) → IsFirstZoneFault level line fault → ⊥
 refuting_no_fault level line (zone_fault.Line number zone_why.Board) refuting (here, (c, has, off)) = off (refuting.board c has)
-refuting_no_fault level line (zone_fault.Line number zone_why.Wall) refuting (here, (on, c, has, wall)) = not_both level.walls c wall (refuting.wall c has)
+refuting_no_fault level line (zone_fault.Line number zone_why.Wall) refuting (here, (on, c, has, wall)) = grind (arith, not_both)
 refuting_no_fault level line (zone_fault.Leak number x d) refuting (here, on, off, first) = refuting.closed x d first.leaks
-refuting_no_fault level line (zone_fault.Fits number) refuting (here, on, off, closed, few) = let more = refuting.more in omega (arith, few, more)
+refuting_no_fault level line (zone_fault.Fits number) refuting (here, on, off, closed, few) = let more = refuting.more in omega arith
 refuting_no_fault level line zone_fault.Memory refuting first = first
 
 -- ---- the answer of the check
@@ -202,7 +198,7 @@ module _ {A : Type 0} (level : Level) (lines : List PatternLine) where
   pub first_unless_memory : (P : A → Type 0) (r : Result A CheckFault) → IfOk r (λ a. Closed level (patterns_of lines) × P a) →
       IfErr r (λ fault. fault ≢ Memory → IsFirstPatternFault level lines fault)
       → (fault : CheckFault) → IsFirstPatternFault level lines fault → (r ≡ Err fault) ⊎ (r ≡ Err Memory)
-  first_unless_memory P (Ok a) ok err fault is = absurd (fault_not_closed level lines fault is ok.0)
+  first_unless_memory P (Ok a) ok err fault is = grind (arith, fault_not_closed)
   first_unless_memory P (Err (Line n why)) ok err fault is = inl (ap Err (one_pattern_fault level lines (Line n why) fault (err (λ e. cc)) is))
   first_unless_memory P (Err Start) ok err fault is = inl (ap Err (one_pattern_fault level lines Start fault (err (λ e. cc)) is))
   first_unless_memory P (Err (Push n c d)) ok err fault is = inl (ap Err (one_pattern_fault level lines (Push n c d) fault (err (λ e. cc)) is))
@@ -213,18 +209,17 @@ module _ {A : Type 0} (level : Level) (line : ZoneLine) where
   pub refuting_unless_memory : (r : Result A ZoneFault) → IfErr r (λ fault. fault ≢ zone_fault.Memory → IsFirstZoneFault level line fault)
       → IsRefuting level (cells_of line.cells) → IsOkUnless r zone_fault.Memory
   refuting_unless_memory (Ok a) err refuting = tt
-  refuting_unless_memory (Err (zone_fault.Line n why)) err refuting = absurd (refuting_no_fault level line (zone_fault.Line n why) refuting (err (λ e. cc)))
-  refuting_unless_memory (Err (zone_fault.Leak n c d)) err refuting = absurd (refuting_no_fault level line (zone_fault.Leak n c d) refuting (err (λ e. cc)))
-  refuting_unless_memory (Err (zone_fault.Fits n)) err refuting = absurd (refuting_no_fault level line (zone_fault.Fits n) refuting (err (λ e. cc)))
+  refuting_unless_memory (Err (zone_fault.Line n why)) err refuting = grind (arith, refuting_no_fault)
+  refuting_unless_memory (Err (zone_fault.Leak n c d)) err refuting = grind (arith, refuting_no_fault)
+  refuting_unless_memory (Err (zone_fault.Fits n)) err refuting = grind (arith, refuting_no_fault)
   refuting_unless_memory (Err zone_fault.Memory) err refuting = refl
 
   pub zone_first_unless_memory : (P : A → Type 0) (r : Result A ZoneFault) → IfOk r (λ a. IsRefuting level (cells_of line.cells) × P a)
       → IfErr r (λ fault. fault ≢ zone_fault.Memory → IsFirstZoneFault level line fault)
       → (fault : ZoneFault) → IsFirstZoneFault level line fault → (r ≡ Err fault) ⊎ (r ≡ Err zone_fault.Memory)
-  zone_first_unless_memory P (Ok a) ok err fault is = absurd (refuting_no_fault level line fault ok.0 is)
-  zone_first_unless_memory P (Err (zone_fault.Line n why)) ok err fault is =
-      inl (ap Err (one_zone_fault level line (zone_fault.Line n why) fault (err (λ e. cc)) is))
+  zone_first_unless_memory P (Ok a) ok err fault is = grind (arith, refuting_no_fault)
+  zone_first_unless_memory P (Err (zone_fault.Line n why)) ok err fault is = grind (arith, one_zone_fault)
   zone_first_unless_memory P (Err (zone_fault.Leak n c d)) ok err fault is =
       inl (ap Err (one_zone_fault level line (zone_fault.Leak n c d) fault (err (λ e. cc)) is))
-  zone_first_unless_memory P (Err (zone_fault.Fits n)) ok err fault is = inl (ap Err (one_zone_fault level line (zone_fault.Fits n) fault (err (λ e. cc)) is))
+  zone_first_unless_memory P (Err (zone_fault.Fits n)) ok err fault is = grind (arith, one_zone_fault)
   zone_first_unless_memory P (Err zone_fault.Memory) ok err fault is = inr refl

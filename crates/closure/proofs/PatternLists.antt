@@ -18,7 +18,7 @@ use Rattle.closure.proofs.Entries.{first_or_rest}
 
 -- The pattern of each line of a list is one of its patterns.
 listed_pattern : (lines : List PatternLine) (l : PatternLine) → Contains lines l → Contains (patterns_of lines) (pattern_of l)
-listed_pattern [] l (k, lt, is) = absurd (omega (arith, lt))
+listed_pattern [] l (k, lt, is) = absurd (omega arith)
 listed_pattern (x ∷ xs) l listed = elim (first_or_rest x xs l listed) [
   | inl same ↦ (0, omega arith, ap pattern_of same)
   | inr later ↦ Contains-append_right (pattern_of x ∷ []) (patterns_of xs) (pattern_of l) (listed_pattern xs l later)
@@ -32,7 +32,7 @@ module _ (level : Level) (lines : List PatternLine) (l : PatternLine) where
         | inl before ↦ lawful pattern before
         | inr last ↦ elim (first_or_rest (pattern_of l) [] pattern last) [
           | inl same ↦ rw same at new
-          | inr none ↦ let lt = none.1 in absurd (omega (arith, lt))
+          | inr none ↦ let lt = none.1 in absurd (omega arith)
         ]
       ]
 
@@ -56,7 +56,7 @@ module _ (level : Level) (lines : List PatternLine) (l : PatternLine) where
     before = found.before;
     line = found.line;
     after = found.after ++ l ∷ [];
-    list = ap (λ (ls : List PatternLine). ls ++ l ∷ []) found.list ∙ append_assoc found.before (found.line ∷ found.after) (l ∷ []);
+    list = ap (λ ls. ls ++ l ∷ []) found.list ∙ append_assoc found.before (found.line ∷ found.after) (l ∷ []);
     number_is = found.number_is;
     fine = found.fine;
     faulty = found.faulty;

@@ -116,7 +116,7 @@ module _ (Free New : Cell → Type 0) (k : Cell) (shape : Extent) (inside : (c :
   comes x z new (beside {c = b} d before free) =
       let so_far = comes x b new before in (
         λ other. same_or_other b k
-            (λ at. rw at (so_far.1 at d (subst (λ (q : Cell). New (neighbor q d)) at ((turn (neighbor b d)).1 (free, other)))))
+            (λ at. rw at (so_far.1 at d (subst (λ q. New (neighbor q d)) at ((turn (neighbor b d)).1 (free, other)))))
             (λ off. beside d (so_far.0 (other_cell b k off)) ((turn (neighbor b d)).1 (free, other))),
         λ here e next. same_or_other b k
             (λ at. so_far.1 at e next)
@@ -124,7 +124,7 @@ module _ (Free New : Cell → Type 0) (k : Cell) (shape : Extent) (inside : (c :
             let before_free = joined_free Free (λ seed. seed ≡ x) b before in
             let is_new = (turn b).1 (before_free, other_cell b k off) in
             let on = inside b before_free in
-            let back : neighbor k (opposite d) ≡ b = ap (λ (q : Cell). neighbor q (opposite d)) (sym here) ∙ neighbor_back b d on.top on.left in
+            let back : neighbor k (opposite d) ≡ b = ap (λ q. neighbor q (opposite d)) (sym here) ∙ neighbor_back b d on.top on.left in
             joined_on New x b (neighbor k e) (so_far.0 (other_cell b k off))
             (rw back at (sides (opposite d) e (rw back is_new) next))),
       )
@@ -151,5 +151,4 @@ module _ (level : Level) (formed : IsWellFormed level) where
 -- ---- what is in one piece is reached from each of its cells
 pub reached_whole : (Free Begins : Cell → Type 0) → IsOnePiece Free → (x : Cell) → Begins x → Free x → (c : Cell) → Free c → Reached (WalksTo Free) Begins c
 reached_whole Free Begins whole x begun free c to =
-    walked_more Free Free (λ q. (q ≡ x) × Free q) Begins (λ _ h. h) (λ q both. rw both.0 begun) c
-    ((joined_is Free (λ q. q ≡ x) c).0 (whole x c free to))
+    walked_more Free Free (λ q. (q ≡ x) × Free q) Begins (λ _ h. h) (λ q both. rw both.0 begun) c ((joined_is Free (λ q. q ≡ x) c).0 (whole x c free to))

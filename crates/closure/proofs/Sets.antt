@@ -27,7 +27,7 @@ put_back s c has = same_members _ s
 
 -- ---- unions, intersections and differences
 and_both : (a b : Bool) → a ≡ true → b ≡ true → (a && b) ≡ true
-and_both a b h k = ap (λ v. v && b) h ∙ k
+and_both a b h k = search
 
 pub other_where : (s : Cells) (c k : Cell) → Lacks s c → Has s k → c ≢ k
 other_where s c k lacks has e = not_both s k has (rw e at lacks)

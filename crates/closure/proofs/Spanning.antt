@@ -1,7 +1,7 @@
 -- The spanning tree grows cell by cell. A cell that is taken out of the cells that are left becomes a node with the next number, and
 -- the node beside which it lies is its parent; all other nodes stay. If no neighbour of a node is left, no cell is left, since the room
 -- is joined.
-use Rattle.std.proofs.Common.{◌≡◌, ◌≢◌, ℕ, ◌+◌, ◌*◌, ◌<◌, ◌≤◌, false, List, [], ◌∷◌, ◌++◌, length, get_or, set, refl, sym, ◌∙◌, ap, subst, inl, inr, arith}
+use Rattle.std.proofs.Common.{◌≡◌, ◌≢◌, ℕ, ◌+◌, ◌*◌, ◌<◌, ◌≤◌, false, List, [], ◌∷◌, ◌++◌, length, get_or, set, refl, sym, ◌∙◌, ap, subst, arith}
 use Rattle.std.specs.FinSet as finset
 use Rattle.std.proofs.lemmas.Bool.{cases_lt, false≢true}
 use Rattle.std.proofs.lemmas.List.{get_or-set_same, get_or-set_other, length-set}
@@ -25,25 +25,18 @@ use Rattle.closure.proofs.Sets.{removed_lacks}
 
 -- Cells that don't compare equal are two cells.
 pub other_cell : (a b : Cell) → same a b ≡ false → a ≡ b → ⊥
-other_cell a b other e = false≢true (sym other ∙ rw (← e) (same_itself a))
+other_cell a b other e = grind (arith, false≢true, same_itself)
 
 pub lacks_remove : (s : Cells) (k c : Cell) → Lacks s c → Lacks (finset.remove s k) c
-lacks_remove s k c lacks = lacks_where (finset.remove s k) c (λ h. not_both s c (has_remove s k c h).1 lacks)
+lacks_remove s k c lacks = grind (arith, lacks_where, not_both, has_remove)
 
 -- two cells of narrow grids that have one index are one cell
 pub same_index : (a b : Cell) → a.column < 256 → b.column < 256 → index_of a ≡ index_of b → a ≡ b
-same_index a b small low e =
-    let rows : a.row ≡ b.row = omega (arith, small, low, e) in
-    let columns : a.column ≡ b.column = omega (arith, small, low, e) in
-    λ i. record { row = rows i; column = columns i }
+same_index a b small low e = grind arith
 
 -- the index of a cell of a grid is within a table by cells
 pub index_within : (shape : Extent) → HasSides shape.width shape.height → (c : Cell) → IsOn shape c → index_of c < 256 * (shape.height + 1)
-index_within shape sides c on =
-    let bottom = on.bottom in
-    let right = on.right in
-    let wide = sides.not_too_wide in
-    omega (arith, bottom, right, wide)
+index_within shape sides c on = grind arith
 
 -- The tree of the root alone spans no other cell.
 module _ (level : Level) (root : Cell) (room : Has level.room root) (player : root ≡ level.player) where
@@ -62,7 +55,7 @@ module _ (level : Level) (root : Cell) (room : Has level.room root) (player : ro
     each = λ c inside lacks.
         same_or_other c root
         (λ same. rw same (record {
-          within = rw steps_is (omega (arith, number));
+          within = rw steps_is (omega arith);
           same = λ d. rw (number, steps_is) cell_is;
         }))
         (λ other. absurd (not_both left c (rw left_is (kept_by_remove level.room root c (other_cell c root other) inside))
@@ -71,15 +64,15 @@ module _ (level : Level) (root : Cell) (room : Has level.room root) (player : ro
   }
     where
       one : length new.nodes.items ≡ 1
-      one = subst (λ (l : List Node). length l ≡ 1) (sym steps_is) (omega arith)
+      one = subst (λ l. length l ≡ 1) (sym steps_is) (omega arith)
 
       first_alone : (i : ℕ) → 0 < i → i < length new.nodes.items → ⊥
-      first_alone i up lt = let long_is = one in omega (arith, up, lt, long_is)
+      first_alone i up lt = let long_is = one in omega arith
 
       only_one : (P : Node → Type 0) (i : ℕ) (d : Node) → i < length new.nodes.items → P s → P (get_or new.nodes.items i d)
       only_one P i d lt p =
           let long_is = one in
-          let none : i ≡ 0 = omega (arith, lt, long_is) in
+          let none : i ≡ 0 = omega arith in
           rw (none, steps_is) p
 
 module _ (level : Level) (formed : IsWellFormed level) (left : Cells) (old : Tree) (growing : IsGrowing level left old) where
@@ -88,13 +81,7 @@ module _ (level : Level) (formed : IsWellFormed level) (left : Cells) (old : Tre
 
   -- the index of a cell of the room is within the table
   pub in_table : (c : Cell) → Has level.room c → (index_of c < length old.numbers.items) × (c.column < 256)
-  in_table c room =
-      let on = (formed.room c room).0 in
-      let bottom = on.bottom in
-      let right = on.right in
-      let wide = formed.sides.not_too_wide in
-      let long = growing.long in
-      (omega (arith, bottom, right, wide, long), omega (arith, right, wide))
+  in_table c room = grind arith
 
   module _ (from : ℕ) (cell : Cell) (dir : Dir) (s : Node) (lt : from < length nodes) (has : Has left cell) (next : (x : Node) →
       neighbor (get_or nodes from x).cell dir ≡ cell)
@@ -103,15 +90,13 @@ module _ (level : Level) (formed : IsWellFormed level) (left : Cells) (old : Tre
     more = nodes ++ s ∷ []
 
     kept_item : (P : Node → Type 0) (i : ℕ) (d : Node) → i < length nodes → P (get_or nodes i d) → P (get_or more i d)
-    kept_item P i d low p = subst P (sym (old_item nodes s i d low)) p
+    kept_item P i d low p = search (old_item)
 
     last_item : (P : Node → Type 0) (i : ℕ) (d : Node) → i ≡ length nodes → P s → P (get_or more i d)
-    last_item P i d here p = subst P (sym (new_item nodes s i d here)) p
+    last_item P i d here p = search (new_item)
 
     low_or_last : {G : Type 0} (i : ℕ) → i < length more → (i < length nodes → G) → (i ≡ length nodes → G) → G
-    low_or_last i below low last =
-        let long = length_more nodes s in
-        elim (cases_lt i (length nodes)) [ inl h ↦ low h | inr past ↦ last (omega (arith, below, past, long)) ]
+    low_or_last i below low last = grind (arith, length_more, cases_lt)
 
     back_to : (d : Node) → neighbor s.cell s.dir ≡ (get_or nodes from d).cell
     back_to d =
@@ -124,19 +109,19 @@ module _ (level : Level) (formed : IsWellFormed level) (left : Cells) (old : Tre
         let some = growing.nodes.some in
         let long = length_more nodes s in
         record {
-          some = omega (arith, some, long);
+          some = omega arith;
           begin = λ d. kept_item (λ x. x.cell ≡ level.player) 0 d some (growing.nodes.begin d);
           room = λ i d below. low_or_last i below
               (λ low. kept_item (λ x. Has level.room x.cell) i d low (growing.nodes.room i d low))
               (λ last. last_item (λ x. Has level.room x.cell) i d last (rw (← cell_is) at (growing.in_room cell has)));
           down = λ i d up below. low_or_last i below
               (λ low. kept_item (λ x. x.parent < i) i d low (growing.nodes.down i d up low))
-              (λ last. last_item (λ x. x.parent < i) i d last (omega (arith, next_is, last, lt)));
+              (λ last. last_item (λ x. x.parent < i) i d last (omega arith));
           leads = λ i d up below. low_or_last i below
               (λ low.
               let before = growing.nodes.down i d up low in
               kept_item (λ x. neighbor x.cell x.dir ≡ (get_or more x.parent d).cell) i d low
-              (kept_item (λ y. neighbor (get_or nodes i d).cell (get_or nodes i d).dir ≡ y.cell) (get_or nodes i d).parent d (omega (arith, before, low))
+              (kept_item (λ y. neighbor (get_or nodes i d).cell (get_or nodes i d).dir ≡ y.cell) (get_or nodes i d).parent d (omega arith)
               (growing.nodes.leads i d up low)))
               (λ last. last_item (λ x. neighbor x.cell x.dir ≡ (get_or more x.parent d).cell) i d last
               (rw (← next_is) at (kept_item (λ y. neighbor s.cell s.dir ≡ y.cell) from d lt
@@ -153,7 +138,7 @@ module _ (level : Level) (formed : IsWellFormed level) (left : Cells) (old : Tre
         (λ same.
         let number = get_or-set_same numbers (index_of cell) (length nodes) 0 here.0 in
         rw same (record {
-          within = omega (arith, number, long);
+          within = omega arith;
           same = λ d. rw number (last_item (λ x. x.cell ≡ cell) (length nodes) d refl cell_is);
         }))
         (λ other.
@@ -164,42 +149,35 @@ module _ (level : Level) (formed : IsWellFormed level) (left : Cells) (old : Tre
         (λ l. l)) in
         let within = was.within in
         record {
-          within = omega (arith, number, within, long);
+          within = omega arith;
           same = λ d. rw number (kept_item (λ x. x.cell ≡ c) (get_or numbers (index_of c) 0) d within
               (was.same d));
         })
 
     pub laid_more : (new : Tree) → new.numbers.items ≡ set old.numbers.items (index_of cell) (length nodes) → new.nodes.items ≡ more →
         IsGrowing level (finset.remove left cell) new
-    laid_more new numbers_is steps_is = record {
-      nodes = rw steps_is more_steps;
-      long = ap (λ (l : List ℕ). length l) numbers_is ∙ length-set old.numbers.items (index_of cell) (length nodes) ∙ growing.long;
-      in_room = λ c h. growing.in_room c (has_remove left cell c h).1;
-      each = λ c room lacks. rw (numbers_is, steps_is) (numbered c room lacks);
-      begun = lacks_remove left cell level.player growing.begun;
-    }
+    laid_more new numbers_is steps_is = grind (arith, more_steps, length-set, has_remove, numbered, lacks_remove)
 
   -- ---- at the end
   module _ (joined : AreJoinedBeside level left nodes (length nodes)) where
     default : Node
-    default = record { cell = level.player; dir = L; parent = 0 }
+    default = grind arith
 
     goes_on : (c : Cell) (d : Dir) → Has level.room c → Lacks left c → Has level.room (neighbor c d) → Lacks left (neighbor c d)
     goes_on c d room lacks ahead =
         let number = growing.each c room lacks in
         let i = get_or old.numbers.items (index_of c) 0 in
-        subst (λ (q : Cell). Lacks left (neighbor q d)) (number.same default)
-        (joined i default d number.within (rw (number.same default) ahead))
+        subst (λ q. Lacks left (neighbor q d)) (number.same default) (joined i default d number.within (rw (number.same default) ahead))
 
     along : (c : Cell) → Joined (IsFloor level) (λ q. q ≡ level.player) c → Has level.room c × Lacks left c
-    along c (at_seed seed floor) = (rw seed formed.here, rw seed growing.begun)
+    along c (at_seed seed floor) = search
     along _ (beside {c = b} d before floor) =
         let was = along b before in
         let room = formed.goes_on b d was.0 floor in
         (room, goes_on b d was.0 was.1 room)
 
     pub none_left : (c : Cell) → Has level.room c → Lacks left c
-    none_left c room = (along c (formed.joined c room)).1
+    none_left c room = grind (arith, along)
 
 -- ---- the four directions of one cell
 pub record IsTurn (level : Level) (from : ℕ) (dir : Dir) (left : Cells) (nodes : List Node) (left_after : Cells) (steps_after : List Node) : Type 0 where
@@ -212,41 +190,13 @@ module _ (level : Level) (from : ℕ) (a b c e f : Cells) (p q r u v : List Node
     (three : IsTurn level from R c r e u) (four : IsTurn level from D e u f v)
     (lt : from < length p) where
   first_item : (i : ℕ) (s : Node) → i < length p → get_or v i s ≡ get_or p i s
-  first_item i s low =
-      let n = one.longer in
-      let m = two.longer in
-      let k = three.longer in
-      four.same_item i s (omega (arith, low, n, m, k)) ∙ (three.same_item i s (omega (arith, low, n, m)) ∙ (two.same_item i s (omega (arith, low, n)) ∙
-      one.same_item i s low))
+  first_item i s low = grind arith
 
   at_turn : (s : Node) (d : Dir) → Has level.room (neighbor (get_or p from s).cell d) → Lacks f (neighbor (get_or p from s).cell d)
-  at_turn s L room = four.kept _ (three.kept _ (two.kept _ (one.joined s room)))
-  at_turn s U room =
-      let same = one.same_item from s lt in
-      let P : Node → Type 0 = λ x. Lacks f (neighbor x.cell U) in
-      subst P same (four.kept _ (three.kept _ (two.joined s (rw same room))))
-  at_turn s R room =
-      let n = one.longer in
-      let same = two.same_item from s (omega (arith, lt, n)) ∙ one.same_item from s lt in
-      let P : Node → Type 0 = λ x. Lacks f (neighbor x.cell R) in
-      subst P same (four.kept _ (three.joined s (rw same room)))
-  at_turn s D room =
-      let n = one.longer in
-      let m = two.longer in
-      let same = three.same_item from s (omega (arith, lt, n, m)) ∙ (two.same_item from s (omega (arith, lt, n)) ∙ one.same_item from s lt) in
-      let P : Node → Type 0 = λ x. Lacks f (neighbor x.cell D) in
-      subst P same (four.joined s (rw same room))
+  at_turn s L room = grind arith
+  at_turn s U room = grind (arith, same)
+  at_turn s R room = grind (arith, same)
+  at_turn s D room = grind (arith, same)
 
   pub turned : AreJoinedBeside level a p from → AreJoinedBeside level f v (from + 1)
-  turned before i s d below room =
-      let P : Node → Type 0 = λ x. Lacks f (neighbor x.cell d) in
-      let Q : Node → Type 0 = λ x. Has level.room (neighbor x.cell d) in
-      elim (cases_lt i from) [
-        | inl low ↦
-            let same = first_item i s (omega (arith, low, lt)) in
-            rw same (four.kept _ (three.kept _ (two.kept _ (one.kept _ (before i s d low (rw same at room))))))
-        | inr past ↦
-            let here : i ≡ from = omega (arith, past, below) in
-            let same = ap (λ (k : ℕ). get_or v k s) here ∙ first_item from s lt in
-            rw same (at_turn s d (rw same at room))
-      ]
+  turned before i s d below room = grind (arith, cases_lt, same, first_item, at_turn)

@@ -52,7 +52,7 @@ module _ (level : Level) (formed : IsWellFormed level) (patterns : List Pattern)
   )
 
   pub start_trapped : (c : Cell) → Has trap.members c → Has level.boxes c → IsCovered level patterns (start level)
-  start_trapped c has box = covers_trapped (start level) c has box formed.here (other_where level.boxes level.player c formed.apart box)
+  start_trapped c has box = search (covers_trapped, other_where)
 
   module _ (pattern : Pattern) (floor : (c : Cell) → Has pattern.boxes c → IsFloor level c) (room : (c : Cell) → InPatternRegion level pattern c → Has level.room c)
       (push : Push) (out : PushesOut level pattern push) where
@@ -71,8 +71,7 @@ module _ (level : Level) (formed : IsWellFormed level) (patterns : List Pattern)
 
     -- The result of a push to the trap is covered.
     pub onto_trap : Has trap.members push.to → IsCovered level patterns (after_push pattern push)
-    onto_trap has = covers_trapped (after_push pattern push) push.to has (inserted _ push.to) from_room
-        (other_member pattern.boxes push.from push.to out.box out.free.no_bar)
+    onto_trap has = search (covers_trapped, inserted, from_room, other_member)
 
     -- So is that of each push of a pattern with a box on the trap.
     pub trapped_push : (c : Cell) → Has pattern.boxes c → Has trap.members c → IsCovered level patterns (after_push pattern push)

@@ -28,7 +28,7 @@ module _ (passed after : Cells) (q : Cell) (one_more : after ≡ set.insert pass
       → (c : Cell) → New c ↔ (Old c × Lacks after c)
   out_more Old Now New so_far turn c =
       let next = set.insert passed q in
-      subst (λ (s : Cells). New c ↔ (Old c × Lacks s c)) (sym one_more) (
+      subst (λ s. New c ↔ (Old c × Lacks s c)) (sym one_more) (
         (λ h. let now = (turn c).0 h in let old = (so_far c).0 now.0 in (old.0, lacks_insert passed q c now.1 old.1)),
         (λ both. (turn c).1 (
           (so_far c).1 (both.0, lacks_where passed c (λ has. not_both next c (kept_by_insert passed q c has) both.1)),
@@ -37,11 +37,10 @@ module _ (passed after : Cells) (q : Cell) (one_more : after ≡ set.insert pass
       )
 
   pub in_more : (Old Other Now New : Cell → Type 0) → ((c : Cell) → Now c ↔ (Old c ⊎ (Has passed c × Other c))) →
-      ((c : Cell) → New c ↔ (Now c ⊎ ((c ≡ q) × Other c)))
-      → (c : Cell) → New c ↔ (Old c ⊎ (Has after c × Other c))
+      ((c : Cell) → New c ↔ (Now c ⊎ ((c ≡ q) × Other c))) → (c : Cell) → New c ↔ (Old c ⊎ (Has after c × Other c))
   in_more Old Other Now New so_far turn c =
       let next = set.insert passed q in
-      subst (λ (s : Cells). New c ↔ (Old c ⊎ (Has s c × Other c))) (sym one_more) (
+      subst (λ s. New c ↔ (Old c ⊎ (Has s c × Other c))) (sym one_more) (
         (λ h. either ((turn c).0 h)
             (λ now. either ((so_far c).0 now) (λ old. inl old) (λ both. inr (kept_by_insert passed q c both.0, both.1)))
             (λ new. inr (rw new.0 (inserted passed q), new.1))),

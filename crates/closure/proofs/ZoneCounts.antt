@@ -40,16 +40,12 @@ moved_inside zone boxes from to in_from in_to box free =
 
 -- a box that moves from outside the zone makes the boxes in it no fewer
 moved_outside : (zone boxes : Cells) (from to : Cell) → Lacks zone from → count_in zone boxes ≤ count_in zone (moved boxes from to)
-moved_outside zone boxes from to outside = len-within (set.intersection zone boxes) (set.intersection zone (moved boxes from to))
-    (λ c h. let both = has_intersection zone boxes c h in
-    in_intersection zone (moved boxes from to) c both.0
-    (kept_by_insert (set.remove boxes from) to c (kept_by_remove boxes from c (λ e. not_both zone from (rw e at both.0) outside) both.1)))
+moved_outside zone boxes from to outside = grind (arith, len-within, has_intersection, in_intersection, kept_by_insert, kept_by_remove, not_both)
 
 module _ (level : Level) (zone : Cells) (formed : IsWellFormed level) (closed : IsClosedZone level zone) where
   -- A box of a closed zone that is pushed stays in the zone.
   stays : (x : Cell) (d : Dir) → Has zone x → Has level.room (neighbor x (opposite d)) → IsFloor level (neighbor x d) → Has zone (neighbor x d)
-  stays x d inside behind ahead =
-      has_or_lacks zone (neighbor x d) (λ h. h) (λ outside. absurd (closed x d (record { inside = inside; behind = behind; ahead = ahead; outside = outside })))
+  stays x d inside behind ahead = grind (arith, has_or_lacks)
 
   -- This holds of each state that a play reaches.
   record Keeps (s : State) : Type 0 where
@@ -58,8 +54,7 @@ module _ (level : Level) (zone : Cells) (formed : IsWellFormed level) (closed : 
     count : count_in zone level.boxes ≤ count_in zone s.boxes
 
   walk_keeps : (s : State) (d : Dir) (t : State) → Keeps s → Walks level s d t → Keeps t
-  walk_keeps s d t keeps (floor, free, is) =
-      subst Keeps (sym is) (record { floor = keeps.floor; room = formed.goes_on s.player d keeps.room floor; count = keeps.count })
+  walk_keeps s d t keeps (floor, free, is) = grind arith
 
   push_keeps : (s : State) (d : Dir) (t : State) → Keeps s → Pushes level s d t → Keeps t
   push_keeps s d t keeps (box, floor, free, is) =
@@ -69,13 +64,13 @@ module _ (level : Level) (zone : Cells) (formed : IsWellFormed level) (closed : 
       let back = neighbor_back s.player d stands.0.top stands.0.left in
       let no_fewer : count_in zone s.boxes ≤ count_in zone (moved s.boxes from to) = has_or_lacks zone from
       (λ inside. let same = moved_inside zone s.boxes from to inside (stays from d inside (rw back keeps.room) floor) box free in
-      omega (arith, same))
+      omega arith)
       (λ outside. moved_outside zone s.boxes from to outside) in
       let before = keeps.count in
       subst Keeps (sym is) (record {
         floor = moved_on_floor level s.boxes from to keeps.floor floor;
         room = formed.goes_on s.player d keeps.room (keeps.floor from box);
-        count = omega (arith, before, no_fewer);
+        count = omega arith;
       })
 
   play_keeps : (ds : List Dir) (s t : State) → Keeps s → Plays level s ds t → Keeps t
@@ -92,7 +87,7 @@ refuting_unsolvable level zone formed refuting (ds, t, plays, solved) =
     (λ c h. let both = has_intersection zone t.boxes c h in in_intersection zone level.goals c both.0 (solved c both.1)) in
     let count = keeps.count in
     let more = refuting.more in
-    omega (arith, more, on_goals, count)
+    omega arith
 
 -- if the check accepts a zone, no list of directions solves the level
 pub unsolvable_where_refuted : {A E : Type 0} (P : A → Type 0) (level : Level) (zone : Cells) (r : Result A E) → IsWellFormed level

@@ -3,12 +3,11 @@ use Rattle.std.specs.Prelude.{MatchBool, map}
 use Rattle.std.specs.List.{Contains}
 use Rattle.std.proofs.lemmas.List.{get_or-map, length-map, map_more}
 use Rattle.answers.specs.Grammar.{said_pattern}
-use Rattle.answers.specs.declared.pattern.Pattern.{Pattern}
 use Rattle.closure.specs.Pattern.{pattern_of}
 use Rattle.closure.proofs.cell_patterns.arena_of.Goals as goal
 
 mapped : {X Y : Type 0} (f : X → Y) (xs : List X) (x : X) → Contains xs x → Contains (map f xs) (f x)
-mapped f xs x (k, lt, is) = let long = length-map xs f in (k, omega (arith, lt, long), get_or-map f xs k x (f x) lt ∙ ap f is)
+mapped f xs x (k, lt, is) = let long = length-map xs f in (k, omega arith, get_or-map f xs k x (f x) lt ∙ ap f is)
 
 -- if there is no pattern off the grid, the lines are those that are added
 added : (Added Same On Off : Type 0) (all : Bool) → MatchBool all Added Same → MatchBool all On Off → (Off → ⊥) → Added
@@ -22,5 +21,5 @@ loop-pattern-preserved c =
     let on = c.requires _ (mapped pattern_of (map said_pattern patterns) (said_pattern pattern)
     (mapped said_pattern patterns pattern (c.loop-pattern.pattern-index, c.loop-pattern-test.true, sym c.pattern-item.is))) in
     rw (added _ _ _ _ c.in_ok-add.field-0 c.in_ok-add.ensures.added c.in_ok-add.ensures.on (λ off. off.2 (on off.0 off.1)), c.loop-pattern.invariant)
-    (ap (λ (p : Pattern). map said_pattern (take c.loop-pattern.pattern-index patterns) ++ said_pattern p ∷ []) c.pattern-item.is ∙
+    (ap (λ p. map said_pattern (take c.loop-pattern.pattern-index patterns) ++ said_pattern p ∷ []) c.pattern-item.is ∙
     sym (map_more said_pattern patterns c.loop-pattern.pattern-index pattern c.loop-pattern-test.true))

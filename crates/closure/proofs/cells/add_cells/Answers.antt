@@ -1,10 +1,8 @@
-use Rattle.std.proofs.Common.{◌∙◌, ◌++◌, ap, sym, List}
+use Rattle.std.proofs.Common.{◌∙◌, ◌++◌, ap, sym}
 use Rattle.std.specs.Prelude.{map}
 use Rattle.std.proofs.lemmas.List.{append_assoc, map_more, take_all}
 use Rattle.std.proofs.lemmas.List.Elements.{All-push, All-same}
 use Rattle.cellset.specs.Cell.{IsOn}
-use Rattle.cellset.specs.declared.cell.Cell.{Cell}
-use Rattle.answers.specs.declared.pattern.Coord.{Coord}
 use Rattle.closure.specs.Pattern.{cell_of}
 use Rattle.closure.proofs.CellLists.{each_in, in_cells}
 use Rattle.closure.proofs.cells.add_cells.Goals as goal
@@ -17,8 +15,7 @@ loop-at-preserved c =
     let was = c.args.cells.now.items in
     let more = map_more cell_of c.args.coords.now c.loop-at.at-index (record { row = 0; column = 0 }) c.loop-at-test.true in
     record {
-      same = rw (c.in_ok-push.ensures.items, c.loop-at.invariant.same, c.in-Some.ensures.1)
-          (append_assoc was _ _ ∙ ap (λ (l : List Cell). was ++ l) (sym more));
+      same = rw (c.in_ok-push.ensures.items, c.loop-at.invariant.same, c.in-Some.ensures.1) (append_assoc was _ _ ∙ ap (λ l. was ++ l) (sym more));
       on = All-same (IsOn c.args.shape) _ _ more (All-push (IsOn c.args.shape) _ _ c.loop-at.invariant.on c.in-Some.ensures.0);
     }
 
@@ -28,6 +25,6 @@ returns-clause-exact c =
     let to = c.len.ensures ∙ c.loop-at.cells.ok.0 in
     let all = take_all c.loop-at.at-index c.args.coords.now c.loop-at-test.false in (
       λ i. record { from = from i; to = to i },
-      c.loop-at.invariant.same ∙ ap (λ (l : List Coord). c.args.cells.now.items ++ map cell_of l) all,
+      c.loop-at.invariant.same ∙ ap (λ l. c.args.cells.now.items ++ map cell_of l) all,
       each_in (IsOn c.args.shape) _ (rw all at c.loop-at.invariant.on),
     )

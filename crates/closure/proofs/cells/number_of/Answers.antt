@@ -10,8 +10,7 @@ returns-then-is_same c = (c.loop-number-test.true, c.if-is_same.ensures)
 
 pub loop-number-preserved : goal.loop-number-preserved
 loop-number-preserved c =
-    All-more (λ q. q ≢ c.args.cell) c.args.cells.now c.loop-number.number no_cell c.loop-number-test.true c.loop-number.invariant
-    c.if-is_same.ensures
+    All-more (λ q. q ≢ c.args.cell) c.args.cells.now c.loop-number.number no_cell c.loop-number-test.true c.loop-number.invariant c.if-is_same.ensures
 
 pub returns : goal.returns
 returns c =

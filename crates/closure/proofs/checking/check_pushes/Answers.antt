@@ -11,7 +11,6 @@ use Rattle.closure.specs.Closed.{CoversPushesOf}
 use Rattle.closure.specs.FirstFault.{HasFirstUncovered}
 use Rattle.closure.specs.Pattern.{Pattern}
 use Rattle.closure.specs.Groups.{list_of}
-use Rattle.closure.specs.declared.arena.StoredLine.{StoredLine}
 use Rattle.closure.proofs.Arenas.{list_long}
 use Rattle.closure.proofs.CellLists.{at_any}
 use Rattle.closure.proofs.GroupPushes.{pattern_of_group}
@@ -30,9 +29,9 @@ returns-in-Some-clause-exact g c = λ _.
     let read : PatternLine = here (line_at arena line) in
     let test = c.loop-line-test.true in
     let len = c.len-line-end.ensures in
-    let within : line < length arena.lines.items = omega (arith, test, len) in
-    let number = ap (λ (l : PatternLine). l.line) (get_or-map here arena.lines.items line c.index-in-Some.result.now read within)
-    ∙ ap (λ (l : StoredLine). l.number) (sym c.index-in-Some.ensures) in
+    let within : line < length arena.lines.items = omega arith in
+    let number = ap (λ l. l.line) (get_or-map here arena.lines.items line c.index-in-Some.result.now read within)
+    ∙ ap (λ l. l.number) (sym c.index-in-Some.ensures) in
     let low : line < length (lines_in arena) = rw (length-map arena.lines.items here) within in (
       c.requires.tables.are.lawful,
       c.requires.start,
@@ -57,7 +56,7 @@ returns-clause-ok g c =
     let long = list_long c.args.tables.now.groups.arena in
     let end = c.loop-line-test.false in
     let len = c.len-line-end.ensures in
-    each_pattern (CoversPushesOf c.args.tables.now.board.now patterns) patterns c.loop-line.line _ (omega (arith, long, end, len)) c.loop-line.invariant.covered
+    each_pattern (CoversPushesOf c.args.tables.now.board.now patterns) patterns c.loop-line.line _ (omega arith) c.loop-line.invariant.covered
 
 pub loop-line-preserved-then-covered-index : goal.loop-line-preserved-then-covered-index
 loop-line-preserved-then-covered-index g c =
@@ -68,15 +67,15 @@ loop-line-preserved-then-covered-index g c =
     let line = c.loop-line.line in
     let test = c.loop-line-test.true in
     let len = c.len-line-end.ensures in
-    let lt : line < length groups.arena.lines.items = omega (arith, test, len) in
+    let lt : line < length groups.arena.lines.items = omega arith in
     let long = grouped.all.long in
     let into = grouped.all.into line lt in
     let notes = c.requires.covered.long in
-    let read : c.index.result.now ≡ slice_index of line = c.index.ensures ∙ at_any of line c.index.result.now 0 (omega (arith, lt, long)) in
+    let read : c.index.result.now ≡ slice_index of line = c.index.ensures ∙ at_any of line c.index.result.now 0 (omega arith) in
     record {
       shape = c.loop-line.invariant.shape;
       lookup = c.loop-line.invariant.lookup;
       covered = one_more (λ (j : ℕ). CoversPushesOf level (list_of groups) (pattern_at (list_of groups) j)) line c.loop-line.invariant.covered
-          (pattern_of_group level groups grouped line lt (c.requires.covered.covers (slice_index of line) (omega (arith, into, notes))
+          (pattern_of_group level groups grouped line lt (c.requires.covered.covers (slice_index of line) (omega arith)
           (rw read at c.if-covered-index.true)));
     }

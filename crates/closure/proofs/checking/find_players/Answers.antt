@@ -1,7 +1,6 @@
 -- The invariant says that the players' cells are of the region, and that they have each neighbour in the region of a box that came. After
 -- the loop all boxes came. A cell is on the other side of the box that it is beside.
 use Rattle.std.proofs.Common.{sym, ◌∙◌, subst, arith}
-use Rattle.cellset.specs.Shape.{Extent}
 use Rattle.cellset.specs.Cell.{IsOn, neighbor, opposite}
 use Rattle.cellset.proofs.MemberLists.{all_came, next_has}
 use Rattle.cellset.proofs.Members.{has_empty}
@@ -18,7 +17,7 @@ loop-from-init g c =
       all = rw c.into_iter-from-iterator.ensures.into_iter_gives c.new-from-items.ensures;
       extent = c.clear.ensures.extent;
       inside = λ q has. has_empty q (rw c.clear.ensures.members at has);
-      beside = λ b came. let low = came.1 in absurd (omega (arith, low));
+      beside = λ b came. let low = came.1 in absurd (omega arith);
     }
 
 -- the boxes lie on the grid
@@ -26,8 +25,7 @@ from_on : (g : _) (c : In-Some g) → IsOn (g.S.CellSet.extent c.args.region.now
 from_on g c =
     let shape = g.S.CellSet.extent c.args.boxes.now in
     let whole = rw c.in-Some.ensures.steps at c.loop-from.invariant.all in
-    subst (λ (e : Extent). IsOn e c.in-Some.from) (c.requires.boxes ∙ sym c.requires.region)
-    (next_has c.loop-from.yielded c.next.new.self c.in-Some.from whole).1
+    subst (λ e. IsOn e c.in-Some.from) (c.requires.boxes ∙ sym c.requires.region) (next_has c.loop-from.yielded c.next.new.self c.in-Some.from whole).1
 
 pub add_player-requires-clause-on : goal.add_player-requires-clause-on
 add_player-requires-clause-on g c = from_on g (goal.at.add_player-requires-clause-on g c).In-Some

@@ -5,9 +5,8 @@
 use Rattle.std.proofs.Common.{refl, sym, ◌∙◌, subst}
 use Rattle.std.proofs.lemmas.Bool.{false≢true}
 use Rattle.std.proofs.lemmas.List.Elements.{All-push, All-contains}
-use Rattle.cellset.specs.Shape.{Extent}
 use Rattle.cellset.specs.Cell.{IsOn}
-use Rattle.cellset.specs.CellSet.{Cells, Has, Lacks}
+use Rattle.cellset.specs.CellSet.{Has, Lacks}
 use Rattle.reach.specs.Pushes.{ArePushesOut, IsPushOut}
 use Rattle.reach.proofs.PushRuns.{next_is_out, came_before, all_came}
 use Rattle.closure.specs.Pattern.{IsCovered}
@@ -23,8 +22,7 @@ all_pushes g c =
     let level = c.args.tables.now.board.now in
     let members = g.S.CellSet.members in
     subst (ArePushesOut level.shape level.walls (members c.args.boxes.now) (Has (members c.args.region.now)))
-    (sym c.into_iter-push-iterator.ensures.into_iter_gives)
-    (rw (c.shape.ensures.value, c.requires.boxes, c.walls.ensures.members) at c.new-push-items.ensures)
+    (sym c.into_iter-push-iterator.ensures.into_iter_gives) (rw (c.shape.ensures.value, c.requires.boxes, c.walls.ensures.members) at c.new-push-items.ensures)
 
 -- The next one is a push out.
 next_out : (g : _) (c : In-Some g) → IsPushOut c.args.tables.now.board.now.shape c.args.tables.now.board.now.walls
@@ -35,7 +33,7 @@ next_out g c = next_is_out (all_pushes g (goal.at.In-Some g c).After-into_iter-p
 pub is_covered_after-requires-clause-from_on : goal.is_covered_after-requires-clause-from_on
 is_covered_after-requires-clause-from_on g c =
     let out = next_out g (goal.at.is_covered_after-requires-clause-from_on g c).In-Some in
-    subst (λ (e : Extent). IsOn e c.in-Some.push.from) c.requires.boxes (c.shape.ensures.on c.in-Some.push.from out.box)
+    subst (λ e. IsOn e c.in-Some.push.from) c.requires.boxes (c.shape.ensures.on c.in-Some.push.from out.box)
 
 pub is_covered_after-requires-clause-to_on : goal.is_covered_after-requires-clause-to_on
 is_covered_after-requires-clause-to_on g c = (next_out g (goal.at.is_covered_after-requires-clause-to_on g c).In-Some).free.on
@@ -43,12 +41,12 @@ is_covered_after-requires-clause-to_on g c = (next_out g (goal.at.is_covered_aft
 pub is_covered_after-requires-clause-from_box : goal.is_covered_after-requires-clause-from_box
 is_covered_after-requires-clause-from_box g c =
     let out = next_out g (goal.at.is_covered_after-requires-clause-from_box g c).In-Some in
-    subst (λ (s : Cells). Has s c.in-Some.push.from) (sym c.loop-push.invariant.same) out.box
+    subst (λ s. Has s c.in-Some.push.from) (sym c.loop-push.invariant.same) out.box
 
 pub is_covered_after-requires-clause-to_free : goal.is_covered_after-requires-clause-to_free
 is_covered_after-requires-clause-to_free g c =
     let out = next_out g (goal.at.is_covered_after-requires-clause-to_free g c).In-Some in
-    subst (λ (s : Cells). Lacks s c.in-Some.push.to) (sym c.loop-push.invariant.same) out.free.no_bar
+    subst (λ s. Lacks s c.in-Some.push.to) (sym c.loop-push.invariant.same) out.free.no_bar
 
 pub returns-then-not-is_covered_after-clause-exact : goal.returns-then-not-is_covered_after-clause-exact
 returns-then-not-is_covered_after-clause-exact g c =

@@ -22,7 +22,7 @@ stand_beside-requires g c = λ k d low.
     let test = c.loop-group-test.true in
     let count = c.len-group-end.ensures in
     rw c.boxes-then-is_whole.ensures.extent (boxes_on c.args.tables.now.board.now c.args.tables.now.groups c.requires.lawful c.requires.grouped
-    c.loop-group.group (omega (arith, test, count)) c.boxes-boxes.result.now c.boxes-boxes.ensures _ (in_list c.boxes-boxes.result.now k d low))
+    c.loop-group.group (omega arith) c.boxes-boxes.result.now c.boxes-boxes.ensures _ (in_list c.boxes-boxes.result.now k d low))
 
 pub returns-then-stand_beside : goal.returns-then-stand_beside
 returns-then-stand_beside g c = λ _.

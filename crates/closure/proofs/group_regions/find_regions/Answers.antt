@@ -2,13 +2,13 @@
 -- the grid. A turn makes the room without the boxes of a group free, which are on the grid because the group is lawful; the room is in one
 -- piece at first (`Pieces.antt`). The flood finds the region of the group's position (`reached_position` in `Grouped.antt`). The boxes of a
 -- group come after those of earlier groups, so their sides stay when its own are noted.
-use Rattle.std.proofs.Common.{◌≡◌, ℕ, ◌+◌, ◌-◌, ◌<◌, ◌≤◌, List, drop, length, get_or, sym, ◌∙◌, ap, subst, inl, inr, arith}
+use Rattle.std.proofs.Common.{◌≡◌, ℕ, ◌+◌, ◌-◌, ◌<◌, ◌≤◌, List, length, get_or, sym, ◌∙◌, ap, subst, inl, inr, arith}
 use Rattle.std.proofs.lemmas.List.{length-drop, length-take}
 use Rattle.std.proofs.lemmas.Bool.{cases_lt, false≢true}
 use Rattle.std.specs.Prelude.{◌↔◌, IsTrue, false}
 use Rattle.cellset.specs.Shape.{Extent}
 use Rattle.cellset.specs.Cell.{IsOn, neighbor}
-use Rattle.cellset.specs.CellSet.{CellsOn, Has, Lacks}
+use Rattle.cellset.specs.CellSet.{Has, Lacks}
 use Rattle.cellset.specs.declared.cell.Cell.{Cell}
 use Rattle.cellset.proofs.Members.{not_both}
 use Rattle.cellset.proofs.Truth.{either}
@@ -36,36 +36,18 @@ boxes_within : (level : Level) (groups : Groups) → AreLawful level (list_of gr
     → (g : ℕ) → g < length groups.spans.items → (boxes : List Cell) → boxes ≡ boxes_of groups g
     → (shape : Extent) → level.shape ≡ shape → (c : Cell) → Has (cells_in boxes) c → IsOn shape c
 boxes_within level groups lawful grouped g lt boxes is shape same c has =
-    subst (λ (e : Extent). IsOn e c) same (boxes_on level groups lawful grouped g lt boxes is c has)
+    subst (λ e. IsOn e c) same (boxes_on level groups lawful grouped g lt boxes is c has)
 
 -- the boxes of a group, counted from the number of its first one
 span_end : (cells : List Cell) (spans : List Span) → AreSpans (length cells) spans → (g : ℕ) → g < length spans
     → (span_at spans g).from + length (part cells (span_at spans g)) ≡ (span_at spans g).to
-span_end cells spans inside g lt =
-    let at = inside.within g lt in
-    let up = at.up in
-    let within = at.end in
-    let taken = length-take ((span_at spans g).to - (span_at spans g).from) (drop (span_at spans g).from cells) in
-    let dropped = length-drop (span_at spans g).from cells in
-    omega (arith, up, within, taken, dropped)
+span_end cells spans inside g lt = grind (arith, length-take, length-drop)
 
 span_read : (spans : List Span) (g : ℕ) (span : Span) → g < length spans → span ≡ get_or spans g span → span.from ≡ (span_at spans g).from
-span_read spans g span lt read = ap (λ (x : Span). x.from) (read ∙ at_any spans g span no_span lt)
+span_read spans g span lt read = grind (arith, at_any, no_span)
 
 pub loop-group-init : goal.loop-group-init
-loop-group-init g c =
-    let none = ap (λ (l : List Region). length l) c.in_ok-of.ensures.items in
-    let capacity = c.in_ok-of.ensures.capacity in
-    let count = c.len-2.ensures ∙ c.args.groups.now.spans.ok.0 in
-    record {
-      free_on = c.in_ok-flood.ensures.0 ∙ c.shape.ensures.value;
-      region_on = c.in_ok-flood.ensures.1 ∙ c.shape.ensures.value;
-      long = sym c.in_ok-sides.sides.ok.0 ∙ (c.in_ok-sides.ensures.len ∙ (c.len.ensures ∙ c.args.groups.now.arena.boxes.ok.0));
-      count = none;
-      roomy = omega (arith, capacity, count);
-      sides = λ k lt. absurd (omega (arith, lt));
-      each = λ k r lt. absurd (omega (arith, lt));
-    }
+loop-group-init g c = grind arith
 
 pub take_out-requires : goal.take_out-requires
 take_out-requires g c =
@@ -84,24 +66,14 @@ take_out-requires g c =
     }
 
 pub find_region-whole-requires : goal.find_region-whole-requires
-find_region-whole-requires g c =
-    let inv = c.loop-group.invariant in
-    let out = c.take_out.ensures in
-    let to = sym (out.same.0 ∙ inv.free_on) in
-    record {
-      region = ap (λ (s : CellsOn). s.extent) out.same.1 ∙ (inv.region_on ∙ to);
-      on = λ q has. rw to at (c.shape.ensures.formed.room q (rw c.rows-room.ensures.members at ((out.free q).0 has).0)).0;
-      whole = out.whole;
-      group = rw (c.len-group-end.ensures ∙ c.args.groups.now.spans.ok.0) at c.loop-group-test.true;
-      groups = c.requires.groups;
-    }
+find_region-whole-requires g c = grind arith
 
 pub note_sides-requires : goal.note_sides-requires
 note_sides-requires g c =
     let groups = c.args.groups.now in
     let lt = rw (c.len-group-end.ensures ∙ groups.spans.ok.0) at c.loop-group-test.true in
     let on : c.find_region-whole.new.self.region.extent ≡ c.args.board.now.shape = c.find_region-whole.ensures.same.1
-    ∙ (ap (λ (s : CellsOn). s.extent) c.take_out.ensures.same.1 ∙ c.loop-group.invariant.region_on) in
+    ∙ (ap (λ s. s.extent) c.take_out.ensures.same.1 ∙ c.loop-group.invariant.region_on) in
     record {
       boxes = boxes_within c.args.board.now groups c.requires.lawful c.requires.groups c.loop-group.group lt
           c.boxes-boxes.result.now c.boxes-boxes.ensures c.find_region-whole.new.self.region.extent (sym on);
@@ -113,7 +85,7 @@ note_sides-requires g c =
           let from = span_read spans c.loop-group.group c.index.result.now lt c.index.ensures in
           let within = (inside.within c.loop-group.group lt).end in
           let long = c.loop-group.invariant.long in
-          omega (arith, end, from, within, long));
+          omega arith);
     }
 
 pub loop-group-preserved : goal.loop-group-preserved
@@ -123,7 +95,7 @@ loop-group-preserved g c =
     let trap = c.args.trap.now.members in
     let n = c.loop-group.group in
     let inv = c.loop-group.invariant in
-    let lt = subst (λ (k : ℕ). n < k) (c.len-group-end.ensures ∙ groups.spans.ok.0) c.loop-group-test.true in
+    let lt = subst (λ k. n < k) (c.len-group-end.ensures ∙ groups.spans.ok.0) c.loop-group-test.true in
     let out = c.take_out.ensures.same in
     let found = c.find_region-whole.ensures in
     let formed = c.shape.ensures.formed in
@@ -143,27 +115,27 @@ loop-group-preserved g c =
     let new : Region = record { has_root = c.has-has_root.result; whole = c.find_region-whole.result } in
     let count = inv.count in
     let here : IsRegionAt level trap groups n new = record {
-      root_in = λ _. subst (λ (q : Cell). IsTrue c.has-has_root.result ↔ InPatternRegion level (position_at level groups n) q) c.player.ensures.value
+      root_in = λ _. subst (λ q. IsTrue c.has-has_root.result ↔ InPatternRegion level (position_at level groups n) q) c.player.ensures.value
           (through c.has-has_root.ensures (position c.player.result));
       all = λ yes q in_room lacks. (position q).0 (rw (← (found.all yes)) at ((is_free q).1 (in_room, lacks)));
     } in
     record {
-      free_on = ap (λ (s : CellsOn). s.extent) found.same.0 ∙ (out.0 ∙ inv.free_on);
-      region_on = found.same.1 ∙ (ap (λ (s : CellsOn). s.extent) out.1 ∙ inv.region_on);
+      free_on = ap (λ s. s.extent) found.same.0 ∙ (out.0 ∙ inv.free_on);
+      region_on = found.same.1 ∙ (ap (λ s. s.extent) out.1 ∙ inv.region_on);
       long = c.note_sides.ensures.long ∙ inv.long;
-      count = ap (λ (l : List Region). length l) c.push_reserved-in-loop-group.ensures.items ∙ (length_more of new ∙ ap (λ (k : ℕ). k + 1) count);
-      roomy = subst (λ (k : ℕ). length spans ≤ k) (sym c.push_reserved-in-loop-group.ensures.capacity) inv.roomy;
+      count = ap (λ l. length l) c.push_reserved-in-loop-group.ensures.items ∙ (length_more of new ∙ ap (λ k. k + 1) count);
+      roomy = subst (λ k. length spans ≤ k) (sym c.push_reserved-in-loop-group.ensures.capacity) inv.roomy;
       sides = λ k low. elim (cases_lt k n) [
         | inl before ↦ λ off i within.
-            let end = span_end cells spans inside k (omega (arith, before, lt)) in
+            let end = span_end cells spans inside k (omega arith) in
             let apart = inside.apart n k lt before in
-            rw (← (c.note_sides.ensures.kept ((span_at spans k).from + i) (omega (arith, end, apart, within, from)))) at (inv.sides k before off i within)
+            rw (← (c.note_sides.ensures.kept ((span_at spans k).from + i) (omega arith))) at (inv.sides k before off i within)
         | inr past ↦
-            let same : n ≡ k = omega (arith, low, past) in
-            subst (λ (j : ℕ). AreSidesAt level trap groups j sides) same (λ _ i within d. through (noted i within d) (position (neighbor (cell_no (boxes_of groups n) i) d)))
+            let same : n ≡ k = omega arith in
+            subst (λ j. AreSidesAt level trap groups j sides) same (λ _ i within d. through (noted i within d) (position (neighbor (cell_no (boxes_of groups n) i) d)))
       ];
-      each = λ k r low. rw (← c.push_reserved-in-loop-group.ensures.items) at (each_more (IsRegionAt level trap groups) of new r (λ i before. inv.each i r (omega (arith, before, count)))
-          (subst (λ (i : ℕ). IsRegionAt level trap groups i new) (sym count) here) k (omega (arith, low, count)));
+      each = λ k r low. rw (← c.push_reserved-in-loop-group.ensures.items) at (each_more (IsRegionAt level trap groups) of new r (λ i before. inv.each i r (omega arith))
+          (subst (λ i. IsRegionAt level trap groups i new) (sym count) here) k (omega arith));
     }
 
 pub loop-group-preserved-then-is_trapped : goal.loop-group-preserved-then-is_trapped
@@ -174,8 +146,7 @@ loop-group-preserved-then-is_trapped g c =
     let n = c.loop-group.group in
     let inv = c.loop-group.invariant in
     let met = c.if-is_trapped.ensures in
-    let on : AreOff trap (boxes_of groups n) → ⊥ = λ off. not_both trap met.0 met.2
-    (off met.0 (rw c.boxes-boxes.ensures at met.1)) in
+    let on : AreOff trap (boxes_of groups n) → ⊥ = λ off. not_both trap met.0 met.2 (off met.0 (rw c.boxes-boxes.ensures at met.1)) in
     let of = c.loop-group.of.items in
     let new : Region = record { has_root = false; whole = false } in
     let count = inv.count in
@@ -184,38 +155,23 @@ loop-group-preserved-then-is_trapped g c =
       free_on = inv.free_on;
       region_on = inv.region_on;
       long = inv.long;
-      count = ap (λ (l : List Region). length l) c.push_reserved.ensures.items ∙ (length_more of new ∙ ap (λ (k : ℕ). k + 1) count);
+      count = ap (λ l. length l) c.push_reserved.ensures.items ∙ (length_more of new ∙ ap (λ k. k + 1) count);
       roomy = rw c.push_reserved.ensures.capacity inv.roomy;
       sides = λ k low. elim (cases_lt k n) [
         | inl before ↦ inv.sides k before
         | inr past ↦
-            let same : n ≡ k = omega (arith, low, past) in
+            let same : n ≡ k = omega arith in
             λ off. absurd (on (rw same off))
       ];
-      each = λ k r low. rw c.push_reserved.ensures.items (each_more (IsRegionAt level trap groups) of new r (λ i before. inv.each i r (omega (arith, before, count)))
-          (rw count here) k (omega (arith, low, count)));
+      each = λ k r low. rw c.push_reserved.ensures.items (each_more (IsRegionAt level trap groups) of new r (λ i before. inv.each i r (omega arith))
+          (rw count here) k (omega arith));
     }
 
 pub boxes-boxes-requires : goal.boxes-boxes-requires
-boxes-boxes-requires g c = record {
-  groups = c.requires.groups;
-  group = rw (c.len-group-end.ensures ∙ c.args.groups.now.spans.ok.0) at c.loop-group-test.true;
-}
+boxes-boxes-requires g c = grind arith
 
 pub returns : goal.returns
-returns g c =
-    let inv = c.loop-group.invariant in
-    let past = c.loop-group-test.false in
-    let end = c.loop-group.auto.group-end in
-    let spans = c.len-group-end.ensures ∙ c.args.groups.now.spans.ok.0 in
-    let count = inv.count in
-    let all : c.loop-group.group ≡ length c.args.groups.now.spans.items = omega (arith, past, end, spans) in
-    record { long = inv.long; count = inv.count ∙ all; sides = rw all at inv.sides; each = rw all at inv.each }
+returns g c = grind arith
 
 pub push_reserved-requires : goal.push_reserved-requires
-push_reserved-requires g c =
-    let count = c.loop-group.invariant.count in
-    let roomy = c.loop-group.invariant.roomy in
-    let lt = rw (c.len-group-end.ensures ∙ c.args.groups.now.spans.ok.0) at c.loop-group-test.true in
-    let len = c.loop-group.of.ok.0 in
-    omega (arith, count, roomy, lt, len)
+push_reserved-requires g c = grind arith

@@ -1,4 +1,4 @@
-use Rattle.std.proofs.Common.{◌≡◌, ◌&&◌, true, sym, rules, tests}
+use Rattle.std.proofs.Common.{◌≡◌, ◌&&◌, true, rules, tests}
 use Rattle.std.specs.Prelude.{◌==◌}
 use Rattle.std.proofs.lemmas.Slice.Eq.{slice_eq-Decides}
 use Rattle.cellset.specs.declared.cell.Cell.{Cell}
@@ -9,8 +9,4 @@ itself : (a : Cell) → ((a.row == a.row) && (a.column == a.column)) ≡ true
 itself a = search (rules, tests)
 
 pub returns : goal.returns
-returns c = λ equal.
-    (slice_eq-Decides (λ (a b : Cell). (
-      λ h. same_cell a b (sym h),
-      λ e. rw (← e) (itself a),
-    )) c.args.left.now c.args.right.now c.eq.result c.eq.ensures).0 equal
+returns c = search (rules, slice_eq-Decides, same_cell, itself)

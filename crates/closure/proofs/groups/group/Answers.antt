@@ -5,8 +5,7 @@ use Rattle.closure.proofs.Grouping.{group_more, line_more, line_within}
 use Rattle.closure.proofs.groups.group.Goals as goal
 
 pub group_of-requires-clause-boxes : goal.group_of-requires-clause-boxes
-group_of-requires-clause-boxes c = rw (c.deref.ensures.value, c.deref-line-items.ensures.value)
-    (line_within c.args.arena c.loop-line.line-index (rw c.deref-line-items.ensures.value at c.loop-line-test.true))
+group_of-requires-clause-boxes c = grind (arith, line_within)
 
 pub loop-line-preserved : goal.loop-line-preserved
 loop-line-preserved c =
@@ -30,7 +29,7 @@ returns-clause-groups c =
     let past = c.loop-line-test.false in
     let end = c.loop-line.auto.line-index-end in
     let lines = ap (λ l. length l) c.deref-line-items.ensures.value in
-    let all : c.loop-line.line-index ≡ length c.args.arena.lines.items = omega (arith, past, end, lines) in
+    let all : c.loop-line.line-index ≡ length c.args.arena.lines.items = omega arith in
     record {
       all = rw all at c.loop-line.invariant.grouped;
       chained = rw (c.deref-2.ensures.value, c.len-3.ensures, c.loop-line.spans.ok.0) at c.in_ok-chains.ensures;

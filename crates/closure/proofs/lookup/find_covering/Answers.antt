@@ -2,7 +2,6 @@
 -- bucket, so once all boxes of the state have come, no group covers it.
 use Rattle.std.proofs.Common.{◌∙◌, ap, sym, subst}
 use Rattle.std.proofs.lemmas.List.Elements.{Contains-push_cases}
-use Rattle.cellset.specs.Shape.{Extent}
 use Rattle.cellset.specs.Cell.{IsOn}
 use Rattle.cellset.proofs.MemberLists.{all_came, next_has, next_came}
 use Rattle.cellset.proofs.Truth.{either}
@@ -14,7 +13,7 @@ find_in_bucket-requires-clause-cell g c =
     let shape = g.S.CellSet.extent c.args.query.now.boxes.now in
     let boxes = g.S.CellSet.members c.args.query.now.boxes.now in
     let whole = rw c.in-Some.ensures.steps at c.loop-cell.invariant.all in
-    subst (λ (e : Extent). IsOn e c.in-Some.cell) c.requires.extent (next_has c.loop-cell.yielded c.next.new.self c.in-Some.cell whole).1
+    subst (λ e. IsOn e c.in-Some.cell) c.requires.extent (next_has c.loop-cell.yielded c.next.new.self c.in-Some.cell whole).1
 
 pub loop-cell-preserved : goal.loop-cell-preserved
 loop-cell-preserved g c =

@@ -3,12 +3,10 @@
 -- the parent's cell, a region without a box on it has both cells or neither (`hits_on` in `Hits.antt`); if there is one, it becomes a hit,
 -- with the side on which the path meets it (`hits_to`). A parent has a lower number, so the walk ends at the root and makes fewer hits
 -- than there are nodes, for which there is room.
-use Rattle.std.proofs.Common.{◌≡◌, ℕ, ◌<◌, List, length, get_or, sym, ◌∙◌, ap, subst, arith}
+use Rattle.std.proofs.Common.{◌≡◌, ◌<◌, length, get_or, sym, ◌∙◌, ap, subst, arith}
 use Rattle.cellset.specs.Cell.{neighbor, opposite}
 use Rattle.cellset.specs.CellSet.{Lacks}
-use Rattle.cellset.specs.declared.cell.Cell.{Cell}
 use Rattle.cellset.specs.declared.dir.Dir.TheVariants.{L}
-use Rattle.closure.specs.CellIndex.{index_of}
 use Rattle.closure.specs.Hits.{HitsDecide}
 use Rattle.closure.specs.declared.tree.Hit.{Hit}
 use Rattle.closure.specs.declared.tree.Node.{Node}
@@ -31,21 +29,20 @@ loop-at-preserved g c =
     let within = inv.within in
     let few = inv.few in
     record {
-      within = omega (arith, falls, within);
+      within = omega arith;
       hits = λ d.
           let last = (get_or nodes at r).cell in
           let next = (get_or nodes r.parent d).cell in
           let to : neighbor last (get_or nodes at r).dir ≡ next = linked.leads at r up inv.within ∙
-          ap (λ (x : Node). (get_or nodes x.parent r).cell) (sym c.index-node.ensures) ∙
-          ap (λ (x : Node). x.cell) (at_any nodes r.parent r d (omega (arith, falls, within))) in
-          let cell : c.index.result.now.cell ≡ next = ap (λ (x : Node). x.cell) (c.index.ensures ∙
-          at_any nodes r.parent c.index.result.now d (omega (arith, falls, within))) in
+          ap (λ x. (get_or nodes x.parent r).cell) (sym c.index-node.ensures) ∙ ap (λ x. x.cell) (at_any nodes r.parent r d (omega arith)) in
+          let cell : c.index.result.now.cell ≡ next = ap (λ x. x.cell) (c.index.ensures ∙
+          at_any nodes r.parent c.index.result.now d (omega arith)) in
           let none : Lacks (g.S.CellSet.members c.args.boxes.now) next =
           rw cell at (sym c.if-contains.ensures) in
           hits_on level c.shape-shape.ensures.formed (g.S.CellSet.members c.args.boxes.now) c.args.player last next (get_or nodes at r).dir to
-          (linked.room at r inv.within) (linked.room r.parent d (omega (arith, falls, within))) c.loop-at.hits.items (inv.hits r) none;
+          (linked.room at r inv.within) (linked.room r.parent d (omega arith)) c.loop-at.hits.items (inv.hits r) none;
       roomy = inv.roomy;
-      few = omega (arith, falls, few);
+      few = omega arith;
     }
 
 pub loop-at-preserved-then-contains : goal.loop-at-preserved-then-contains
@@ -61,77 +58,39 @@ loop-at-preserved-then-contains g c =
     let within = inv.within in
     let few = inv.few in
     let m : Hit = record { cell = c.index.result.now.cell; side = c.opposite.result } in
-    let longer = ap (λ (l : List Hit). length l) c.push_reserved.ensures.items ∙ length_more c.loop-at.hits.items m in
+    let longer = ap (λ l. length l) c.push_reserved.ensures.items ∙ length_more c.loop-at.hits.items m in
     let room = inv.roomy in
     let capacity = c.push_reserved.ensures.capacity in
     record {
-      within = omega (arith, falls, within);
+      within = omega arith;
       hits = λ d.
           let last = (get_or nodes at r).cell in
           let next = (get_or nodes r.parent d).cell in
           let to : neighbor last (get_or nodes at r).dir ≡ next = linked.leads at r up inv.within ∙
-          ap (λ (x : Node). (get_or nodes x.parent r).cell) (sym c.index-node.ensures) ∙
-          ap (λ (x : Node). x.cell) (at_any nodes r.parent r d (omega (arith, falls, within))) in
-          let cell : c.index.result.now.cell ≡ next = ap (λ (x : Node). x.cell) (c.index.ensures ∙
-          at_any nodes r.parent c.index.result.now d (omega (arith, falls, within))) in
+          ap (λ x. (get_or nodes x.parent r).cell) (sym c.index-node.ensures) ∙ ap (λ x. x.cell) (at_any nodes r.parent r d (omega arith)) in
+          let cell : c.index.result.now.cell ≡ next = ap (λ x. x.cell) (c.index.ensures ∙
+          at_any nodes r.parent c.index.result.now d (omega arith)) in
           rw c.push_reserved.ensures.items (hits_to level c.shape-shape.ensures.formed (g.S.CellSet.members c.args.boxes.now) c.args.player last next (get_or nodes at r).dir to
-          (linked.room at r inv.within) (linked.room r.parent d (omega (arith, falls, within))) c.loop-at.hits.items (inv.hits r) m cell
-          (c.opposite.ensures ∙ ap (λ (x : Node). opposite x.dir) c.index-node.ensures));
-      roomy = omega (arith, room, capacity);
-      few = omega (arith, falls, few, longer);
+          (linked.room at r inv.within) (linked.room r.parent d (omega arith)) c.loop-at.hits.items (inv.hits r) m cell
+          (c.opposite.ensures ∙ ap (λ x. opposite x.dir) c.index-node.ensures));
+      roomy = omega arith;
+      few = omega arith;
     }
 
 pub returns-clause-hits : goal.returns-clause-hits
 returns-clause-hits g c = λ pattern within lacks.
     let test = c.loop-at-test.false in
-    let zero : c.loop-at.at ≡ 0 = omega (arith, test) in
+    let zero : c.loop-at.at ≡ 0 = omega arith in
     let d : Node = record { cell = c.args.player; dir = L; parent = 0 } in
-    let end = ap (λ (k : ℕ). (get_or c.args.tables.now.tree.nodes.items k d).cell) zero ∙ c.requires.tables.tree.nodes.begin d in
-    subst (λ (q : Cell). HitsDecide c.args.tables.now.board.now c.args.player q c.loop-at.hits.items pattern) end (c.loop-at.invariant.hits d pattern within
+    let end = ap (λ k. (get_or c.args.tables.now.tree.nodes.items k d).cell) zero ∙ c.requires.tables.tree.nodes.begin d in
+    subst (λ q. HitsDecide c.args.tables.now.board.now c.args.player q c.loop-at.hits.items pattern) end (c.loop-at.invariant.hits d pattern within
     lacks)
 
 pub index-at-requires : goal.index-at-requires
-index-at-requires g c =
-    let formed = c.shape-shape.ensures.formed in
-    let long = c.requires.tables.tree.long in
-    let low = index_within c.args.tables.now.board.now.shape formed.sides c.args.player (formed.room c.args.player c.requires.player).0 in
-    let at = c.index_of.ensures in
-    let len = c.args.tables.now.tree.numbers.ok.0 in
-    omega (arith, low, at, len, long)
+index-at-requires g c = grind (arith, index_within)
 
 pub loop-at-init : goal.loop-at-init
-loop-at-init g c =
-    let formed = c.shape-shape.ensures.formed in
-    let numbers = c.args.tables.now.tree.numbers.items in
-    let nodes = c.args.tables.now.tree.nodes.items in
-    let at = c.index-at.result.now in
-    let long = c.requires.tables.tree.long in
-    let low = index_within c.args.tables.now.board.now.shape formed.sides c.args.player (formed.room c.args.player c.requires.player).0 in
-    let numbered = c.requires.tables.tree.each c.args.player c.requires.player in
-    let read : at ≡ get_or numbers (index_of c.args.player) 0 = c.index-at.ensures ∙ ap (λ (k : ℕ). get_or numbers k at) c.index_of.ensures ∙
-    at_any numbers (index_of c.args.player) at 0 (omega (arith, low, long)) in
-    let within : at < length nodes = rw read numbered.within in
-    let roomy = c.requires.roomy in
-    let capacity = c.clear.ensures.capacity in
-    let none = ap (λ (l : List Hit). length l) c.clear.ensures.items in
-    record {
-      within = within;
-      hits = λ d.
-          let here = ap (λ (k : ℕ). (get_or nodes k d).cell) read ∙ numbered.same d in
-          rw here (λ pattern inside lacks. record {
-            free = λ _. lacks;
-            passed = λ _. (λ h. h, λ h. h);
-            first = λ i m lt _ _. absurd (omega (arith, lt, none));
-          });
-      roomy = omega (arith, roomy, capacity);
-      few = omega (arith, within, none);
-    }
+loop-at-init g c = grind (arith, index_within, at_any)
 
 pub index-requires : goal.index-requires
-index-requires g c =
-    let inv = c.loop-at.invariant in
-    let within = inv.within in
-    let falls = rw (← c.index-node.ensures) at (c.requires.tables.tree.nodes.down c.loop-at.at
-    c.index-node.result.now c.loop-at-test.true within) in
-    let len = c.args.tables.now.tree.nodes.ok.0 in
-    omega (arith, falls, within, len)
+index-requires g c = grind arith

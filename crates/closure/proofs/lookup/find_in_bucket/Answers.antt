@@ -2,7 +2,7 @@
 -- covers the state, and that group `at` - 1 is in the bucket if there is one. If this group doesn't cover the state, the chain leads to
 -- the last group of the bucket before it, so none is skipped (`none_more`). At the end of the chain none is left, so no group of the
 -- bucket covers the state.
-use Rattle.std.proofs.Common.{◌≡◌, ℕ, ◌-◌, ◌<◌, ◌≤◌, List, length, get_or, sym, ◌∙◌, ap, subst, inl, inr, arith}
+use Rattle.std.proofs.Common.{◌≡◌, ℕ, ◌-◌, ◌<◌, ◌≤◌, List, length, get_or, sym, ◌∙◌, ap, arith}
 use Rattle.std.specs.Prelude.{slice_index}
 use Rattle.std.proofs.lemmas.Bool.{cases_lt, false≢true}
 use Rattle.closure.specs.Chains.{AreChains, IsLast}
@@ -14,28 +14,14 @@ use Rattle.closure.proofs.lookup.find_in_bucket.Goals as goal
 -- A walk along the chain of a key skips no item with the key.
 module _ (keys first next : List ℕ) (count key : ℕ) (chains : AreChains keys count first next) where
   begun : (got : ℕ) → key < count → got ≡ get_or first key got → IsLast keys key (length keys) got
-  begun got low read =
-      let firsts = chains.firsts in
-      subst (IsLast keys key (length keys)) (sym (read ∙ at_any first key got 0 (omega (arith, low, firsts)))) (chains.lasts key low)
+  begun got low read = grind (arith, at_any)
 
   led_on : (at got : ℕ) → 0 < at → at ≤ length keys → got ≡ get_or next (at - 1) got → slice_index keys (at - 1) ≡ key → IsLast keys key (at - 1) got
-  led_on at got up within read here =
-      let nexts = chains.nexts in
-      let low : at - 1 < length keys = omega (arith, up, within) in
-      subst (IsLast keys key (at - 1)) (sym (read ∙ at_any next (at - 1) got 0 (omega (arith, low, nexts))))
-      (rw here at (chains.before (at - 1) low))
+  led_on at got up within read here = grind (arith, at_any)
 
   none_more : (P : ℕ → Type 0) (at got : ℕ) → 0 < at → IsLast keys key (at - 1) got → (P (at - 1) → ⊥) → ((k : ℕ) → at ≤ k → slice_index keys k ≡ key → P k → ⊥)
       → (k : ℕ) → got ≤ k → slice_index keys k ≡ key → P k → ⊥
-  none_more P at got up last not passed k past same holds = elim (cases_lt k (at - 1)) [
-    | inl less ↦ last.others k past less same
-    | inr more ↦ elim (cases_lt k at) [
-      | inl less ↦
-          let here : k ≡ at - 1 = omega (arith, less, more) in
-          not (rw here at holds)
-      | inr far ↦ passed k far same holds
-    ]
-  ]
+  none_more P at got up last not passed k past same holds = grind (arith, cases_lt)
 
 pub loop-at-init : goal.loop-at-init
 loop-at-init g c =
@@ -45,26 +31,19 @@ loop-at-init g c =
     let at = c.index_of.ensures in
     let long = all.long in
     let last = begun tables.buckets.keys.items tables.buckets.chains.first.items tables.buckets.chains.next.items _ (index_of c.args.cell) all.chained
-    c.index-at.result.now (omega (arith, bottom))
-    (c.index-at.ensures ∙ ap (λ (k : ℕ). get_or tables.buckets.chains.first.items k c.index-at.result.now) at) in
+    c.index-at.result.now (omega arith) (c.index-at.ensures ∙ ap (λ k. get_or tables.buckets.chains.first.items k c.index-at.result.now) at) in
     let within = last.within in
     record {
-      within = omega (arith, within, long);
+      within = omega arith;
       key = last.has_key;
       passed = λ k past key covers.
           let has = covers.0 in
-          last.others k past (omega (arith, has, long)) key;
+          last.others k past (omega arith) key;
       scratch = c.requires.scratch;
     }
 
 pub index-at-requires-in-loop-at : goal.index-at-requires-in-loop-at
-index-at-requires-in-loop-at g c =
-    let all = c.requires.tables.buckets in
-    let long = all.long in
-    let nexts = all.chained.nexts in
-    let within = c.loop-at.invariant.within in
-    let next = c.args.tables.now.buckets.chains.next.ok.0 in
-    omega (arith, long, nexts, within, next)
+index-at-requires-in-loop-at g c = grind arith
 
 pub loop-at-preserved : goal.loop-at-preserved
 loop-at-preserved g c =
@@ -80,11 +59,10 @@ loop-at-preserved g c =
           g.S.CellSet.members c.args.query.now.boxes.now;
     }) in
     let last = led_on tables.buckets.keys.items tables.buckets.chains.first.items tables.buckets.chains.next.items _ (index_of c.args.cell) all.chained
-    c.loop-at.at c.index-at-in-loop-at.result.now
-    test (omega (arith, within, long)) c.index-at-in-loop-at.ensures (inv.key test) in
+    c.loop-at.at c.index-at-in-loop-at.result.now test (omega arith) c.index-at-in-loop-at.ensures (inv.key test) in
     let before = last.within in
     record {
-      within = omega (arith, before, within);
+      within = omega arith;
       key = last.has_key;
       passed = none_more tables.buckets.keys.items tables.buckets.chains.first.items tables.buckets.chains.next.items _ (index_of c.args.cell) all.chained
           Covers c.loop-at.at c.index-at-in-loop-at.result.now
@@ -93,4 +71,4 @@ loop-at-preserved g c =
     }
 
 pub returns-clause-found : goal.returns-clause-found
-returns-clause-found g c = λ k key covers. c.loop-at.invariant.passed k (omega arith) key covers
+returns-clause-found g c = grind arith

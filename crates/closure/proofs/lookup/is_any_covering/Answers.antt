@@ -4,7 +4,7 @@
 -- walked at the start, so the hits of an earlier state are never used.
 use Rattle.std.proofs.Common.{sym, refl, subst}
 use Rattle.std.proofs.lemmas.Bool.{false≢true}
-use Rattle.cellset.specs.CellSet.{Cells, Has}
+use Rattle.cellset.specs.CellSet.{Has}
 use Rattle.cellset.proofs.Members.{not_both}
 use Rattle.board.specs.Game.{State}
 use Rattle.closure.proofs.Grouped.{covered_of_group}
@@ -38,7 +38,7 @@ returns-in-None-clause-exact g c =
     )
 
 pub is_last_covering-requires-clause-player : goal.is_last_covering-requires-clause-player
-is_last_covering-requires-clause-player g c = subst (λ (t : Cells). Has t c.args.player) c.room.ensures.members (sym c.if-not-contains.ensures)
+is_last_covering-requires-clause-player g c = subst (λ t. Has t c.args.player) c.room.ensures.members (sym c.if-not-contains.ensures)
 
 pub is_last_covering-requires-clause-scratch : goal.is_last_covering-requires-clause-scratch
 is_last_covering-requires-clause-scratch g c = record { roomy = c.requires.roomy; walked = λ h. absurd (false≢true h) }

@@ -2,7 +2,7 @@
 -- group is missing or the player is on one, and a region has no cell of its own boxes (`Regions.antt`). Otherwise, if the region is
 -- `whole`, it has every cell of the room without the boxes, and so the player's. If it isn't, `is_inside` decides by the hits on the path,
 -- which serve for the group because its boxes are among the boxes of the state.
-use Rattle.std.proofs.Common.{◌≢◌, get_or, List, refl, sym, subst}
+use Rattle.std.proofs.Common.{◌≢◌, get_or, refl, sym, subst}
 use Rattle.std.proofs.lemmas.Bool.{false≢true}
 use Rattle.cellset.specs.CellSet.{Has}
 use Rattle.cellset.specs.declared.cell.Cell.{Cell}
@@ -11,7 +11,6 @@ use Rattle.closure.specs.Groups.{boxes_of, position_at}
 use Rattle.closure.specs.Hits.{HitsDecide}
 use Rattle.closure.specs.Sides.{cells_in}
 use Rattle.closure.proofs.CellLists.{each_in, in_list}
-use Rattle.closure.specs.declared.tree.Hit.{Hit}
 use Rattle.closure.proofs.Grouped.{boxes_on}
 use Rattle.closure.proofs.Regions.{region_lacks}
 use Rattle.closure.proofs.lookup.is_covering.Goals as goal
@@ -33,7 +32,7 @@ pub is_inside-requires-clause-hits : goal.is_inside-requires-clause-hits
 is_inside-requires-clause-hits g c = λ pattern within lacks.
     let Beside : Cell → Type 0 = λ q. Has (g.S.CellSet.members c.args.query.now.boxes.now) q × (q ≢ c.args.query.now.player) in
     let each = rw c.boxes.ensures at (c.if-not-stand_beside.ensures.0 refl) in
-    subst (λ (l : List Hit). HitsDecide c.args.tables.now.board.now c.args.query.now.player c.args.tables.now.board.now.player l pattern) (sym c.deref.ensures.value)
+    subst (λ l. HitsDecide c.args.tables.now.board.now c.args.query.now.player c.args.tables.now.board.now.player l pattern) (sym c.deref.ensures.value)
     (c.walk_to_root.ensures.hits pattern (λ q has. (each_in Beside (boxes_of c.args.tables.now.groups c.args.group) each q (within q has)).0) lacks)
 
 pub returns-then-is_whole-clause-exact : goal.returns-then-is_whole-clause-exact
@@ -64,7 +63,7 @@ returns-then-not-stand_beside-clause-exact g c = (
       let position = position_at c.args.tables.now.board.now c.args.tables.now.groups c.args.group in
       absurd (false≢true (c.if-not-stand_beside.ensures.1 (λ k d low.
       let q = get_or boxes k d in
-      let has = subst (λ (l : List Cell). Has (cells_in l) q) c.boxes.ensures (in_list boxes k d low) in (
+      let has = subst (λ l. Has (cells_in l) q) c.boxes.ensures (in_list boxes k d low) in (
         covers.boxes q has,
         λ e. not_both position.boxes player (rw (← e) has) (region_lacks c.args.tables.now.board.now position player
             covers.player),

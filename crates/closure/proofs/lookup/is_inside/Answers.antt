@@ -2,11 +2,10 @@
 -- a box of the group. So the first hit that is one decides: the player is in the region exactly if the region lies on the side of the box
 -- where the path meets it, which the facts about the region have. If no hit is a box of the group, the root decides, and these facts have
 -- that too.
-use Rattle.std.proofs.Common.{List, get_or, sym, ◌∙◌, ap, arith}
+use Rattle.std.proofs.Common.{get_or, sym, ◌∙◌, ap, arith}
 use Rattle.std.specs.Prelude.{◌↔◌, IsTrue}
 use Rattle.cellset.specs.Cell.{neighbor}
 use Rattle.cellset.specs.declared.dir.Dir.TheVariants.{L}
-use Rattle.cellset.specs.declared.cell.Cell.{Cell}
 use Rattle.closure.specs.Pattern.{InPatternRegion}
 use Rattle.closure.specs.Sides.{cell_no}
 use Rattle.closure.specs.Groups.{boxes_of, position_at}
@@ -29,9 +28,8 @@ returns-in-Some g c =
     let cell = c.in-Some.ensures.1 in
     let has = rw cell at (in_list boxes number no_cell c.in-Some.ensures.0) in
     let told = (c.requires.hits position (λ _ h. h) c.requires.outside).first c.loop-found.found-index m c.loop-found-test.true
-    (λ j e lt. rw is at (c.loop-found.invariant j e lt))
-    (rw is at has) in
-    let at = ap (λ (l : List Cell). cell_no l number) (sym is) ∙ cell in
+    (λ j e lt. rw is at (c.loop-found.invariant j e lt)) (rw is at has) in
+    let at = ap (λ l. cell_no l number) (sym is) ∙ cell in
     let side : IsTrue c.has.result ↔ InPatternRegion level position (neighbor found.cell found.side) = rw (c.has.ensures, ← at)
     (c.sides_of.ensures found.side) in
     through side (told.1, told.0)
@@ -41,7 +39,7 @@ returns g c =
     let is = c.boxes-boxes.ensures in
     let low = c.loop-found-test.false in
     let told = (c.requires.hits (position_at c.args.tables.now.board.now c.args.tables.now.groups c.args.group) (λ _ h. h) c.requires.outside).passed
-    (λ j e lt. rw is at (c.loop-found.invariant j e (omega (arith, low, lt)))) in
+    (λ j e lt. rw is at (c.loop-found.invariant j e (omega arith))) in
     through c.has_root.ensures (told.1, told.0)
 
 pub sides_of-requires-clause-off : goal.sides_of-requires-clause-off

@@ -4,7 +4,6 @@ use Rattle.std.proofs.Common.{◌∷◌, [], ◌++◌, ◌∙◌, ap, sym, take}
 use Rattle.std.specs.Prelude.{map}
 use Rattle.std.proofs.lemmas.List.{length-map, map_more, take_all}
 use Rattle.answers.specs.Grammar.{said_pattern}
-use Rattle.answers.specs.declared.pattern.Pattern.{Pattern}
 use Rattle.closure.proofs.pattern_list.check.Goals as goal
 
 pub loop-pattern-preserved : goal.loop-pattern-preserved
@@ -14,7 +13,7 @@ loop-pattern-preserved g c =
     let more = map_more said_pattern patterns i c.pattern-item.result c.loop-pattern-test.true in
     record {
       level = c.add.ensures.level ∙ c.loop-pattern.invariant.level;
-      added = rw (ap (λ (p : Pattern). map said_pattern (take i patterns) ++ said_pattern p ∷ []) c.pattern-item.is ∙ sym more) at (c.in_ok-add.ensures.added (map said_pattern (take i patterns)) c.loop-pattern.invariant.added);
+      added = rw (ap (λ p. map said_pattern (take i patterns) ++ said_pattern p ∷ []) c.pattern-item.is ∙ sym more) at (c.in_ok-add.ensures.added (map said_pattern (take i patterns)) c.loop-pattern.invariant.added);
     }
 
 pub check-requires : goal.check-requires

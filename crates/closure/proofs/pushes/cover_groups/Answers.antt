@@ -11,5 +11,5 @@ loop-group-preserved g c =
     record {
       ready = c.covers_pushes_of.ensures.ready;
       covered = noted_more c.args.tables.now.board.now c.args.tables.now.groups c.loop-group.covered.items c.loop-group.invariant.covered c.loop-group.group
-          c.covers_pushes_of.result (omega (arith, test, count)) c.covers_pushes_of.ensures.covered;
+          c.covers_pushes_of.result (omega arith) c.covers_pushes_of.ensures.covered;
     }

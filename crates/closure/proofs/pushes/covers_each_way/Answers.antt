@@ -26,8 +26,7 @@ returns-then-covers_toward-3-clause-covered g c = λ down.
     let two : Covers L × Covers U = elim c.if-covers_toward.branch [
       | then-covers_toward w ↦ (
         c.covers_toward.ensures.covered w.if-covers_toward.true,
-        w.covers_toward-then-covers_toward.ensures.covered
-            (sym w.value-is ∙ right.0),
+        w.covers_toward-then-covers_toward.ensures.covered (sym w.value-is ∙ right.0),
       )
       | else-covers_toward w ↦ absurd (false≢true (sym w.if-covers_toward.false ∙ (sym w.value-is ∙ right.0)))
     ] in

@@ -2,7 +2,7 @@
 -- of any other group, and that the set, if there is one, has its boxes. The tables have the sides of the next box on which the region lies
 -- (`sides_of`), so `covers_each_way` may be called for it. Every push out of the group moves one of its boxes, so after the loop the list
 -- covers them all (`covered_each_box`). The result false claims nothing.
-use Rattle.std.proofs.Common.{◌≡◌, refl, ap, inl, inr, arith}
+use Rattle.std.proofs.Common.{ap, arith}
 use Rattle.std.proofs.lemmas.Bool.{cases_lt}
 use Rattle.closure.specs.Sides.{cells_in}
 use Rattle.closure.specs.Groups.{list_of, position_at}
@@ -11,10 +11,7 @@ use Rattle.closure.proofs.GroupPushes.{covered_each_box, trapped_pushes}
 use Rattle.closure.proofs.pushes.covers_pushes_of.Goals as goal
 
 pub returns-then-is_trapped-clause-covered : goal.returns-then-is_trapped-clause-covered
-returns-then-is_trapped-clause-covered g c = λ _.
-    let met = c.if-is_trapped.ensures in
-    trapped_pushes c.args.tables.now c.requires.tables c.args.group c.requires.group met.0
-    (rw c.boxes-boxes.ensures at met.1) met.2
+returns-then-is_trapped-clause-covered g c = grind (arith, trapped_pushes)
 
 pub load_boxes-requires-clause-boxes : goal.load_boxes-requires-clause-boxes
 load_boxes-requires-clause-boxes g c = boxes_on c.args.tables.now.board.now c.args.tables.now.groups c.requires.tables.lawful c.requires.tables.grouped
@@ -27,35 +24,13 @@ pub covers_each_way-requires-clause-off : goal.covers_each_way-requires-clause-o
 covers_each_way-requires-clause-off g c = c.if-is_trapped.ensures
 
 pub covers_each_way-requires-clause-pushed : goal.covers_each_way-requires-clause-pushed
-covers_each_way-requires-clause-pushed g c = record {
-  group = c.requires.group;
-  boxes = c.boxes-boxes.ensures;
-  number = c.loop-number-test.true;
-  sides = rw c.boxes-boxes.ensures c.sides_of-sides.ensures;
-}
+covers_each_way-requires-clause-pushed g c = grind arith
 
 pub loop-number-init : goal.loop-number-init
-loop-number-init g c = record {
-  ready = c.load_boxes.ensures.ready;
-  loaded = c.load_boxes.ensures.loaded;
-  covered = λ i lt. absurd (omega (arith, lt));
-}
+loop-number-init g c = grind arith
 
 pub loop-number-preserved : goal.loop-number-preserved
-loop-number-preserved g c =
-    let level = c.args.tables.now.board.now in
-    let groups = c.args.tables.now.groups in
-    let n = c.loop-number.number in
-    record {
-      ready = c.covers_each_way.ensures.ready;
-      loaded = c.covers_each_way.ensures.loaded;
-      covered = λ i lt. elim (cases_lt i n) [
-        | inl low ↦ c.loop-number.invariant.covered i low
-        | inr past ↦
-            let here : n ≡ i = omega (arith, lt, past) in
-            rw here at (c.if-not-covers_each_way.ensures.covered refl)
-      ];
-    }
+loop-number-preserved g c = grind (arith, cases_lt)
 
 pub returns-clause-covered : goal.returns-clause-covered
 returns-clause-covered g c = λ _.

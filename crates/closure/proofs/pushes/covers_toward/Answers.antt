@@ -41,13 +41,11 @@ returns-then-is_hinted-clause-covered g c = λ found.
     let level = c.args.tables.now.board.now in
     let groups = c.args.tables.now.groups in
     covered_one level (position_at level groups c.args.pushed.now.group) (pushed_cell c.args.pushed.now) c.args.dir (list_of groups) c.in-Some.push
-    c.in-Some.ensures.found
-    (rw c.requires.pushed.boxes at (c.is_hinted.ensures found))
+    c.in-Some.ensures.found (rw c.requires.pushed.boxes at (c.is_hinted.ensures found))
 
 pub returns-else-is_hinted-clause-covered : goal.returns-else-is_hinted-clause-covered
 returns-else-is_hinted-clause-covered g c = λ found.
     let level = c.args.tables.now.board.now in
     let groups = c.args.tables.now.groups in
     covered_one level (position_at level groups c.args.pushed.now.group) (pushed_cell c.args.pushed.now) c.args.dir (list_of groups) c.in-Some.push
-    c.in-Some.ensures.found
-    (rw c.requires.pushed.boxes at (c.is_found.ensures.covered found))
+    c.in-Some.ensures.found (rw c.requires.pushed.boxes at (c.is_found.ensures.covered found))

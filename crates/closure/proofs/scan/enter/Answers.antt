@@ -32,8 +32,7 @@ returns-clause-ok g c =
       extent = c.shape-shape.ensures.value;
       boxes = ap cells_in (c.in_ok-boxes.ensures.items_if_clones_equal (λ x y e. e));
       region = λ q. elim c.match-pattern.branch [
-        | in-None w ↦
-            rw (w.region-is, w.in-None.is) (room_outside level c.shape-shape.ensures.formed boxes q)
+        | in-None w ↦ rw (w.region-is, w.in-None.is) (room_outside level c.shape-shape.ensures.formed boxes q)
         | in-Some+in_ok-region-in-Some w ↦
             rw w.region-is (region_outside level (pattern_in c.args.pattern) (g.S.CellSet.members w.find.new.region) q (w.find.ensures.exact q))
       ];

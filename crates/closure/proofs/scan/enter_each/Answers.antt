@@ -1,8 +1,7 @@
-use Rattle.std.proofs.Common.{ℕ, ◌+◌, ◌<◌, List, length, ap, sym, ◌∙◌, subst, arith}
+use Rattle.std.proofs.Common.{◌+◌, ◌<◌, length, ap, sym, ◌∙◌, subst, arith}
 use Rattle.closure.specs.Arena.{list_in, pattern_at}
 use Rattle.closure.specs.Closed.{IsLawful}
 use Rattle.closure.specs.Scan.{IsEntryOf}
-use Rattle.closure.specs.declared.scan.Entry.{Entry}
 use Rattle.closure.proofs.Arenas.{list_long, listed_at}
 use Rattle.closure.proofs.CellLists.{at_any}
 use Rattle.closure.proofs.Lists.{length_more}
@@ -13,8 +12,7 @@ pub enter-requires-clause-lawful : goal.enter-requires-clause-lawful
 enter-requires-clause-lawful g c =
     let test = c.loop-line-test.true in
     let len = c.len-line-end.ensures in
-    subst (IsLawful c.args.board.now) (sym c.pattern.ensures.pattern)
-    (c.requires.lawful _ (listed_at c.args.arena.now c.loop-line.line (omega (arith, test, len))))
+    subst (IsLawful c.args.board.now) (sym c.pattern.ensures.pattern) (c.requires.lawful _ (listed_at c.args.arena.now c.loop-line.line (omega arith)))
 
 pub loop-line-preserved : goal.loop-line-preserved
 loop-line-preserved g c =
@@ -25,13 +23,13 @@ loop-line-preserved g c =
     let test = c.loop-line-test.true in
     let len = c.len-line-end.ensures in
     let long = list_long c.args.arena.now in
-    let low : line < length patterns = omega (arith, test, len, long) in
+    let low : line < length patterns = omega arith in
     record {
       flooder = c.in_ok-enter.ensures.flooder;
       seeds = c.in_ok-enter.ensures.seeds;
       set = c.in_ok-enter.ensures.set;
-      long = ap (λ (l : List (Entry g.row.S.Denot)). length l) c.push_reserved.ensures.items ∙ (length_more c.loop-line.entries.items c.in_ok-enter.field-0 ∙
-          ap (λ (k : ℕ). k + 1) old.long);
+      long = ap (λ l. length l) c.push_reserved.ensures.items ∙ (length_more c.loop-line.entries.items c.in_ok-enter.field-0 ∙
+          ap (λ k. k + 1) old.long);
       roomy = rw c.push_reserved.ensures.capacity old.roomy;
       entries = rw c.push_reserved.ensures.items (zip_more (IsEntryOf level) patterns c.loop-line.entries.items line (pattern_at patterns line)
           c.in_ok-enter.field-0 low (at_any patterns line _ _ low) old.entries

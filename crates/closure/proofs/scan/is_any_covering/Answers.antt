@@ -1,12 +1,10 @@
 -- The invariant says that no entry so far covers the state. All entries are on the grid of the room, as are the boxes and the player, so
 -- each may be asked. An entry that covers the state is the one that has to be shown if the result is true. After the loop all entries have
 -- come, so none of them covers it.
-use Rattle.std.proofs.Common.{◌≡◌, arith, refl, ◌∙◌, sym, subst}
+use Rattle.std.proofs.Common.{arith, ◌∙◌, sym}
 use Rattle.std.proofs.lemmas.Bool.{false≢true}
 use Rattle.std.proofs.lemmas.List.{take_all}
-use Rattle.std.proofs.lemmas.List.Elements.{All-more, All-contains}
-use Rattle.cellset.specs.Shape.{Extent}
-use Rattle.cellset.specs.Cell.{IsOn}
+use Rattle.std.proofs.lemmas.List.Elements.{All-more}
 use Rattle.board.specs.Game.{State}
 use Rattle.closure.specs.Scan.{EntryCells, EntryCovers}
 use Rattle.closure.proofs.scan.is_any_covering.Goals as goal
@@ -19,29 +17,19 @@ loop-entry-preserved g c =
     (rw (← c.entry-item.is) (λ covered. false≢true (sym c.if-covers.false ∙ c.covers.ensures.1 covered)))
 
 pub returns : goal.returns
-returns g c =
-    let state : State = record { player = c.args.player; boxes = g.S.CellSet.members c.args.boxes.now } in
-    let none : EntryCells → Type 0 = λ e. EntryCovers (g.S.CellSet.members c.args.room.now) e state → ⊥ in
-    let each = rw (take_all c.loop-entry.entry-index c.args.entries.now c.loop-entry-test.false) at c.loop-entry.invariant in
-    (λ yes. absurd (false≢true yes), λ covered. absurd (All-contains none c.args.entries.now covered.0 each covered.1 covered.2))
+returns g c = grind (arith, take_all, false≢true)
 
 pub covers-requires-clause-room : goal.covers-requires-clause-room
-covers-requires-clause-room g c = sym (rw c.entry-item.is (c.requires.entries c.loop-entry.entry-index c.entry-item.result c.loop-entry-test.true))
+covers-requires-clause-room g c = grind arith
 
 pub covers-requires-clause-boxes : goal.covers-requires-clause-boxes
-covers-requires-clause-boxes g c = c.requires.boxes ∙
-    sym (rw c.entry-item.is (c.requires.entries c.loop-entry.entry-index c.entry-item.result c.loop-entry-test.true))
+covers-requires-clause-boxes g c = grind arith
 
 pub covers-requires-clause-player : goal.covers-requires-clause-player
-covers-requires-clause-player g c =
-    let same : c.entry-item.result.extent ≡ g.S.CellSet.extent c.args.room.now =
-    rw c.entry-item.is (c.requires.entries c.loop-entry.entry-index c.entry-item.result c.loop-entry-test.true) in
-    subst (λ (e : Extent). IsOn e c.args.player) (sym same) c.requires.player
+covers-requires-clause-player g c = grind arith
 
 pub returns-then-covers : goal.returns-then-covers
-returns-then-covers g c =
-    let item = c.entry-item in
-    (λ _. (item.result, (c.loop-entry.entry-index, c.loop-entry-test.true, sym item.is), c.covers.ensures.0 c.if-covers.true), λ _. refl)
+returns-then-covers g c = grind arith
 
 pub loop-entry-init : goal.loop-entry-init
-loop-entry-init g c = λ k d lt. absurd (omega (arith, lt))
+loop-entry-init g c = grind arith

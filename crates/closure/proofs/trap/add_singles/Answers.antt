@@ -5,26 +5,23 @@ use Rattle.std.specs.FinSet as set
 use Rattle.cellset.specs.declared.cell.Cell.{Cell}
 use Rattle.cellset.proofs.Members.{has_empty, inserted}
 use Rattle.cellset.proofs.Truth.{either}
-use Rattle.closure.specs.Arena.{list_in, pattern_at, pattern_in, seeds_among}
+use Rattle.closure.specs.Arena.{list_in, pattern_at, pattern_in}
 use Rattle.closure.specs.Pattern.{Pattern}
-use Rattle.closure.specs.Sides.{cell_no, cells_in}
+use Rattle.closure.specs.Sides.{cell_no}
 use Rattle.closure.specs.Trap.{single}
 use Rattle.closure.specs.declared.cell_patterns.CellPattern.{CellPattern}
 use Rattle.closure.proofs.Arenas.{listed_at}
 use Rattle.closure.proofs.trap.add_singles.Goals as goal
 
 one_cell : (cells : List Cell) → 1 ≤ length cells → length cells < 2 → cells ≡ cell_no cells 0 ∷ []
-one_cell [] some few = absurd (omega (arith, some))
+one_cell [] some few = absurd (omega arith)
 one_cell (c ∷ []) some few = refl
-one_cell (c ∷ d ∷ cells) some few = absurd (omega (arith, few))
+one_cell (c ∷ d ∷ cells) some few = absurd (omega arith)
 
 -- The pattern of one box with `*` is the single of that box.
 is_single : (p : CellPattern) (q : Pattern) → pattern_in p ≡ q → p.seeds ≡ None → 1 ≤ length p.boxes.now → length p.boxes.now < 2
     → q ≡ single (cell_no p.boxes.now 0)
-is_single p q is none some few =
-    let one = one_cell p.boxes.now some few in
-    let alone : pattern_in p ≡ single (cell_no p.boxes.now 0) = λ i. record { boxes = cells_in (one i); seeds = seeds_among (none i) } in
-    sym is ∙ alone
+is_single p q is none some few = grind (arith, one_cell)
 
 pub loop-line-init : goal.loop-line-init
 loop-line-init c = record { extent = refl; singles = λ q has. has_empty q (rw c.requires.empty at has) }
@@ -37,7 +34,7 @@ insert-requires c =
     let len = c.len-line-end.ensures in
     let is = is_single p _ c.pattern-pattern.ensures.pattern box.is-1 box.len_at_least box.len_below in
     let cell = cell_no p.boxes.now 0 in
-    rw c.loop-line.invariant.extent (c.requires.on _ (listed_at c.args.arena.now c.loop-line.line (omega (arith, test, len))) cell
+    rw c.loop-line.invariant.extent (c.requires.on _ (listed_at c.args.arena.now c.loop-line.line (omega arith)) cell
     (inl (rw is (inserted set.empty cell))))
 
 pub loop-line-preserved : goal.loop-line-preserved
@@ -49,9 +46,9 @@ loop-line-preserved c =
     let test = c.loop-line-test.true in
     let len = c.len-line-end.ensures in
     let is = is_single p _ c.pattern-pattern.ensures.pattern box.is-1 box.len_at_least box.len_below in
-    let listed = listed_at c.args.arena.now c.loop-line.line (omega (arith, test, len)) in
+    let listed = listed_at c.args.arena.now c.loop-line.line (omega arith) in
     record {
       extent = c.insert.ensures.extent ∙ old.extent;
       singles = λ q has. either ((c.insert.ensures.members q).0 has) (old.singles q)
-          (λ e. rw (subst (λ (k : Cell). pattern_at patterns c.loop-line.line ≡ single k) (sym e) is) at listed);
+          (λ e. rw (subst (λ k. pattern_at patterns c.loop-line.line ≡ single k) (sym e) is) at listed);
     }

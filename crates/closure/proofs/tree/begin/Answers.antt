@@ -1,12 +1,10 @@
 -- The tree has one node, for the root, and all other cells of the room are left. The table has an entry for each cell of the grid, so the
 -- root's number can be written. `root_alone` of `Spanning.antt` says that such a tree is a growing one: its only node is in the room, and
 -- every cell of the room that isn't left, which is the root alone, has its number.
-use Rattle.std.proofs.Common.{◌≡◌, ◌+◌, ◌*◌, List, [], ◌∷◌, ◌++◌, length, refl, ◌∙◌, ap, arith}
+use Rattle.std.proofs.Common.{◌≡◌, ◌+◌, ◌*◌, [], ◌∷◌, ◌++◌, length, refl, ◌∙◌, ap, arith}
 use Rattle.std.proofs.lemmas.List.{get_or-set_same, length-set}
 use Rattle.std.specs.FinSet as finset
 use Rattle.std.specs.Vec.{with_item}
-use Rattle.cellset.specs.Shape.{Extent}
-use Rattle.cellset.specs.CellSet.{Cells}
 use Rattle.cellset.specs.declared.dir.Dir.TheVariants.{L}
 use Rattle.closure.specs.CellIndex.{index_of}
 use Rattle.closure.specs.declared.tree.Node.{Node}
@@ -28,28 +26,17 @@ returns-clause-growing g c =
     let count = c.in_ok-numbers.numbers.ok.0 in
     let from = c.from-height.ensures in
     let height = c.height.ensures.value in
-    let shape = ap (λ (e : Extent). e.height) c.shape-shape.ensures.value in
-    let long : length numbers ≡ 256 * (level.shape.height + 1) = omega (arith, made, count, from, height, shape) in
+    let shape = ap (λ e. e.height) c.shape-shape.ensures.value in
+    let long : length numbers ≡ 256 * (level.shape.height + 1) = omega arith in
     let index = c.index_of.ensures in
     let s : Node = record { cell = c.player-root.result; dir = L; parent = 0 } in
     root_alone level c.player-root.result (rw c.player-root.ensures.value c.shape-shape.ensures.formed.here)
     c.player-root.ensures.value (g.S.CellSet.members c.remove.new.self) s
     (record { numbers = with_item c.in_ok-numbers.numbers c.index_of.result 0; nodes = c.push.new.self })
-    (c.remove.ensures.members ∙ ap (λ (s : Cells). finset.remove s c.player-root.result) (c.copy_from.ensures.members ∙ c.room.ensures.members)) refl
-    (c.in_ok-push.ensures.items ∙ ap (λ (l : List Node). l ++ s ∷ []) c.in_ok-nodes.ensures.items)
-    (length-set numbers c.index_of.result 0 ∙ long)
+    (c.remove.ensures.members ∙ ap (λ s. finset.remove s c.player-root.result) (c.copy_from.ensures.members ∙ c.room.ensures.members)) refl
+    (c.in_ok-push.ensures.items ∙ ap (λ l. l ++ s ∷ []) c.in_ok-nodes.ensures.items) (length-set numbers c.index_of.result 0 ∙ long)
     (rw index (get_or-set_same numbers (index_of c.player-root.result) 0 0
-    (omega (arith, bottom, right, wide, long))))
+    (omega arith)))
 
 pub index_mut-requires : goal.index_mut-requires
-index_mut-requires g c =
-    let on = c.player-root.ensures.on in
-    let bottom = on.bottom in
-    let right = on.right in
-    let wide = c.shape-shape.ensures.formed.sides.not_too_wide in
-    let made = c.in_ok-numbers.ensures.len in
-    let from = c.from-height.ensures in
-    let height = c.height.ensures.value in
-    let shape = ap (λ (e : Extent). e.height) c.shape-shape.ensures.value in
-    let index = c.index_of.ensures in
-    omega (arith, bottom, right, wide, made, from, height, shape, index)
+index_mut-requires g c = grind arith

@@ -7,18 +7,7 @@ use Rattle.closure.proofs.Spanning.{none_left}
 use Rattle.closure.proofs.tree.grow_tree.Goals as goal
 
 pub loop-from-preserved : goal.loop-from-preserved
-loop-from-preserved g c =
-    let inv = c.loop-from.invariant in
-    let around = c.in_ok-join_around.ensures in
-    let test = c.loop-from-test.true in
-    let long = c.len.ensures ∙ c.loop-from.tree.nodes.ok.0 in
-    let longer = around.longer in
-    record {
-      extent = around.extent;
-      growing = around.growing;
-      from = omega (arith, test, long, longer);
-      beside = around.beside inv.beside;
-    }
+loop-from-preserved g c = grind arith
 
 pub returns : goal.returns
 returns g c =
@@ -27,7 +16,7 @@ returns g c =
     let test = c.loop-from-test.false in
     let long = c.len.ensures ∙ c.loop-from.tree.nodes.ok.0 in
     let from = inv.from in
-    let all : c.loop-from.from ≡ length c.loop-from.tree.nodes.items = omega (arith, test, long, from) in
+    let all : c.loop-from.from ≡ length c.loop-from.tree.nodes.items = omega arith in
     let beside = rw all at inv.beside in
     record {
       nodes = inv.growing.nodes;
@@ -37,25 +26,13 @@ returns g c =
     }
 
 pub loop-from-init : goal.loop-from-init
-loop-from-init g c = record {
-  extent = c.begin.ensures.extent;
-  growing = c.in_ok-tree.ensures.growing;
-  from = omega arith;
-  beside = λ i s d lt. absurd (omega (arith, lt));
-}
+loop-from-init g c = grind arith
 
 pub loop-from-smaller : goal.loop-from-smaller
-loop-from-smaller g c =
-    let sum = c.in_ok-join_around.ensures.sum in
-    let test = c.loop-from-test.true in
-    let long = c.len.ensures ∙ c.loop-from.tree.nodes.ok.0 in
-    omega (arith, sum, test, long)
+loop-from-smaller g c = grind arith
 
 pub join_around-requires-clause-from : goal.join_around-requires-clause-from
-join_around-requires-clause-from g c =
-    let test = c.loop-from-test.true in
-    let long = c.len.ensures ∙ c.loop-from.tree.nodes.ok.0 in
-    omega (arith, test, long)
+join_around-requires-clause-from g c = grind arith
 
 pub join_around-requires-clause-growing : goal.join_around-requires-clause-growing
 join_around-requires-clause-growing g c = c.loop-from.invariant.growing

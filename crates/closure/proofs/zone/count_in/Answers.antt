@@ -1,30 +1,12 @@
-use Rattle.std.proofs.Common.{arith, ap, ◌∙◌}
-use Rattle.std.specs.FinSet as set
+use Rattle.std.proofs.Common.{arith}
 use Rattle.closure.proofs.Counts.{len-union, len-union_right}
 use Rattle.closure.proofs.zone.count_in.Goals as goal
 
 pub overflow_sub-result : goal.overflow_sub-result
-overflow_sub-result g c =
-    let zone = g.S.CellSet.members c.args.zone.now in
-    let cells = g.S.CellSet.members c.args.cells.now in
-    let all = c.len-2.ensures ∙ ap set.len (c.union_with.ensures.members ∙ ap (λ s. set.union s cells) c.copy_from.ensures.members) in
-    let some = c.len-3.ensures in
-    omega (arith, all, some, len-union_right zone cells)
+overflow_sub-result g c = grind (arith, len-union_right)
 
 pub overflow_sub-result-2 : goal.overflow_sub-result-2
-overflow_sub-result-2 g c =
-    let zone = g.S.CellSet.members c.args.zone.now in
-    let cells = g.S.CellSet.members c.args.cells.now in
-    let all = c.len-2.ensures ∙ ap set.len (c.union_with.ensures.members ∙ ap (λ s. set.union s cells) c.copy_from.ensures.members) in
-    let some = c.len-3.ensures in
-    let first = c.len.ensures in
-    omega (arith, all, some, first, len-union_right zone cells, len-union zone cells)
+overflow_sub-result-2 g c = grind (arith, len-union_right, len-union)
 
 pub returns-clause-value : goal.returns-clause-value
-returns-clause-value g c =
-    let zone = g.S.CellSet.members c.args.zone.now in
-    let cells = g.S.CellSet.members c.args.cells.now in
-    let all = c.len-2.ensures ∙ ap set.len (c.union_with.ensures.members ∙ ap (λ s. set.union s cells) c.copy_from.ensures.members) in
-    let some = c.len-3.ensures in
-    let first = c.len.ensures in
-    omega (arith, all, some, first, len-union_right zone cells, len-union zone cells)
+returns-clause-value g c = grind (arith, len-union_right, len-union)

@@ -40,16 +40,7 @@ loop-cell-preserved g c =
     }
 
 pub loop-cell-init : goal.loop-cell-init
-loop-cell-init g c =
-    let zone = g.S.CellSet.members c.args.zone.now in
-    record {
-      can_next = tt;
-      is_finite = tt;
-      all = rw c.into_iter-cell-iterator.ensures.into_iter_gives (rw c.requires at c.new-cell-items.ensures);
-      passed = λ q came d leak.
-          let low = came.1 in
-          absurd (omega (arith, low));
-    }
+loop-cell-init g c = grind arith
 
 pub returns : goal.returns
 returns g c = λ q d leak.

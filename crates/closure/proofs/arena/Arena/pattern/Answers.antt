@@ -4,7 +4,6 @@ use Rattle.closure.specs.Pattern.{cells_of, listed, pattern_of, seeds_of}
 use Rattle.closure.specs.Arena.{coord_of, line_at, line_in, seeds_among}
 use Rattle.closure.specs.Sides.{cells_in}
 use Rattle.closure.specs.Spans.{part}
-use Rattle.closure.specs.declared.arena.StoredLine.{StoredLine}
 use Rattle.closure.proofs.Arenas.{line_pattern, same_cells}
 use Rattle.closure.proofs.CellLists.{at_any}
 use Rattle.closure.proofs.Spans.{boxes_within}
@@ -32,4 +31,4 @@ returns-clause-pattern c =
       | in-None w ↦ rw (w.seeds-is, w.in-None.is) refl
     ] in
     (λ i. record { boxes = boxes i; seeds = seeds i }) ∙
-    (ap (λ (l : StoredLine). pattern_of (line_in arena.boxes.items arena.seeds.items l)) (sym here) ∙ sym (line_pattern arena c.args.line c.requires))
+    (ap (λ l. pattern_of (line_in arena.boxes.items arena.seeds.items l)) (sym here) ∙ sym (line_pattern arena c.args.line c.requires))

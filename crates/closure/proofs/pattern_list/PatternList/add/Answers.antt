@@ -1,8 +1,7 @@
 -- If an earlier line isn't lawful, it stays the first fault. If all are lawful, so is a lawful one more, and a line that isn't lawful is the
 -- first fault (`PatternLists.antt`).
-use Rattle.std.proofs.Common.{◌≡◌, List, ◌∷◌, [], ◌++◌, ◌∙◌, ap}
+use Rattle.std.proofs.Common.{◌≡◌, ◌∷◌, [], ◌++◌, ◌∙◌, ap}
 use Rattle.answers.specs.Grammar.{said_pattern}
-use Rattle.answers.specs.Body.{PatternLine}
 use Rattle.closure.specs.Pattern.{patterns_of}
 use Rattle.closure.specs.Closed.{AreLawful}
 use Rattle.closure.specs.FirstFault.{IsFirstPatternFault}
@@ -29,7 +28,7 @@ returns-in_default-clause-added g c = λ lines is.
     let new = rw c.in_default.is at c.in_ok-why.ensures in
     as_none ((lines_in c.add_lawful.new.arena ≡ lines ++ said ∷ []) × AreLawful level (patterns_of (lines ++ said ∷ []))) ⊥
     (λ f. IsFirstPatternFault level (lines ++ said ∷ []) (Line f.0 f.1)) (λ f. ⊥) list.unlawful c.if-is_none.ensures
-    (new.0 ∙ ap (λ (ls : List PatternLine). ls ++ said ∷ []) all.0, lawful_more level lines said all.1 new.1)
+    (new.0 ∙ ap (λ ls. ls ++ said ∷ []) all.0, lawful_more level lines said all.1 new.1)
 
 pub returns-else-is_none-clause-added : goal.returns-else-is_none-clause-added
 returns-else-is_none-clause-added g c = λ lines is.

@@ -1,5 +1,4 @@
-use Rattle.std.proofs.Common.{List, sym, ◌∙◌, subst}
-use Rattle.answers.specs.Body.{PatternLine}
+use Rattle.std.proofs.Common.{sym, ◌∙◌, subst}
 use Rattle.closure.specs.Arena.{list_in}
 use Rattle.closure.specs.Closed.{AreLawful}
 use Rattle.closure.specs.Pattern.{patterns_of}
@@ -10,7 +9,7 @@ pub arena_of-requires : goal.arena_of-requires
 arena_of-requires g c = λ pattern listed q named. rw c.shape.ensures.value ((c.requires pattern listed).board q named)
 
 pub enter_all-requires : goal.enter_all-requires
-enter_all-requires g c = subst (λ (l : List PatternLine). AreLawful c.args.board.now (patterns_of l)) (sym c.in_ok-arena.ensures) c.requires
+enter_all-requires g c = subst (λ l. AreLawful c.args.board.now (patterns_of l)) (sym c.in_ok-arena.ensures) c.requires
 
 pub invariant_of-result : goal.invariant_of-result
 invariant_of-result g c = record {

@@ -1,11 +1,11 @@
 use Rattle.std.proofs.Common.{subst}
 use Rattle.std.proofs.lemmas.Bool.{false≢true}
-use Rattle.cellset.specs.CellSet.{Cells, Has}
+use Rattle.cellset.specs.CellSet.{Has}
 use Rattle.cellset.proofs.Members.{has_empty}
 use Rattle.closure.proofs.tables.Tables.is_on_trap.Goals as goal
 
 pub returns-then-self : goal.returns-then-self
 returns-then-self g c = (
   λ h. absurd (false≢true h),
-  λ has. absurd (has_empty c.args.cell (subst (λ (s : Cells). Has s c.args.cell) (c.requires.trapless c.if-self.true) has)),
+  λ has. absurd (has_empty c.args.cell (subst (λ s. Has s c.args.cell) (c.requires.trapless c.if-self.true) has)),
 )

@@ -2,12 +2,10 @@
 -- no cell of the room, and a cell that isn't left was joined before, so nothing changes in the first two. In the last the cell is taken
 -- out of those left and gets the next number, with the given node as its parent (`laid_more` in `Spanning.antt`): one cell less is left,
 -- and there is one node more. In each the neighbour isn't left afterwards, if it is in the room.
-use Rattle.std.proofs.Common.{◌+◌, List, ℕ, length, get_or, set, refl, sym, ◌∙◌, ap, subst, arith}
-use Rattle.std.specs.FinSet as finset
+use Rattle.std.proofs.Common.{set, refl, sym, ◌∙◌, ap, subst, arith}
 use Rattle.std.specs.Vec.{with_item}
 use Rattle.std.proofs.lemmas.List.{get_or_read}
 use Rattle.cellset.specs.Cell.{neighbor}
-use Rattle.cellset.specs.CellSet.{Cells, Lacks}
 use Rattle.cellset.proofs.Members.{remove_absent}
 use Rattle.closure.specs.CellIndex.{index_of}
 use Rattle.closure.specs.SpanningTree.{IsGrowing}
@@ -20,93 +18,52 @@ use Rattle.closure.proofs.Sets.{removed_lacks}
 use Rattle.closure.proofs.tree.Tree.join_beside.Goals as goal
 
 pub returns-then-not-remove-clause-growing : goal.returns-then-not-remove-clause-growing
-returns-then-not-remove-clause-growing g c =
-    let left = g.S.CellSet.members c.args.left.now in
-    subst (λ (t : Cells). IsGrowing c.args.board.now t c.args.self.now) (sym (c.remove.ensures.members ∙
-    remove_absent left c.in-Some.cell (sym c.if-not-remove.ensures.was_there))) c.requires.growing
+returns-then-not-remove-clause-growing g c = grind (arith, remove_absent)
 
 pub returns-then-not-remove-clause-sum : goal.returns-then-not-remove-clause-sum
-returns-then-not-remove-clause-sum g c =
-    let left = g.S.CellSet.members c.args.left.now in
-    ap (λ (t : Cells). finset.len t + length c.args.self.now.nodes.items) (c.remove.ensures.members ∙
-    remove_absent left c.in-Some.cell (sym c.if-not-remove.ensures.was_there))
+returns-then-not-remove-clause-sum g c = grind (arith, remove_absent)
 
 pub returns-then-not-remove-clause-kept : goal.returns-then-not-remove-clause-kept
-returns-then-not-remove-clause-kept g c = λ q lacks.
-    subst (λ (t : Cells). Lacks t q) (sym c.remove.ensures.members) (lacks_remove (g.S.CellSet.members c.args.left.now) c.in-Some.cell q lacks)
+returns-then-not-remove-clause-kept g c = grind (arith, lacks_remove)
 
 pub returns-then-not-remove-clause-beside : goal.returns-then-not-remove-clause-beside
-returns-then-not-remove-clause-beside g c = λ s _.
-    let here = ap (λ (x : Node). neighbor x.cell c.args.dir) (sym (get_or_read c.args.self.now.nodes.items c.args.from c.index.result.now c.requires.from
-    c.index.ensures s)) ∙ sym c.in-Some.ensures.1 in
-    subst (λ (t : Cells). Lacks t (neighbor (get_or c.args.self.now.nodes.items c.args.from s).cell c.args.dir)) (sym c.remove.ensures.members)
-    (rw here (removed_lacks (g.S.CellSet.members c.args.left.now)
-    c.in-Some.cell))
+returns-then-not-remove-clause-beside g c = grind (arith, get_or_read, removed_lacks)
 
 pub returns-in_err-push-clause-kept : goal.returns-in_err-push-clause-kept
-returns-in_err-push-clause-kept g c = λ q lacks.
-    subst (λ (t : Cells). Lacks t q) (sym c.remove.ensures.members) (lacks_remove (g.S.CellSet.members c.args.left.now) c.in-Some.cell q lacks)
+returns-in_err-push-clause-kept g c = grind (arith, lacks_remove)
 
 pub returns-in_err-push-clause-beside : goal.returns-in_err-push-clause-beside
-returns-in_err-push-clause-beside g c = λ s _.
-    let here = ap (λ (x : Node). neighbor x.cell c.args.dir) (sym (get_or_read c.args.self.now.nodes.items c.args.from c.index.result.now c.requires.from
-    c.index.ensures s)) ∙ sym c.in-Some.ensures.1 in
-    subst (λ (t : Cells). Lacks t (neighbor (get_or c.args.self.now.nodes.items c.args.from s).cell c.args.dir)) (sym c.remove.ensures.members)
-    (rw here (removed_lacks (g.S.CellSet.members c.args.left.now)
-    c.in-Some.cell))
+returns-in_err-push-clause-beside g c = grind (arith, get_or_read, removed_lacks)
 
 pub returns-clause-growing : goal.returns-clause-growing
 returns-clause-growing g c =
     let old = c.args.self.now in
     let left = g.S.CellSet.members c.args.left.now in
-    let to_cell = λ (s : Node). ap (λ (x : Node). neighbor x.cell c.args.dir)
+    let to_cell = λ (s : Node). ap (λ x. neighbor x.cell c.args.dir)
     (sym (get_or_read old.nodes.items c.args.from c.index.result.now c.requires.from c.index.ensures s)) ∙ sym c.in-Some.ensures.1 in
     let s : Node = record { cell = c.in-Some.cell; dir = c.opposite.result; parent = c.args.from } in
     let new : Tree = record { numbers = with_item old.numbers c.index_of.result c.len.result; nodes = c.push.new.self } in
-    subst (λ (t : Cells). IsGrowing c.args.board.now t new) (sym c.remove.ensures.members)
+    subst (λ t. IsGrowing c.args.board.now t new) (sym c.remove.ensures.members)
     (laid_more c.args.board.now c.shape.ensures.formed left old c.requires.growing c.args.from c.in-Some.cell c.args.dir s c.requires.from
-    (sym c.if-not-remove.ensures.was_there) to_cell refl c.opposite.ensures refl
-    new
-    (ap (λ (p : ℕ). set old.numbers.items p c.len.result) c.index_of.ensures ∙ ap (set old.numbers.items (index_of c.in-Some.cell)) (c.len.ensures ∙
+    (sym c.if-not-remove.ensures.was_there) to_cell refl c.opposite.ensures refl new
+    (ap (λ p. set old.numbers.items p c.len.result) c.index_of.ensures ∙ ap (set old.numbers.items (index_of c.in-Some.cell)) (c.len.ensures ∙
     old.nodes.ok.0))
     c.in_ok-push.ensures.items)
 
 pub returns-clause-sum : goal.returns-clause-sum
-returns-clause-sum g c =
-    let left = g.S.CellSet.members c.args.left.now in
-    let s : Node = record { cell = c.in-Some.cell; dir = c.opposite.result; parent = c.args.from } in
-    let fewer = len-remove_member left c.in-Some.cell (sym c.if-not-remove.ensures.was_there) in
-    let members = ap (λ (t : Cells). finset.len t) c.remove.ensures.members in
-    let longer = ap (λ (l : List Node). length l) c.in_ok-push.ensures.items ∙ length_more c.args.self.now.nodes.items s in
-    omega (arith, fewer, members, longer)
+returns-clause-sum g c = grind (arith, len-remove_member, length_more)
 
 pub returns-clause-kept : goal.returns-clause-kept
-returns-clause-kept g c = λ q lacks.
-    subst (λ (t : Cells). Lacks t q) (sym c.remove.ensures.members) (lacks_remove (g.S.CellSet.members c.args.left.now) c.in-Some.cell q lacks)
+returns-clause-kept g c = grind (arith, lacks_remove)
 
 pub returns-clause-beside : goal.returns-clause-beside
-returns-clause-beside g c = λ s _.
-    let here = ap (λ (x : Node). neighbor x.cell c.args.dir) (sym (get_or_read c.args.self.now.nodes.items c.args.from c.index.result.now c.requires.from
-    c.index.ensures s)) ∙ sym c.in-Some.ensures.1 in
-    subst (λ (t : Cells). Lacks t (neighbor (get_or c.args.self.now.nodes.items c.args.from s).cell c.args.dir)) (sym c.remove.ensures.members)
-    (rw here (removed_lacks (g.S.CellSet.members c.args.left.now)
-    c.in-Some.cell))
+returns-clause-beside g c = grind (arith, get_or_read, removed_lacks)
 
 pub index_mut-requires : goal.index_mut-requires
-index_mut-requires g c =
-    let on = rw (c.shape.ensures.value, ← c.in-Some.ensures.1) at c.in-Some.ensures.0 in
-    let low = index_within c.args.board.now.shape c.shape.ensures.formed.sides c.in-Some.cell on in
-    let long = c.requires.growing.long in
-    let at = c.index_of.ensures in
-    let len = c.args.self.now.numbers.ok.0 in
-    omega (arith, low, long, at, len)
+index_mut-requires g c = grind (arith, index_within)
 
 pub returns-clause-same : goal.returns-clause-same
-returns-clause-same g c = λ i s lt. ap (λ (l : List Node). get_or l i s) c.in_ok-push.ensures.items ∙ old_item c.args.self.now.nodes.items _ i s lt
+returns-clause-same g c = grind (arith, old_item)
 
 pub returns-in_default-clause-beside : goal.returns-in_default-clause-beside
-returns-in_default-clause-beside g c = λ s room.
-    let here = ap (λ (x : Node). neighbor x.cell c.args.dir) (sym (get_or_read c.args.self.now.nodes.items c.args.from c.index.result.now c.requires.from
-    c.index.ensures s)) in
-    let on = rw here at (c.shape.ensures.formed.room _ room).0 in
-    absurd (c.in_default.ensures (rw c.shape.ensures.value on))
+returns-in_default-clause-beside g c = grind (arith, get_or_read)
