@@ -99,13 +99,14 @@ class Taken:
         found = {id(record): Own(record, before.levels[record.level - 1], [])
                  for record in records}
         places = {match.new + 1: match for match in changes.matches(before, self.now)}
-        carried = self._carried(records, before, places)
-        changed = {match.old + 1: match.new + 1 for match in places.values() if match.turn is None}
+        # Of equal answers to the same board one goes to all levels that have it.
+        first: Dict[Hashable, answers.Record] = {}
+        same = {}
         for record in records:
-            if record.level in changed:
-                number = changed[record.level]
-                carried.setdefault(number, []).append(
-                    carry.Carried(number, carry.renumbered(record, number), record))
+            form = before.forms[record.level - 1]
+            answer = form.key, form.turn[:4], *record.above, *record.raw[1:]
+            same[id(record)] = found[id(first.setdefault(answer, record))]
+        carried = self._carried(records, list(first.values()), before, places)
         for number, several in carried.items():
             for one in several:
                 is_own = number in places and places[number].turn is not None and (
@@ -113,18 +114,18 @@ class Taken:
                 self.picks.add(number, one.text, name and Source(name, one.record.line) or None,
                                stays=stays and is_own)
                 found[id(one.record)].targets.append((number, one.text))
+        for key, own in found.items():
+            if same[key] is not own:
+                own.targets.extend(same[key].targets)
         return list(found.values())
 
-    def _carried(self, records: Sequence[answers.Record], before: changes.State,
-                 places: Dict[int, changes.Match]) -> Dict[int, List[carry.Carried]]:
-        """Returns the records for each level that has the board of theirs."""
-        # Of equal answers to the same board one goes to all levels that have it.
-        first: Dict[Hashable, answers.Record] = {}
-        for record in records:
-            form = before.forms[record.level - 1]
-            first.setdefault((form.key, form.turn[:4], *record.above, *record.raw[1:]), record)
-        carried = carry.carried(list(first.values()), before.forms, self.now.forms)
-        taken = {id(record) for record in first.values()}
+    def _carried(self, records: Sequence[answers.Record], first: Sequence[answers.Record],
+                 before: changes.State, places: Dict[int, changes.Match]
+                 ) -> Dict[int, List[carry.Carried]]:
+        """Returns the records for each level that has the board of theirs: the first ones for all
+        such levels, and the others for their own."""
+        carried = carry.carried(first, before.forms, self.now.forms)
+        taken = {id(record) for record in first}
         numbers = {match.old + 1: match.new + 1 for match in places.values() if match.turn}
         for record in records:
             number = numbers.get(record.level, 0)
@@ -132,6 +133,12 @@ class Taken:
                 text = carry.turned(record, number, before.forms[record.level - 1],
                                     self.now.forms[number - 1])
                 carried.setdefault(number, []).append(carry.Carried(number, text, record))
+        changed = {match.old + 1: match.new + 1 for match in places.values() if match.turn is None}
+        for record in records:
+            if record.level in changed:
+                number = changed[record.level]
+                carried.setdefault(number, []).append(
+                    carry.Carried(number, carry.renumbered(record, number), record))
         return carried
 
     # ---- once the answers were chosen
