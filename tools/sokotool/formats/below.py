@@ -54,6 +54,8 @@ class Below:
         self.is_skipping = False
         self.kept = 0
         self.packed = texts.Cache(letters.packed)
+        self.among_words = texts.Cache(letters.among_words)
+        self.why_no_row = texts.Cache(lambda line: rows.why_no_row(line, False))
         self.tried: Dict[str, Attempt] = {}
         # lines whose words solve nothing
         self.idle: Set[str] = set()
@@ -119,7 +121,7 @@ class Below:
 
     def _read_words(self, at: int, kind: int, goes_on: bool) -> None:
         """Tries the letters of a line, and remembers a heading."""
-        found = letters.among_words(self.lines[at])
+        found = self.among_words[self.lines[at]]
         is_solved = self.collection.level is not None and self._try_words(at, found, kind)
         if (kind == HEADING and self.collection.level is not None
                 and not headings.says_more(self.lines[at])):
@@ -310,7 +312,8 @@ class Below:
         """Reports a line that may be meant as a row."""
         is_between = (0 < at < len(self.found) - 1 and self.found[at - 1] is not None
                       and self.found[at + 1] is not None)
-        why = rows.why_no_row(self.lines[at], is_between)
+        line = self.lines[at]
+        why = rows.why_no_row(line, True) if is_between else self.why_no_row[line]
         if why:
             self.collection.fault(at + 1, why)
 
