@@ -61,7 +61,7 @@ def _used() -> float:
 
 
 def ratios(compared: Cases) -> None:
-    """A case for each slow input: it takes up to so many times as long as a plain one. The machine
+    """A case for each slow input: it may take `most` times as long as a plain one. The machine
     may be busy, so the best of some tries counts."""
     for it in worst():
         for _ in range(TRIES):
