@@ -28,7 +28,7 @@ went_wrong (Err c) e = inl cc
 
 -- ---- level lines and kind lines
 
--- the digits of a level line are those of the level's number
+-- the digits of a level line spell the level's number
 level_is : {text : List ℕ} {n : ℕ} → IsLevelLine text n → (digits : List ℕ) × (level_digits text ≡ Some digits) × (number_in digits ≡ n)
 level_is {n} h = (_, ap level_digits h.spelled ∙ level_again h.low, number_in-numeral n)
 

@@ -1,5 +1,5 @@
 -- The lines of letters, one by one: if letters are left, the first line has the first 70 of them, or all, and the other
--- lines are those of the rest. The number of lines is a quotient that rounds up, so it is one more than that of the
+-- lines have the rest. The number of lines is a quotient that rounds up, so it is one more than the number for the
 -- rest.
 use Rattle.std.proofs.Common.{◌≡◌, ℕ, List, ◌∷◌, ◌++◌, ◌+◌, ◌-◌, ◌/◌, ◌<◌, min, suc, arith, length, take, drop}
 use Rattle.std.proofs.lemmas.Bool.{cases_lt}

@@ -1,6 +1,6 @@
 -- Cells, read off the front of a text one after the other.
--- A cell is its column up to a comma, and then its row. While cells are read, the cells of the text are those so far and then those of what
--- is left. What is left begins with its first cell, which is the one that was taken there, because a number ends where its digits end. Either
+-- A cell is its column up to a comma, and then its row. While cells are read, the cells of the text are the cells so far and then the cells of
+-- what is left. What is left begins with its first cell, which is the one that was taken there, because a number ends where its digits end. Either
 -- a blank follows with another cell, or that was the last one. If the text has cells, no step of this fails. So what was taken is there, and
 -- what is there was taken.
 use Rattle.std.proofs.Common.{◌≡◌, ◌≢◌, ℕ, ◌<◌, true, List, [], ◌∷◌, ◌++◌, length, drop, get_or, Option, Some, None, refl, sym, ap, ◌∙◌, arith, inl, inr, append_assoc}
@@ -54,7 +54,7 @@ record GoOnAfter (last : Coord) (text : List ℕ) (cells : List Coord) (rest : L
   each : AllByRecursion IsCell cells
   order : AreInOrder (last ∷ cells)
 
--- The cells of the text are those so far, and then those of what is left.
+-- The cells of the text are the cells so far, and then the cells of what is left.
 pub record Continues (text : List ℕ) (front : List Coord) (last : Coord) (left : List ℕ) : Type 0 where
   sound : (more : List Coord) (rest : List ℕ) → GoOnAfter last left more rest → AreCellsBefore text (front ++ more) rest
   whole : (cells : List Coord) (rest : List ℕ) → EndsCells rest → AreCellsBefore text cells rest → (more : List Coord) × (cells ≡ front ++ more)

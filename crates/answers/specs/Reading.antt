@@ -107,7 +107,7 @@ abbrev pub some_or : {A B : Type 0} → B → (A → Option B) → Option A → 
 some_or end more None = Some end
 some_or end more (Some next) = more next
 
--- The cells so far and those of up to n cells more with which the text goes on after the last one, and the rest.
+-- The cells so far, up to n cells more with which the text goes on after the last one, and the rest.
 abbrev pub cells_from : ℕ → List Coord → Coord → List ℕ → Option (List Coord × List ℕ)
 cells_from zero front last text = None
 cells_from (suc n) front last text =
@@ -237,7 +237,7 @@ closed count (entries, LevelDue) = Ok entries
 closed count (entries, KindDue n) = Err (fault.Unclosed (count + 1))
 closed count (entries, BodyDue n b) = Err (fault.Unclosed (count + 1))
 
--- After the record of level `last`, the lines are those of this record and then the rest.
+-- After the record of level `last`, the lines begin with this record's, and then comes the rest.
 abbrev pub HasNextRecord : ℕ → ℕ → ℕ → List Line → RecordText → List Line → Type 0
 HasNextRecord version levels last lines next rest = (entries : List Entry) → last_level entries ≡ last
     → run version levels entries LevelDue lines ≡ run version levels (entries ++ entry_of next ∷ []) LevelDue rest

@@ -56,7 +56,7 @@ not_false true h = refl
 not_false false h = absurd (false≢true (sym h))
 
 -- ---- the blocks so far
--- the bits are those of 16 bytes from a place on
+-- each bit tells of one of 16 bytes from a place on
 abbrev pub IsBlockOf : (ℕ → Bool) → List ℕ → ℕ → ℕ → Type 0
 IsBlockOf is_kind line from word = (k : ℕ) → k < 16 → bit word k ≡ is_kind (get_or line (from + k) 0)
 

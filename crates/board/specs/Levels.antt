@@ -7,7 +7,7 @@ use Rattle.board.specs.Characters.{is_wall, is_board_character}
 abbrev pub most_levels : ℕ
 most_levels = 10000
 
--- a board line has a wall, and no characters but those of boards
+-- a board line has a wall, and board characters alone
 abbrev pub is_board_line : List ℕ → Bool
 is_board_line line = list_any is_wall line && list_all is_board_character line
 

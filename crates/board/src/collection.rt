@@ -112,7 +112,7 @@ fn cut_after_run(text: &[u8]) -> (&[u8], (usize, usize), &[u8])
     (text, (width, height), rest)
 }
 
-// Returns whether a line has a wall, and no characters but those of boards. Tests 16 bytes at a time: byte by byte, an audit of 10,000 small
+// Returns whether a line has a wall, and board characters alone. Tests 16 bytes at a time: byte by byte, an audit of 10,000 small
 // levels takes 3 % more instructions. Lines of less than 16 bytes gain nothing.
 fn is_board_line(line: &[u8]) -> bool
     ensures { result ≡ is_board_line line.now }

@@ -12,7 +12,7 @@ use Rattle.closure.specs.Sides.{cells_in}
 use Rattle.closure.specs.declared.arena.Arena.{Arena}
 use Rattle.closure.proofs.CellLists.{at_any}
 
--- Cells are those of their coordinates.
+-- Cells are the cells of their coordinates.
 back_again : (cells : List Cell) → map cell_of (map coord_of cells) ≡ cells
 back_again [] = refl
 back_again (c ∷ cs) = ap (λ l. c ∷ l) (back_again cs)

@@ -62,12 +62,12 @@ pub covered_each_way : (level : Level) (patterns : List Pattern) (pattern : Patt
     CoversToward level patterns pattern cell D → CoversFrom level patterns pattern cell
 covered_each_way level patterns pattern cell l u r d push out from = grind arith
 
--- The results of the pushes out of a pattern are covered if those of each of its boxes are.
+-- The results of the pushes out of a pattern are covered if the results are for each of its boxes.
 pub covered_each_box : (level : Level) (patterns : List Pattern) (pattern : Pattern) (boxes : List Cell) (n : ℕ) → length boxes ≤ n →
     cells_in boxes ≡ pattern.boxes → ((i : ℕ) → i < n → CoversFrom level patterns pattern (cell_no boxes i)) → CoversPushesOf level patterns pattern
 covered_each_box level patterns pattern boxes n past own each push out = grind (arith, of_list, at_any, no_cell)
 
--- The results of the pushes out of a pattern are covered if those of its group are.
+-- The results of the pushes out of a pattern are covered if the results are for its group.
 pub pattern_of_group : (level : Level) (groups : Groups) → IsGrouped groups → (j : ℕ) → j < length groups.arena.lines.items
     → CoversPushesOf level (list_of groups) (position_at level groups (slice_index groups.of.items j)) →
     CoversPushesOf level (list_of groups) (pattern_at (list_of groups) j)
@@ -101,7 +101,7 @@ module _ {S : Type 0} (tables : Tables S) (is : AreTables tables) (g : ℕ) wher
     abbrev position : Pattern
     position = position_at tables.board.now tables.groups g
 
-    -- The results of the pushes of a group with a box on the trap are covered, and those of the pushes of a group to the trap.
+    -- The results of the pushes of a group with a box on the trap are covered, and so is the result of each push to the trap.
     pub trapped_pushes : (c : Cell) → Has (cells_in (boxes_of tables.groups g)) c → Has tables.trap.members c →
         CoversPushesOf tables.board.now (list_of tables.groups) position
     trapped_pushes c box has push out = search (trapped_push, box_floor, group_in_room)

@@ -71,7 +71,7 @@ seeds_more (listed cells) P Q into all = search
 -- ---- positions
 module _ (level : Level) (groups : Groups) (grouped : IsGrouped groups) where
   module _ (g : ℕ) where
-    -- The boxes of a line are those of its group.
+    -- A line and its group have the same boxes.
     pub line_boxes : (j : ℕ) → j < length groups.arena.lines.items → slice_index groups.of.items j ≡ g →
         (pattern_at (list_of groups) j).boxes ≡ cells_in (boxes_of groups g)
     line_boxes j lt is = grind (arith, boxes_is)

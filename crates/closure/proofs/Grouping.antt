@@ -33,7 +33,7 @@ module _ (arena : Arena) (j : ℕ) (lt : j < length arena.lines.items) where
   pub line_within : IsWithin (length arena.boxes.items) (line_at arena j).boxes
   line_within = grind (arith, span_of_line, many)
 
--- the boxes of a line come after those of the lines before it
+-- the boxes of a line come after the boxes of the lines before it
 lines_apart : (arena : Arena) (i j : ℕ) → i < j → j < length arena.lines.items → (line_at arena i).boxes.to ≤ (line_at arena j).boxes.from
 lines_apart arena i j less lt =
     rw (span_of_line arena j lt, span_of_line arena i (omega arith)) at (arena.within.boxes_in.apart j i (many arena j lt) less)

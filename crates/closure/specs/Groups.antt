@@ -14,7 +14,7 @@ use Rattle.closure.specs.Spans.{AreSpans, part, span_at}
 use Rattle.closure.specs.declared.arena.Arena.{Arena}
 use Rattle.closure.specs.declared.arena.Span.{Span}
 
--- `of` has the group of each of the first n lines, and `spans` the boxes of each group, which are those of one of these lines
+-- `of` has the group of each of the first n lines, and `spans` the boxes of each group, which are the boxes of one of these lines
 pub record AreGroups (arena : Arena) (of : List ℕ) (spans : List Span) (n : ℕ) : Type 0 where
   pub long : length of ≡ n
   pub inside : AreSpans (length arena.boxes.items) spans

@@ -22,7 +22,7 @@ pub record AreSpans (n : ℕ) (spans : List Span) : Type 0 where
   pub within : (g : ℕ) → g < length spans → IsWithin n (span_at spans g)
   pub apart : (g h : ℕ) → g < length spans → h < g → (span_at spans h).to ≤ (span_at spans g).from
 
--- the boxes of each line lie within all boxes and come after those of the lines before it; its seeds lie within all seeds
+-- the boxes of each line lie within all boxes and come after the boxes of the lines before it; its seeds lie within all seeds
 pub record AreWithin (boxes seeds : List Cell) (of : List StoredLine) : Type 0 where
   pub boxes_in : AreSpans (length boxes) (map (λ line. line.boxes) of)
   pub seeds_in : (line : StoredLine) (span : Span) → Contains of line → line.seeds ≡ Some span → IsWithin (length seeds) span

@@ -46,7 +46,7 @@ impl Buckets {
     }
 }
 
-// A list of patterns on a board: its trap, its groups and their regions, except those of groups with a box on the trap.
+// A list of patterns on a board: its trap, its groups, and the regions of the groups without a box on the trap.
 //
 // Only lookups need the rest: the room's spanning tree, the buckets, and the regions of all groups. It is filled in before the first one.
 #[derive(Drop)]

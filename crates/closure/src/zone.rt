@@ -154,7 +154,7 @@ fn first_leak<S: CellSet>(board: &Board<S>, zone: &S) -> Option<(Cell, Dir)>
     None
 }
 
-// Returns how many of the cells lie in the zone: the cells of both, less those of their union. `union` is a buffer.
+// Returns how many of the cells lie in the zone: both sizes less the size of the union. `union` is a buffer.
 fn count_in<S: CellSet>(zone: &S, cells: &S, union: &mut S) -> usize
     requires zone { S.extent zone.now ≡ S.extent union.old }
     requires cells { S.extent cells.now ≡ S.extent union.old }

@@ -53,7 +53,7 @@ found_made rows made found = record {
 }
 
 -- ---- the levels
--- the records so far are those of the first k levels, whatever comes after them
+-- the records so far are made for the first k levels, whatever comes after them
 abbrev pub AreMadeUpTo : ℕ → List (List (List ℕ)) → List MadeRecord → Type 0
 AreMadeUpTo k levels so_far = (rest : List MadeRecord) → AreMade (k + 1) (drop k levels) rest → AreMade 1 levels (so_far ++ rest)
 

@@ -69,7 +69,7 @@ lines_more n (x ∷ ss) s =
     ap (λ l. line_of n x ++ l) (lines_more (n + 1) ss s ∙ ap (λ m. lines_from (n + 1) ss ++ line_of m s) there)
     ∙ sym (append_assoc (line_of n x) (lines_from (n + 1) ss) (line_of (n + suc (length ss)) s))
 
--- the line of the next status, after those of the statuses before it
+-- the line of the next status, after the lines of the statuses before it
 pub line_added : (statuses : List Status) (k : ℕ) (d : Status) (old new : Text) → k < length statuses → old ≡ lines_from 1 (take k statuses)
     → new ≡ old ++ line_of (k + 1) (get_or statuses k d) → new ≡ lines_from 1 (take (k + 1) statuses)
 line_added statuses k d old new below so_far added =

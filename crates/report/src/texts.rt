@@ -50,7 +50,7 @@ pub fn judge_texts(
     levels: &[u8],
     answers: &[u8],
 ) -> Result<(Vec<Status>, Summary), AuditError>
-    // The statuses and the numbers are those of the two texts.
+    // Both texts have these statuses, and the summary counts them.
     ensures ok { IfOk result (λ told. AreStatuses levels.now answers.now told.0.items × (told.1 ≡ summary_of told.0.items)) }
     // An error is the first that the texts have, or out of memory.
     ensures refused { IfErr result (λ error. (error ≡ AuditError.Memory) ⊎ IsFirstError levels.now answers.now error) }

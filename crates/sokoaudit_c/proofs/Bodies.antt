@@ -1,5 +1,5 @@
 -- The answers text around a body without a line `end` spells one record of level 1, so it has no fault.
--- Its lines are the header, the level line, the kind line, those of the body, and `end`. Whatever the lines of a body are, the grammar
+-- Its lines are the header, the level line, the kind line, the lines of the body, and `end`. Whatever the lines of a body are, the grammar
 -- reads something in them.
 use Rattle.std.proofs.Common.{◌≡◌, ◌≢◌, ℕ, ◌+◌, ◌-◌, ◌==◌, Bool, true, false, cond, List, [], ◌∷◌, ◌++◌, length, map, drop, slice_index, refl, sym, ◌∙◌, ap, inr, arith, append_assoc, length-append, lit<, lit≤}
 use Rattle.std.specs.Prelude.{codes, filter}

@@ -1,4 +1,4 @@
--- The entries that C gets are those of the statuses, in order, up to the last one that there is room for.
+-- The entries that C gets tell of the statuses, in order, up to the last one that there is room for.
 -- So what a status means is what its entry claims, and the words of its line are what its entry spells.
 use Rattle.std.proofs.Common.{◌≡◌, ◌⊎◌, ℕ, zero, suc, ◌+◌, ◌<◌, List, [], ◌∷◌, ◌++◌, length, min, get_or, slice_set, take, drop, Option, Some, refl, sym, ◌∙◌, ap, subst, inl, inr, arith}
 use Rattle.std.specs.Prelude.{map}

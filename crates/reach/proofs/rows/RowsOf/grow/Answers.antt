@@ -1,6 +1,6 @@
 -- The rows are one to one with the members that contracts see: a cell is a member if its bit is set, and the bits are on the grid
 -- (`Sets.antt`). So the facts about the bits of rows, which the free function `grow` gives, become facts about members. The
--- worklist has the rows of the members, and so those of the bits. The new rows are as many as the old ones, and on the grid because the
+-- worklist has the rows of the members, and so the rows of the bits. The new rows are as many as the old ones, and on the grid because the
 -- free rows and the old ones are; this is the invariant of the type.
 use Rattle.std.proofs.Common.{◌≡◌, ◌+◌, length, sym, ◌∙◌, ap, subst, arith}
 use Rattle.std.specs.Prelude.{◌↔◌}
