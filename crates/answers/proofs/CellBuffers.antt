@@ -5,7 +5,6 @@ use Rattle.std.proofs.Math.Seq.{drop-cons}
 use Rattle.std.proofs.lemmas.Grind.{flat_map-append}
 use Rattle.std.proofs.lemmas.List.{drop_at, drop-append-le, drop-drop, length-append, length-drop, length-take-le, take-append-drop}
 use Rattle.std.specs.List.{flat_map}
-use Rattle.answers.specs.CellTexts.{between}
 use Rattle.answers.specs.Grammar.{numeral}
 use Rattle.answers.specs.declared.pattern.Coord.{Coord}
 use Rattle.answers.proofs.Numerals.{few_digits}

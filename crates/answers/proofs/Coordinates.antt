@@ -111,3 +111,28 @@ takes_no_number text at number h none bad = record {
       let front = and_true (begins (numeral n)) (is_number-numeral n (omega arith)) in
       absurd (false≢true (sym (bad small) ∙ ap begins (digits_are text at number n rest h none there ends) ∙ front.0));
 }
+
+-- ---- how a coordinate begins
+
+pub no_digits : (text : List ℕ) → BeginsWithDigits text 0 0
+no_digits text = record { within = omega arith; digits = refl; value = refl }
+
+pub begins_take : (text : List ℕ) (at : ℕ) → 0 < at → at ≤ length text → begins (take at text) ≡ begins text
+begins_take text at some within =
+    let long : length (take at text) ≡ at = omega (arith, length-take at text) in
+    grind (arith, get_or-take, long)
+
+begins_before : (text : List ℕ) (n : ℕ) (rest : List ℕ) → IsCoordinateBefore text n rest → begins text ≡ true
+begins_before text n rest there =
+    let low = there.low in
+    let front = and_true (begins (numeral n)) (is_number-numeral n (omega arith)) in
+    rw there.spelled (grind (arith, get_or_append_left, length-append, front.0))
+
+pub takes_no_digit : (text : List ℕ) → (begins text ≡ true → NoneGoesOn text 0 0) → TakesCoordinate text None
+takes_no_digit text none = record {
+  found = tt;
+  only = λ n rest there ends.
+      let low = there.low in
+      let none = none (begins_before text n rest there) in
+      absurd (omega (arith, number_is text 0 0 n rest (no_digits text) none there ends));
+}

@@ -1,7 +1,7 @@
 -- The letter lines of a record together are no longer than the text. The lines of a text with their ends are the text
 -- cut up, so together they are as long; without their ends they are no longer, and the kept ones are some of them. The
 -- blocks of a text divide its kept lines among them, and the letter lines of a block are among its lines.
-use Rattle.std.proofs.Common.{◌≡◌, ℕ, zero, suc, ◌+◌, ◌-◌, ◌≤◌, Bool, true, false, cond, List, [], ◌∷◌, ◌++◌, length, map, take, drop, All, Result, Ok, Err, refl, sym, ap, ◌∙◌, arith, inl, inr, length-append, take-append-drop}
+use Rattle.std.proofs.Common.{◌≡◌, ℕ, zero, suc, ◌+◌, ◌≤◌, Bool, true, false, cond, List, [], ◌∷◌, ◌++◌, length, map, take, drop, All, Result, Ok, Err, refl, sym, ap, ◌∙◌, arith, inl, inr, length-append, take-append-drop}
 use Rattle.std.specs.Prelude.{filter, sum_by, IfOk}
 use Rattle.std.specs.Borrow.{Bor}
 use Rattle.std.specs.List.{AllByRecursion}

@@ -4,6 +4,7 @@ use Rattle.answers.proofs.pattern_line.take_coordinate.Given as goal
 
 abbrev pub invariant-loop-more : goal.invariant-loop-more
 invariant-loop-more l = record {
+  some : 1 ≤ l.at;
   read : BeginsWithDigits l.text l.at l.number;
   small : l.number ≤ 65539;
 }

@@ -1,4 +1,4 @@
-use Rattle.std.proofs.Common.{◌-◌, arith}
+use Rattle.std.proofs.Common.{arith}
 use Rattle.answers.proofs.LetterTotals.{letters_of_record}
 use Rattle.answers.proofs.record_text.RecordText.read.Goals as goal
 
