@@ -4,7 +4,6 @@
 -- trap comes to a cell of the trap, since no push within the room leads out of it, and any other push leaves the box on the trap there.
 use Rattle.std.proofs.Common.{◌≡◌, ◌≢◌, List, sym, ◌∙◌, ap, subst, inl}
 use Rattle.std.specs.FinSet as set
-use Rattle.std.specs.List.{Contains}
 use Rattle.cellset.specs.Cell.{neighbor, opposite}
 use Rattle.cellset.specs.CellSet.{Cells, CellsOn, Has, Lacks, only}
 use Rattle.cellset.specs.declared.cell.Cell.{Cell}
@@ -17,7 +16,7 @@ use Rattle.board.specs.Board.{IsWellFormed}
 use Rattle.closure.specs.Pattern.{Pattern, InPatternRegion, IsCovered, PushesOut, after_push}
 use Rattle.closure.specs.Closed.{AreLawful, Closed}
 use Rattle.closure.specs.Sides.{cells_in}
-use Rattle.closure.specs.Trap.{AreOff, IsTrapOf, IsTrapped, single}
+use Rattle.closure.specs.Trap.{AreOff, AreTrapped, IsTrapOf, single}
 use Rattle.closure.proofs.Grouped.{region_in_room}
 use Rattle.closure.proofs.Regions.{region_on, room_outside}
 use Rattle.closure.proofs.Sets.{other_member, other_where}
@@ -88,8 +87,7 @@ module _ (level : Level) (formed : IsWellFormed level) (patterns : List Pattern)
         (kept_by_insert (set.remove pattern.boxes push.from) push.to c (kept_by_remove pattern.boxes push.from c apart box)) from_room (λ e. apart (sym e)))
 
   -- A list whose patterns are all trapped is closed if a box of the start is on the trap.
-  pub closed_trapped : AreLawful level patterns → (c : Cell) → Has trap.members c → Has level.boxes c → ((p : Pattern) → Contains patterns p →
-      IsTrapped trap.members p) → Closed level patterns
+  pub closed_trapped : AreLawful level patterns → (c : Cell) → Has trap.members c → Has level.boxes c → AreTrapped trap.members patterns → Closed level patterns
   closed_trapped lawful c has box all = record {
     lawful = lawful;
     start = start_trapped c has box;

@@ -29,6 +29,10 @@ pub record IsTrapOf (level : Level) (patterns : List Pattern) (trap : CellsOn) :
 abbrev pub IsTrapped : Cells → Pattern → Type 0
 IsTrapped trap pattern = (c : Cell) × Has pattern.boxes c × Has trap c
 
+-- each pattern has a box on the trap
+abbrev pub AreTrapped : Cells → List Pattern → Type 0
+AreTrapped trap patterns = (pattern : Pattern) → Contains patterns pattern → IsTrapped trap pattern
+
 -- none of the boxes is on the trap
 abbrev pub AreOff : Cells → List Cell → Type 0
 AreOff trap boxes = (c : Cell) → Has (cells_in boxes) c → Lacks trap c

@@ -17,6 +17,9 @@ pub(crate) struct CellPattern<'a> {
     pub(crate) seeds: Option<&'a [Cell]>,
 }
 
+// The number of lines for which there is room at first. Without that lists of single boxes take 2 % more instructions.
+const FIRST_LINES: usize = 64;
+
 impl Arena {
     // Returns an arena without lines.
     pub(crate) fn new(alloc: Global) -> Arena
@@ -27,6 +30,17 @@ impl Arena {
             seeds: Vec::new(alloc),
             lines: Vec::new(alloc),
         }
+    }
+
+    // Makes room for the first lines, if there are none yet.
+    pub(crate) fn make_room(&mut self) -> Result<(), AllocError>
+        ensures { lines_in self.new ≡ lines_in self.old }
+    {
+        if self.lines.is_empty() {
+            self.boxes.reserve(FIRST_LINES)?;
+            self.lines.reserve(FIRST_LINES)?;
+        }
+        Ok(())
     }
 
     // Adds a pattern if its boxes and seeds are on the grid. Returns whether they are.

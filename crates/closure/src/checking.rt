@@ -22,10 +22,10 @@ use crate::lookup::{Scratch, is_any_covering};
 use crate::pushes::{PushScratch, cover_groups};
 use crate::region::Finder;
 use crate::tables::Tables;
-use crate::trap::{are_trapped, find_trap};
+use crate::trap::find_trap;
 use board::Board;
 use cellset::{Cell, CellSet, Dir, MembersOf, Shape};
-use reach::{Push, Pushes};
+use reach::{Push, Pushes, Rows};
 use std::alloc::{AllocError, Global};
 use std::marker::Model;
 
@@ -41,8 +41,9 @@ pub(crate) fn check_lawful<S: CellSet>(
 {
     // For the proof: the board is well formed.
     let _shape = board.shape();
-    let trap = find_trap(alloc, board, &arena)?;
-    if trap.meets(board.boxes()) && are_trapped(&arena, &trap) {
+    let mut trap = Rows::new(alloc, board.shape())?;
+    let are_trapped = find_trap(alloc, board, &arena, &mut trap)?;
+    if are_trapped && trap.meets(board.boxes()) {
         return Ok(());
     }
     let mut tables = Tables::build(alloc, board, arena, trap)?;

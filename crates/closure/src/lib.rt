@@ -11,8 +11,8 @@
 //!
 //! 1. Its lines are added one after another (`pattern_list`). Each becomes cells in one arena (`arena`, `cell_patterns`), and is checked for
 //!    its own faults (`lawful`). After a line at fault none is added.
-//! 2. The cells of its lines of one box with `*` may be a trap, which no box leaves (`trap`). If a box of the start and one of each line are
-//!    on it, the list is closed.
+//! 2. The cells of its lines of one box with `*` may be a trap, which no box leaves (`trap`). If all lines are such lines and a box of
+//!    the start is on it, the list is closed.
 //! 3. Tables are built (`tables`). Lines with the same boxes are one group, found by a hash (`groups`, `hints`, `chains`). One flood for
 //!    each group off the trap finds on which sides of its boxes its region lies (`group_regions`, `sides`), unless all that is free is in one
 //!    piece or a line says `*`.

@@ -44,6 +44,7 @@ fn add_lawful<S: CellSet>(
         ((lines_in arena.new ≡ lines_in arena.old ++ said_pattern pattern.now ∷ []) × IsLawful board.now (pattern_of (said_pattern pattern.now)))
         (IsUnlawful board.now (pattern_of (said_pattern pattern.now)))) }
 {
+    arena.make_room()?;
     let line = arena.lines.len();
     if !arena.add(board.shape(), pattern)? {
         return Ok(Some(LineWhy::Board));

@@ -1,7 +1,12 @@
-use Rattle.std.proofs.Common.{◌≡◌}
-use Rattle.closure.specs.Arena.{list_in}
-use Rattle.closure.specs.Trap.{AreSinglesIn}
+use Rattle.std.proofs.Common.{ℕ, ◌≡◌, ◌<◌}
+use Rattle.std.specs.Prelude.{IsTrue}
+use Rattle.closure.specs.Arena.{list_in, pattern_at}
+use Rattle.closure.specs.Trap.{AreSinglesIn, IsTrapped}
 use Rattle.closure.proofs.trap.add_singles.Given as goal
 
 abbrev pub invariant-loop-line : goal.invariant-loop-line
-invariant-loop-line l = record { extent : l.cells.extent ≡ l.fn.cells.extent; singles : AreSinglesIn (list_in l.arena) l.cells.members }
+invariant-loop-line l = record {
+  extent : l.cells.extent ≡ l.fn.cells.extent;
+  singles : AreSinglesIn (list_in l.arena) l.cells.members;
+  all : IsTrue l.all_single → (j : ℕ) → j < l.line → IsTrapped l.cells.members (pattern_at (list_in l.arena) j);
+}
