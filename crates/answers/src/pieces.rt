@@ -8,7 +8,7 @@ ghost use Rattle.answers.specs.Body.{LetterLines};
 ghost use Rattle.answers.specs.Records.{SaysOfLevel};
 ghost use Rattle.answers.specs.Pieces.{ArePiecesOf, BeginsComment, NoCommentBelow, joined, letters_in, unbroken};
 
-use crate::record_text::{Kind, RecordText};
+use crate::record_text::RecordText;
 use bstr::ByteSlice;
 use lines::{NotByte, first_start};
 use std::alloc::{AllocError, Global};
@@ -80,20 +80,13 @@ fn pieces_of(alloc: Global, lines: &[u8]) -> Result<Vec<&[u8]>, AllocError>
 }
 
 impl<'a> RecordText<'a> {
-    /// Returns the letters of a solution as pieces of the text between its comments, line ends included; `None` for a
-    /// certificate.
-    pub fn letters(&self, alloc: Global) -> Result<Option<Vec<&'a [u8]>>, AllocError>
-        ensures some { IfOk result (λ found. IfSome found (λ pieces.
-            (lines : List (List ℕ)) × SaysOfLevel self.now (LetterLines lines) × ArePiecesOf lines pieces.items)) }
-        ensures none { IfOk result (λ found. IfNone found (
-            (lines : List (List ℕ)) → SaysOfLevel self.now (LetterLines lines) → ⊥)) }
+    /// Returns the body lines as pieces of the text between their comments, line ends included. Those of a solution have its
+    /// letters.
+    pub fn letters(&self, alloc: Global) -> Result<Vec<&'a [u8]>, AllocError>
+        ensures letters { IfOk result (λ pieces. (lines : List (List ℕ)) → SaysOfLevel self.now (LetterLines lines) → ArePiecesOf lines pieces.items) }
         // For callers: a `u64` can count the bytes of all pieces.
-        ensures count { IfOk result (λ found. IfSome found (λ pieces.
-            sum_by (λ piece. length piece.now) pieces.items < 2 ^ 64)) }
+        ensures count { IfOk result (λ pieces. sum_by (λ piece. length piece.now) pieces.items < 2 ^ 64) }
     {
-        match self.kind {
-            Kind::Solution => Ok(Some(pieces_of(alloc, self.lines.text)?)),
-            Kind::Unsolvable => Ok(None),
-        }
+        pieces_of(alloc, self.lines.text)
     }
 }

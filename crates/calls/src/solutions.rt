@@ -15,7 +15,7 @@ pub fn replay<S: CellSet>(
     answers: &[u8],
 ) -> Option<()> {
     let records = answers::split(alloc, answers, LEVELS).ok()?;
-    let pieces = records.first()?.letters(alloc).ok()??;
+    let pieces = records.first()?.letters(alloc).ok()?;
     let mut letters = Vec::new(alloc);
     for piece in pieces.iter() {
         letters.extend_from_slice(piece).ok()?;
@@ -33,7 +33,7 @@ pub fn replay_lines<S: CellSet>(
     answers: &[u8],
 ) -> Option<()> {
     let records = answers::split(alloc, answers, LEVELS).ok()?;
-    let pieces = records.first()?.letters(alloc).ok()??;
+    let pieces = records.first()?.letters(alloc).ok()?;
     shown::value(rt, &play::replay_lines(alloc, board, &pieces));
     shown::text(rt, answers);
     Some(())
@@ -47,7 +47,7 @@ pub fn replayer<S: CellSet>(
     answers: &[u8],
 ) -> Option<()> {
     let records = answers::split(alloc, answers, LEVELS).ok()?;
-    let pieces = records.first()?.letters(alloc).ok()??;
+    let pieces = records.first()?.letters(alloc).ok()?;
     let wide = board_of::<S>(alloc, WIDE)?;
     let mut replayer = Replayer::new(alloc);
     replayer.replay_lines(&wide, &[b"R"]).ok()?;

@@ -21,9 +21,6 @@ use Rattle.maker.proofs.Flipped.{IsRematched, IsFreed, freed_start, freed_next, 
 some_same : (b k : Cell) → Some b ≡ Some k → b ≡ k
 some_same b k e = cc
 
-none_some : (b : Cell) → None ≡ Some b → ⊥
-none_some b e = cc
-
 -- a table matches a goal to one box at most
 pub one_match : (shape : Extent) (matching : List (Option Cell)) (g b k : Cell) → Pairs shape matching g b → Pairs shape matching g k → b ≡ k
 one_match shape matching g b k p q = search (some_same)
@@ -69,7 +66,7 @@ pub record IsFlipping (level : Level) (former : List (Option Cell)) (start : Cel
 pub flipping_start : (level : Level) (former : List (Option Cell)) (start : Cell) (visited : Cells) (queue : List Visit) (found : Visit)
     → EndsPath level former start visited queue found → IsFlipping level former start queue former found
 flipping_start level former start visited queue found is =
-    let unmatched : (b : Cell) → Pairs level.shape former found.cell b → ⊥ = λ b pair. none_some b (sym is.free.unmatched ∙ pair.entry) in
+    let unmatched : (b : Cell) → Pairs level.shape former found.cell b → ⊥ = λ b pair. let e = sym is.free.unmatched ∙ pair.entry in cc in
     record {
       n = length queue;
       within = omega arith;
@@ -83,7 +80,7 @@ flipping_start level former start visited queue found is =
 module _ (level : Level) (former : List (Option Cell)) (start : Cell) (visited : Cells) (queue : List Visit) (matching : List (Option Cell)) (freed : Visit)
     (is_search : IsSearch level former start visited queue) (entries : HasEntries level.shape matching)
     (flipping : IsFlipping level former start queue matching freed) where
-  -- the last goal on the path to the freed one is that of visit j
+  -- the last goal on the path to the freed one is the goal of visit j
   traced_by : (j : ℕ) → freed.via ≡ Some j → IsTraced level former start queue flipping.n freed.cell (Some j)
   traced_by j via = grind arith
 

@@ -98,9 +98,6 @@ matched_end {shape} level matching came members so_far =
     none_refutes level (Pairs level.shape matching) (rw same at so_far.valid.pairs)
 
 -- an empty table matches no goal
-none_some : (b : Cell) → None ≡ Some b → ⊥
-none_some b e = cc
-
 pub pairs_none : (shape : Extent) (matching : List (Option Cell)) → ((k : ℕ) → slice_index_or matching k None ≡ None) → (g b : Cell)
     → Pairs shape matching g b → ⊥
-pairs_none shape matching unmatched g b pair = grind (arith, none_some)
+pairs_none shape matching unmatched g b pair = grind arith

@@ -3,7 +3,7 @@
 -- the records. A made list is closed and a made zone refutes, whatever the numbers of their lines. Such a list or zone has
 -- no fault, and the rows of its level have one board and are not refused. So the status can only be unsolvable. A
 -- level without a record can only be refused or missing.
-use Rattle.std.proofs.Common.{◌≡◌, ◌≢◌, ℕ, suc, cond, ◌+◌, ◌<◌, ◌≤◌, List, [], ◌∷◌, length, Option, Some, None, true, false, refl, sym, ◌∙◌, ap, ap₂, subst, Vec, Global, arith}
+use Rattle.std.proofs.Common.{◌≡◌, ◌≢◌, ℕ, suc, cond, ◌+◌, ◌<◌, ◌≤◌, List, [], ◌∷◌, length, Option, Some, None, true, false, refl, sym, ◌∙◌, ap, ap₂, subst, inl, inr, arith}
 use Rattle.std.specs.Prelude.{map, count_by}
 use Rattle.std.proofs.lemmas.List.Sums.{sum_by-append}
 use Rattle.board.specs.Game.{Level}
@@ -13,14 +13,12 @@ use Rattle.board.specs.Levels.{AreLevelsOf, most_levels}
 use Rattle.board.specs.Lines.{lines_in, without_mark}
 use Rattle.answers.specs.FirstFault.{IsFirstAnswersFault}
 use Rattle.answers.specs.declared.fault.AnswersFault.{AnswersFault}
-use Rattle.answers.specs.Grammar.{SpellsEntries, said_pattern, said_zone}
+use Rattle.answers.specs.Grammar.{SpellsEntries, said_pattern}
 use Rattle.answers.specs.Body.{Body, Entry, PatternLine, LetterLines, PatternLines, OneZone, FirstBad}
 use Rattle.answers.specs.RoundTrip.{AreLawfulRecords, SaysBody, SaysSame, boxes_and_seeds}
 use Rattle.answers.specs.declared.pattern.Coord.{Coord}
 use Rattle.answers.specs.declared.pattern.Pattern.{Pattern as MadePattern}
-use Rattle.answers.specs.declared.pattern.Zone.{Zone as MadeZone}
 use Rattle.answers.specs.declared.record.MadeBody.{MadeBody}
-use Rattle.answers.specs.declared.record.MadeBody.TheVariants as body_is
 use Rattle.answers.specs.declared.record.MadeRecord.{MadeRecord}
 use Rattle.closure.specs.Closed.{Closed}
 use Rattle.closure.specs.Zone.{IsRefuting}
@@ -36,13 +34,14 @@ use Rattle.report.specs.declared.fault.AuditError.TheVariants.{Read, Write, TooL
 use Rattle.report.specs.MadeAnswers.{IsMadeBody, AreMade, none_left, without, with_record, AreAccepted}
 use Rattle.report.specs.Answer.{answer_to}
 use Rattle.report.specs.Report.{OfEach}
-use Rattle.report.specs.Status.{Says, illegal, missing, bad_line, solved, not_solved, closed, not_closed, refuting, not_refuting}
+use Rattle.report.specs.Status.{Says}
 use Rattle.report.specs.Summary.{is_unsolvable}
 use Rattle.report.specs.declared.status.Status.{Status}
+use Rattle.report.proofs.Answered.{SaysOn, of_rows}
 use Rattle.report.proofs.Reports.{answered, passed}
 
 -- ---- the records
--- the numbers of made records rise from that of the first level, and their bodies can be spelled
+-- the numbers of made records rise from the first level's number, and their bodies can be spelled
 pub lawful_records : (n low high : ℕ) (levels : List (List (List ℕ))) (records : List MadeRecord) → AreMade n levels records → low < n
     → n + length levels ≤ high + 1 → AreLawfulRecords low high records
 lawful_records n low high levels records none_left above within = tt
@@ -113,74 +112,37 @@ no_more k = omega arith
 
 -- ---- what is said of a level
 -- a level without an answer is not unsolvable
-without_answer : (rows : List (List ℕ)) (answer : Option Body) (status : Status) → Says rows answer status → answer ≡ None → is_unsolvable status ≡ false
-without_answer rows answer status (illegal refusal) e = refl
-without_answer rows answer status (missing is) e = refl
-without_answer rows answer status (bad_line is) e = refl
-without_answer rows answer status (solved is solves) e = refl
-without_answer rows answer status (not_solved is fault) e = refl
-without_answer rows answer status (closed is list) e = cc
-without_answer rows answer status (not_closed is fault) e = refl
-without_answer rows answer status (refuting is zone) e = cc
-without_answer rows answer status (not_refuting is fault) e = refl
+without_answer : (rows : List (List ℕ)) (status : Status) → Says rows None status → is_unsolvable status ≡ false
+without_answer rows status says = elim (of_rows says) [ inl (why, refusal, is) ↦ ap is_unsolvable is | inr (level, board, is) ↦ ap is_unsolvable is ]
 
 module _ (one_board : (rows : List (List ℕ)) (level other : Level) → IsBoardOf rows level → IsBoardOf rows other → level ≡ other)
     (not_refused : (rows : List (List ℕ)) (level : Level) (why : BoardFault) → IsBoardOf rows level → IsRefusal rows why → ⊥)
     (no_fault : ClosedHasNoFault) (no_zone_fault : RefutingHasNoFault) where
-  -- a level with a closed list is unsolvable by it
-  by_patterns : (rows : List (List ℕ)) (level : Level) (patterns : Vec MadePattern Global) (said : Body) → IsBoardOf rows level
-      → Closed level (patterns_of (map said_pattern patterns.items)) → SaysBody (body_is.Patterns patterns) said
-      → (answer : Option Body) (status : Status) → Says rows answer status → answer ≡ Some said → is_unsolvable status ≡ true
-  by_patterns rows level patterns said is list same answer status (illegal {why = why} refusal) e = absurd (not_refused rows level why is refusal)
-  by_patterns rows level patterns said is list same answer status (missing board) e = cc
-  by_patterns rows level patterns said is list same answer status (bad_line {line = line} {why = why} board) e =
-      let bad : said ≡ FirstBad line why = cc in absurd (subst (SaysBody (body_is.Patterns patterns)) bad same)
-  by_patterns rows level patterns said is list same answer status (solved {lines = lines} board solves) e =
-      let letters : said ≡ LetterLines lines = cc in absurd (subst (SaysBody (body_is.Patterns patterns)) letters same)
-  by_patterns rows level patterns said is list same answer status (not_solved {lines = lines} board first) e =
-      let letters : said ≡ LetterLines lines = cc in absurd (subst (SaysBody (body_is.Patterns patterns)) letters same)
-  by_patterns rows level patterns said is list same answer status (closed board other) e = refl
-  by_patterns rows level patterns said is list same answer status (not_closed {level = other} {patterns = lines} {fault = fault} board first) e =
-      let here : said ≡ PatternLines lines = cc in
-      let one = subst (SaysBody (body_is.Patterns patterns)) here same in
-      let there = subst (λ (l : Level). Closed l (patterns_of (map said_pattern patterns.items))) (one_board rows level other is board) list in
-      absurd (no_fault other lines fault (subst (Closed other) (sym (same_patterns lines patterns.items one)) there) first)
-  by_patterns rows level patterns said is list same answer status (refuting board zone) e = refl
-  by_patterns rows level patterns said is list same answer status (not_refuting {zone = zone} board first) e =
-      let zoned : said ≡ OneZone zone = cc in absurd (subst (SaysBody (body_is.Patterns patterns)) zoned same)
-
-  -- a level with a zone that refutes it is unsolvable by it
-  by_zone : (rows : List (List ℕ)) (level : Level) (zone : MadeZone) (said : Body) → IsBoardOf rows level → IsRefuting level (cells_of (said_zone zone).cells)
-      → SaysBody (body_is.Zone zone) said
-      → (answer : Option Body) (status : Status) → Says rows answer status → answer ≡ Some said → is_unsolvable status ≡ true
-  by_zone rows level zone said is refutes same answer status (illegal {why = why} refusal) e = absurd (not_refused rows level why is refusal)
-  by_zone rows level zone said is refutes same answer status (missing board) e = cc
-  by_zone rows level zone said is refutes same answer status (bad_line {line = line} {why = why} board) e =
-      let bad : said ≡ FirstBad line why = cc in absurd (subst (SaysBody (body_is.Zone zone)) bad same)
-  by_zone rows level zone said is refutes same answer status (solved {lines = lines} board solves) e =
-      let letters : said ≡ LetterLines lines = cc in absurd (subst (SaysBody (body_is.Zone zone)) letters same)
-  by_zone rows level zone said is refutes same answer status (not_solved {lines = lines} board first) e =
-      let letters : said ≡ LetterLines lines = cc in absurd (subst (SaysBody (body_is.Zone zone)) letters same)
-  by_zone rows level zone said is refutes same answer status (closed board other) e = refl
-  by_zone rows level zone said is refutes same answer status (not_closed {patterns = lines} board first) e =
-      let listed : said ≡ PatternLines lines = cc in absurd (subst (SaysBody (body_is.Zone zone)) listed same)
-  by_zone rows level zone said is refutes same answer status (refuting board other) e = refl
-  by_zone rows level zone said is refutes same answer status (not_refuting {level = other} {zone = line} {fault = fault} board first) e =
-      let here : said ≡ OneZone line = cc in
-      let one = subst (SaysBody (body_is.Zone zone)) here same in
-      let there = subst (λ (l : Level). IsRefuting l (cells_of (said_zone zone).cells)) (one_board rows level other is board) refutes in
-      absurd (no_zone_fault other line fault (subst (λ (cs : List Coord). IsRefuting other (cells_of cs)) (sym one) there) first)
+  -- on a board a closed list and a zone that refutes it say that it is unsolvable
+  by_made : (level : Level) (made : Made) (said : Body) (status : Status) → IsAcceptedMade level made → SaysBody (body_of made) said
+      → SaysOn level (Some said) status → is_unsolvable status ≡ true
+  by_made level (Patterns patterns) (PatternLines lines) status list same (inl (closed, is)) = ap is_unsolvable is
+  by_made level (Patterns patterns) (PatternLines lines) status list same (inr (fault, first, is)) =
+      absurd (no_fault level lines fault (subst (Closed level) (sym (same_patterns lines patterns.items same)) list) first)
+  by_made level (Patterns patterns) (LetterLines lines) status list same says = absurd same
+  by_made level (Patterns patterns) (OneZone zone) status list same says = absurd same
+  by_made level (Patterns patterns) (FirstBad line why) status list same says = absurd same
+  by_made level (Zone zone) (OneZone line) status refutes same (inl (refuting, is)) = ap is_unsolvable is
+  by_made level (Zone zone) (OneZone line) status refutes same (inr (fault, first, is)) =
+      absurd (no_zone_fault level line fault (subst (λ cells. IsRefuting level (cells_of cells)) (sym same) refutes) first)
+  by_made level (Zone zone) (LetterLines lines) status refutes same says = absurd same
+  by_made level (Zone zone) (PatternLines lines) status refutes same says = absurd same
+  by_made level (Zone zone) (FirstBad line why) status refutes same says = absurd same
 
   -- a level with a made record is unsolvable by it
   by_record : (rows : List (List ℕ)) (body : MadeBody) (said : Body) (status : Status) → IsMadeBody rows body → SaysBody body said
       → Says rows (Some said) status → is_unsolvable status ≡ true
-  by_record rows body said status made same says = of_made made.made made.accepted made.body_is
-    where
-      of_made : (m : Made) → IsAcceptedMade made.level m → body ≡ body_of m → is_unsolvable status ≡ true
-      of_made (Patterns patterns) list is = by_patterns rows made.level patterns said made.legal list (subst (λ (b : MadeBody). SaysBody b said) is same)
-          (Some said) status says refl
-      of_made (Zone zone) refutes is = by_zone rows made.level zone said made.legal refutes (subst (λ (b : MadeBody). SaysBody b said) is same)
-          (Some said) status says refl
+  by_record rows body said status made same says = elim (of_rows says) [
+    | inl (why, refusal, is) ↦ absurd (not_refused rows made.level why made.legal refusal)
+    | inr (level, board, says) ↦
+        by_made level made.made said status (subst (λ l. IsAcceptedMade l made.made) (one_board rows made.level level made.legal board) made.accepted)
+        (subst (λ b. SaysBody b said) made.body_is same) says
+  ]
 
   -- each level that has a record is unsolvable by it, and no other is
   pub accepted : (n : ℕ) (levels : List (List (List ℕ))) (records : List MadeRecord) (own entries : List Entry) (statuses : List Status)
@@ -193,7 +155,7 @@ module _ (one_board : (rows : List (List ℕ)) (level other : Level) → IsBoard
   accepted n levels records own entries (status ∷ statuses) (without {rows = rows} {levels = others} none rest) same answers (says, after) =
       let here : answer_to n entries ≡ None = answers n (omega arith) ∙ unanswered_before n (n + 1) others records own rest same (omega arith) in
       let later = accepted (n + 1) others records own entries statuses rest same (λ m above. answers m (omega (arith, above))) after in
-      let not_here = without_answer rows (answer_to n entries) status says here in (
+      let not_here = without_answer rows status (subst (λ a. Says rows a status) here says) in (
         (λ body is. absurd (none_is_none (here) is), later.0),
         counted status statuses 0 (ap (λ b. 0 + cond b 1 0) not_here)
             ∙ no_more (count_by is_unsolvable statuses) ∙ later.1,

@@ -2,25 +2,37 @@
 -- A status comes from one of nine cases, and the premises of each are what the status means. That a level with an accepted certificate is
 -- not solvable is promised by the check, and comes in as a premise. What a record says is what the grammar reads in it,
 -- and that is one body.
-use Rattle.std.proofs.Common.{◌≡◌, ℕ, List, Some, None, Option, true, refl, sym, subst}
+use Rattle.std.proofs.Common.{◌≡◌, ◌⊎◌, ℕ, List, Some, None, Option, length, true, refl, sym, subst, inl, inr}
 use Rattle.std.specs.Prelude.{Result, Ok, Err, IfOk}
 use Rattle.std.specs.Borrow.{Bor}
+use Rattle.std.specs.FinSet as set
+use Rattle.std.specs.List.{concat}
 use Rattle.board.specs.Game.{Level, Solvable}
 use Rattle.board.specs.Legal.{IsBoardOf, IsRefusal}
 use Rattle.board.specs.declared.reading.BoardFault.{BoardFault}
-use Rattle.answers.specs.Body.{Body}
+use Rattle.play.specs.FirstFault.{IsFirstSolutionFault}
+use Rattle.play.specs.Solution.{Solves}
+use Rattle.play.specs.declared.fault.ReplayFault.{ReplayFault}
+use Rattle.play.specs.declared.tally.Tally.{Tally}
+use Rattle.answers.specs.Body.{Body, FirstBad, LetterLines, OneZone, PatternLines}
 use Rattle.answers.specs.Reading.{entry_of}
 use Rattle.answers.specs.Records.{SaysOfLevel, body_lines}
 use Rattle.answers.specs.declared.record_text.RecordText.{RecordText}
 use Rattle.answers.proofs.BodyLines.{body_says, says_one_body}
+use Rattle.closure.specs.Closed.{Closed}
+use Rattle.closure.specs.FirstFault.{IsFirstPatternFault, IsFirstZoneFault}
+use Rattle.closure.specs.Pattern.{cells_of, patterns_of}
+use Rattle.closure.specs.Zone.{IsRefuting}
+use Rattle.closure.specs.declared.fault.CheckFault.{CheckFault}
+use Rattle.closure.specs.declared.fault.ZoneFault.{ZoneFault}
 use Rattle.report.specs.Judging.{SaysBy, said_answer}
 use Rattle.report.specs.Means.{Means}
 use Rattle.report.specs.Status.{Says, illegal, missing, bad_line, solved, not_solved, closed, not_closed, refuting, not_refuting}
 use Rattle.report.specs.Summary.{is_unsolvable}
 use Rattle.report.specs.Unsolvable.{IsUnsolvable}
 use Rattle.report.specs.declared.status.Status.{Status}
-use Rattle.report.specs.declared.status.Status.TheVariants.{Refused}
-use Rattle.report.specs.declared.status.Refusal.TheVariants.{Board}
+use Rattle.report.specs.declared.status.Status.TheVariants.{Missing, Refused, Solved, Unsolvable, UnsolvableZone}
+use Rattle.report.specs.declared.status.Refusal.TheVariants.{BadLine, Board, Patterns, Solution, Zone}
 
 -- if no play solves the board of the rows, the rows have a board that no play solves
 pub with_board : {E : Type 0} (r : Result Status E) (rows : List (List ℕ)) (level : Level) → IsBoardOf rows level
@@ -46,6 +58,34 @@ means rows answer status lost (not_closed {level = level} {patterns = patterns} 
 means rows answer status lost (refuting is zone) = drawn rows (lost refl)
 means rows answer status lost (not_refuting {level = level} {zone = zone} is first) = (level, is, zone, refl, first)
 
+-- ---- the cases by the answer
+-- what the answer says on a board: one status, or a status by what holds of the board
+abbrev pub SaysOn : Level → Option Body → Status → Type 0
+SaysOn level None status = status ≡ Missing
+SaysOn level (Some (FirstBad line why)) status = status ≡ Refused (BadLine line why)
+SaysOn level (Some (LetterLines lines)) status = ((tally : Tally) × Solves level (concat lines) tally × (status ≡ Solved tally))
+    ⊎ ((fault : ReplayFault) × IsFirstSolutionFault level (concat lines) fault × (status ≡ Refused (Solution fault)))
+SaysOn level (Some (PatternLines patterns)) status = (Closed level (patterns_of patterns) × (status ≡ Unsolvable (length patterns)))
+    ⊎ ((fault : CheckFault) × IsFirstPatternFault level patterns fault × (status ≡ Refused (Patterns fault)))
+SaysOn level (Some (OneZone zone)) status = (IsRefuting level (cells_of zone.cells) × (status ≡ UnsolvableZone (set.len (cells_of zone.cells))))
+    ⊎ ((fault : ZoneFault) × IsFirstZoneFault level zone fault × (status ≡ Refused (Zone fault)))
+
+-- the rows are refused, or the answer says the status on their board
+abbrev pub SaysOfRows : List (List ℕ) → Option Body → Status → Type 0
+SaysOfRows rows answer status = ((why : BoardFault) × IsRefusal rows why × (status ≡ Refused (Board why)))
+    ⊎ ((level : Level) × IsBoardOf rows level × SaysOn level answer status)
+
+pub of_rows : {rows : List (List ℕ)} {answer : Option Body} {status : Status} → Says rows answer status → SaysOfRows rows answer status
+of_rows (illegal {why = why} refusal) = inl (why, refusal, refl)
+of_rows (missing {level = level} is) = inr (level, is, refl)
+of_rows (bad_line {level = level} is) = inr (level, is, refl)
+of_rows (solved {level = level} {tally = tally} is solves) = inr (level, is, inl (tally, solves, refl))
+of_rows (not_solved {level = level} {fault = fault} is first) = inr (level, is, inr (fault, first, refl))
+of_rows (closed {level = level} is list) = inr (level, is, inl (list, refl))
+of_rows (not_closed {level = level} {fault = fault} is first) = inr (level, is, inr (fault, first, refl))
+of_rows (refuting {level = level} is refutes) = inr (level, is, inl (refutes, refl))
+of_rows (not_refuting {level = level} {fault = fault} is first) = inr (level, is, inr (fault, first, refl))
+
 -- ---- the answer in a record
 
 pub says_by : (rows : List (List ℕ)) (r : RecordText) (status : Status) → Says rows (Some (entry_of r).body) status → (body : Body) → SaysOfLevel r body
@@ -60,14 +100,8 @@ pub illegal_by : (rows : List (List ℕ)) (answer : Option (Bor RecordText)) (wh
 illegal_by rows None why refusal = illegal refusal
 illegal_by rows (Some r) why refusal = λ body reads. illegal refusal
 
-pub judged_by : {E : Type 0} (judged : Result Status E) (level : Level) (answer : Option (Bor RecordText)) (r : Bor RecordText) → answer ≡ Some r
-    → IfOk judged (λ status. (rows : List (List ℕ)) → IsBoardOf rows level → Says rows (Some (entry_of r.now).body) status)
-    → IfOk judged (λ status. (rows : List (List ℕ)) → IsBoardOf rows level → SaysBy rows answer status)
-judged_by (Ok status) level answer r is says = λ rows board.
-    subst (λ (a : Option (Bor RecordText)). SaysBy rows a status) (sym is) (says_by rows r.now status (says rows board))
-judged_by (Err e) level answer r is says = tt
-
 pub said_by : {E : Type 0} (judged : Result Status E) (rows : List (List ℕ)) (level : Level) (answer : Option (Bor RecordText)) → IsBoardOf rows level
-    → IfOk judged (λ status. (rows : List (List ℕ)) → IsBoardOf rows level → SaysBy rows answer status) → IfOk judged (SaysBy rows answer)
-said_by (Ok status) rows level answer board says = says rows board
+    → IfOk judged (λ status. (rows : List (List ℕ)) → IsBoardOf rows level → Says rows (said_answer answer) status) → IfOk judged (SaysBy rows answer)
+said_by (Ok status) rows level None board says = says rows board
+said_by (Ok status) rows level (Some r) board says = says_by rows r.now status (says rows board)
 said_by (Err e) rows level answer board says = tt

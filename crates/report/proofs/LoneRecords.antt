@@ -1,5 +1,5 @@
 -- The record of a level whose certificate was found as the cells of its dead squares. Its patterns are those cells, each alone
--- and with the seeds `*`, so it says the list that is made, and its text is that of these cells.
+-- and with the seeds `*`, so it says the list that is made, and these cells make its text.
 use Rattle.std.proofs.Common.{Global, Vec, ◌≡◌, ℕ, ◌^◌, ◌<◌, List, [], ◌∷◌, length, inl, refl, sym, ap, subst, arith}
 use Rattle.std.specs.Prelude.{map, codes}
 use Rattle.std.specs.List.{flat_map}

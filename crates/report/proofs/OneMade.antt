@@ -7,13 +7,11 @@ use Rattle.board.specs.Game.{Level}
 use Rattle.board.specs.Legal.{IsBoardOf, IsRefusal}
 use Rattle.board.specs.Levels.{AreLevelsOf}
 use Rattle.board.specs.declared.reading.BoardFault.{BoardFault}
-use Rattle.cellset.specs.CellSet.{Cells}
-use Rattle.cellset.proofs.Members.{same_members}
 use Rattle.answers.specs.declared.record.MadeBody.{MadeBody}
-use Rattle.maker.specs.Dead.{AreDead}
 use Rattle.maker.specs.Made.{IsAcceptedMade, IsMade, IsNothingMade}
 use Rattle.maker.specs.declared.making.Made.{Made}
 use Rattle.maker.specs.declared.making.Made.TheVariants.{Patterns, Zone}
+use Rattle.maker.proofs.Accepting.{one_dead_set}
 use Rattle.report.specs.DeadMap.{IsMap, IsMapOf, level_at, rows_text}
 use Rattle.report.specs.MadeAnswers.{HasNothingMade, IsMadeBody, IsRefused}
 
@@ -24,12 +22,9 @@ not_both level (Patterns patterns) (inr frozen) accepted nothing =
     false≢true (sym lacks ∙ nothing.no_list.on_goals frozen.frozen frozen.exact c has)
 not_both level (Zone zone) is accepted nothing = nothing.no_zone (_, record { closed = accepted.closed; more = accepted.more })
 
-pub one_dead : (level : Level) (a b : Cells) → AreDead level a → AreDead level b → a ≡ b
-one_dead level a b h k = same_members a b (λ c has. (k c).1 ((h c).0 has)) (λ c has. (h c).1 ((k c).0 has))
-
 one_text : (level : Level) (a b : List ℕ) → IsMap level a → IsMap level b → a ≡ b
 one_text level a b (dead, are, is) (other, they, also) =
-    is ∙ ap (λ cells. rows_text level cells level.shape.height) (one_dead level dead other are they) ∙ sym also
+    is ∙ ap (λ cells. rows_text level cells level.shape.height) (one_dead_set level dead other are they) ∙ sym also
 
 some_same : (a b : List (List ℕ)) → Some a ≡ Some b → a ≡ b
 some_same a b e = cc

@@ -27,9 +27,10 @@ use Rattle.maker.specs.Made.{AreDeadPatterns, AreFrozen, IsListOf, IsLeastZoneLi
 use Rattle.maker.specs.Zones.{LeastZonesAreOne}
 use Rattle.maker.specs.declared.making.Made.{Made}
 use Rattle.maker.specs.declared.making.Made.TheVariants.{Patterns, Zone}
+use Rattle.maker.proofs.Accepting.{one_dead_set}
 use Rattle.maker.proofs.Listing.{listed_cell}
 use Rattle.report.specs.MadeAnswers.{AreMade, AreMadeAnswers, IsMadeBody, IsRefused, HasNothingMade, none_left, without, with_record}
-use Rattle.report.proofs.OneMade.{made_or_not, one_dead}
+use Rattle.report.proofs.OneMade.{made_or_not}
 
 -- ---- cells in reading order
 before_trans : (a b c : Coord) → IsBefore a b → IsBefore b c → IsBefore a c
@@ -101,14 +102,14 @@ one_list cells coords others list other =
 -- ---- what is made for a level
 one_frozen : (level : Level) (a b : Cells) → AreFrozen level a → AreFrozen level b → a ≡ b
 one_frozen level a b (dead, are, largest) (other, they, also) =
-    let here = subst (λ (s : Cells). IsLargestFrozen level s a) (one_dead level dead other are they) largest in
+    let here = subst (λ (s : Cells). IsLargestFrozen level s a) (one_dead_set level dead other are they) largest in
     same_members a b (λ c has. (also c).1 ((here c).0 has)) (λ c has. (here c).1 ((also c).0 has))
 
 one_dead_list : (level : Level) (a b : List PatternLine) → AreDeadPatterns level a → AreDeadPatterns level b → a ≡ b
 one_dead_list level a b (dead, are, lone) (other, they, alone) =
     let (coords, list, is) = lone in
     let (others, also, was) = alone in
-    let same = one_list other coords others (subst (λ (s : Cells). IsListOf s coords) (one_dead level dead other are they) list) also in
+    let same = one_list other coords others (subst (λ (s : Cells). IsListOf s coords) (one_dead_set level dead other are they) list) also in
     is ∙ ap lone_patterns same ∙ sym was
 
 one_made_list : (level : Level) (a b : List PatternLine) → IsMadeList level a → IsMadeList level b → a ≡ b

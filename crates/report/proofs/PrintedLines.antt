@@ -199,7 +199,7 @@ line_at n (suc i) (s ∷ statuses) last status there =
 lines_are : (statuses : List Status) → lines_in (report_text statuses) ≡ bare_lines 1 statuses (bare_total (summary_of statuses))
 lines_are statuses = ap lines_in (text_of 1 statuses (summary_of statuses)) ∙ lines_again _ (all_plain 1 statuses (summary_of statuses))
 
--- the n-th line is that of level n
+-- the n-th line is the line of level n
 pub line_is : (statuses : List Status) (before : ℕ) (status : Status) → slice_get statuses before ≡ Some status
     → HasWords (report_text statuses) before (words_of status)
 line_is statuses before status there =
@@ -231,49 +231,22 @@ pub same_words : (a b : List Status) → report_text a ≡ report_text b → map
 same_words a b e = same_lines 1 a b (summary_of a) (summary_of b) (sym (lines_are a) ∙ ap lines_in e ∙ lines_are b)
 
 -- the first byte of the words fixes the kind of the status
-begins : ℕ → Text → Bool
-begins byte text = slice_index text 0 == byte
+kinds : ℕ → Bool × Bool × Bool × Bool
+kinds byte = (byte == 115, byte == 117, byte == 114, byte == 109)
 
-tells_solved : (s : Status) → is_solved s ≡ begins 115 (words_of s)
-unfolding begins
-tells_solved (Solved t) = refl
-tells_solved (Unsolvable k) = refl
-tells_solved (UnsolvableZone k) = refl
-tells_solved (Refused why) = refl
-tells_solved Missing = refl
-
-tells_unsolvable : (s : Status) → is_unsolvable s ≡ begins 117 (words_of s)
-unfolding begins
-tells_unsolvable (Solved t) = refl
-tells_unsolvable (Unsolvable k) = refl
-tells_unsolvable (UnsolvableZone k) = refl
-tells_unsolvable (Refused why) = refl
-tells_unsolvable Missing = refl
-
-tells_refused : (s : Status) → is_refused s ≡ begins 114 (words_of s)
-unfolding begins
-tells_refused (Solved t) = refl
-tells_refused (Unsolvable k) = refl
-tells_refused (UnsolvableZone k) = refl
-tells_refused (Refused why) = refl
-tells_refused Missing = refl
-
-tells_missing : (s : Status) → is_missing s ≡ begins 109 (words_of s)
-unfolding begins
-tells_missing (Solved t) = refl
-tells_missing (Unsolvable k) = refl
-tells_missing (UnsolvableZone k) = refl
-tells_missing (Refused why) = refl
-tells_missing Missing = refl
+kinds_are : (s : Status) → (is_solved s, is_unsolvable s, is_refused s, is_missing s) ≡ kinds (slice_index (words_of s) 0)
+unfolding kinds
+kinds_are (Solved t) = refl
+kinds_are (Unsolvable k) = refl
+kinds_are (UnsolvableZone k) = refl
+kinds_are (Refused why) = refl
+kinds_are Missing = refl
 
 pub same_kind : (a b : Status) → words_of a ≡ words_of b → (is_solved a ≡ is_solved b) × (is_unsolvable a ≡ is_unsolvable b) × (is_refused a ≡ is_refused b)
     × (is_missing a ≡ is_missing b)
-same_kind a b e = (
-  tells_solved a ∙ ap (begins 115) e ∙ sym (tells_solved b),
-  tells_unsolvable a ∙ ap (begins 117) e ∙ sym (tells_unsolvable b),
-  tells_refused a ∙ ap (begins 114) e ∙ sym (tells_refused b),
-  tells_missing a ∙ ap (begins 109) e ∙ sym (tells_missing b),
-)
+same_kind a b e =
+    let same = kinds_are a ∙ ap (λ text. kinds (slice_index text 0)) e ∙ sym (kinds_are b) in
+    (ap (λ k. k.0) same, ap (λ k. k.1) same, ap (λ k. k.2) same, ap (λ k. k.3) same)
 
 -- two texts with different first bytes differ
 other_first : (a b : Text) → a ≡ b → slice_index a 0 ≡ slice_index b 0

@@ -1,4 +1,4 @@
--- The error of a text that can't be read whole comes at its place in the order of work, and is that of no write. The count
+-- The error of a text that can't be read whole comes at its place in the order of work, and is no error of a write. The count
 -- of the source rises exactly if the source failed.
 use Rattle.std.proofs.Common.{◌≡◌, ◌⊎◌, ℕ, ◌<◌, ◌≤◌, List, [], length, Some, IfSome, None, Ok, Err, inl, inr, refl, sym, ◌∙◌, subst, arith}
 use Rattle.std.specs.Prelude.{IfErr, IsErrOf, Option, Result}
@@ -6,7 +6,7 @@ use Rattle.std.proofs.lemmas.Option.{MatchOption-at_some}
 use Rattle.devices.specs.Device.{CountsFault}
 use Rattle.std.specs.Io.KnownBytes.{Consumes, Keeps}
 use Rattle.report.specs.Audit.{CountsAudit, IsDue}
-use Rattle.report.specs.Collection.{Count, CountsError, HasTooManyLevels, IsDueFor, Stays}
+use Rattle.report.specs.Collection.{Count, CountsError, HasTooManyLevels, IsDueFor, Stays, error_of_read}
 use Rattle.report.specs.MadeAnswers.{CountsMade}
 use Rattle.devices.specs.Reading.{CountsReadFault, TakesAtMost, most_bytes}
 use Rattle.devices.specs.declared.reading.ReadFault.{ReadFault}
@@ -14,52 +14,50 @@ use Rattle.devices.specs.declared.reading.ReadFault.TheVariants as read
 use Rattle.report.specs.declared.fault.Which.{Which}
 use Rattle.report.specs.declared.fault.Which.TheVariants as which
 use Rattle.report.specs.declared.fault.AuditError.{AuditError}
-use Rattle.report.specs.declared.fault.AuditError.TheVariants.{Read, Write, TooLong, TooManyLevels, Memory}
+use Rattle.report.specs.declared.fault.AuditError.TheVariants.{Write, TooManyLevels, Memory}
 use Rattle.report.specs.declared.fault.DeadError.TheVariants.{Audit}
 
--- the error is the one for a fault in reading this text
-pub record IsReadError (fault : ReadFault) (w : Which) (e : AuditError) : Type 0 where
-  pub device : fault ≡ read.Device → e ≡ Read w
-  pub long : fault ≡ read.TooLong → e ≡ TooLong w
-  pub memory : fault ≡ read.Memory → e ≡ Memory
+-- ---- the error of a fault in reading a text
+pub no_write : (fault : ReadFault) (text : Which) → error_of_read fault text ≡ Write → ⊥
+no_write read.Device text e = absurd cc
+no_write read.TooLong text e = absurd cc
+no_write read.Memory text e = absurd cc
 
-module _ (lt at : List ℕ) (e : AuditError) where
-  pub due_levels : (fault : ReadFault) → IsReadError fault which.Levels e → (fault ≡ read.TooLong → most_bytes < length lt) → IsDue lt at e
-  due_levels read.Device is long = subst (IsDue lt at) (sym (is.device refl)) tt
-  due_levels read.TooLong is long = subst (IsDue lt at) (sym (is.long refl)) (long refl)
-  due_levels read.Memory is long = subst (IsDue lt at) (sym (is.memory refl)) tt
+pub due_levels : (lt at : List ℕ) (fault : ReadFault) → (fault ≡ read.TooLong → most_bytes < length lt) → IsDue lt at (error_of_read fault which.Levels)
+due_levels lt at read.Device long = tt
+due_levels lt at read.TooLong long = long refl
+due_levels lt at read.Memory long = tt
 
-  pub due_answers : (fault : ReadFault) → IsReadError fault which.Answers e → length lt ≤ most_bytes → (fault ≡ read.TooLong → most_bytes < length at)
-      → IsDue lt at e
-  due_answers read.Device is fits long = subst (IsDue lt at) (sym (is.device refl)) fits
-  due_answers read.TooLong is fits long = subst (IsDue lt at) (sym (is.long refl)) (fits, long refl)
-  due_answers read.Memory is fits long = subst (IsDue lt at) (sym (is.memory refl)) tt
+pub due_answers : (lt at : List ℕ) (fault : ReadFault) → length lt ≤ most_bytes → (fault ≡ read.TooLong → most_bytes < length at)
+    → IsDue lt at (error_of_read fault which.Answers)
+due_answers lt at read.Device fits long = fits
+due_answers lt at read.TooLong fits long = (fits, long refl)
+due_answers lt at read.Memory fits long = tt
 
-module _ (A B : Type 0) (levels answers report : Count) (e : AuditError) where
-  pub counts_levels : (fault : ReadFault) → IsReadError fault which.Levels e → CountsReadFault {A = B} levels.before levels.after (Err fault) → Stays answers
-      → Stays report → CountsAudit {A = A} levels answers report (Err e)
-  counts_levels read.Device is count a r = subst (λ (x : AuditError). CountsAudit {A = A} levels answers report (Err x)) (sym (is.device refl)) (count, a, r)
-  counts_levels read.TooLong is count a r = subst (λ (x : AuditError). CountsAudit {A = A} levels answers report (Err x)) (sym (is.long refl)) (count, a, r)
-  counts_levels read.Memory is count a r = subst (λ (x : AuditError). CountsAudit {A = A} levels answers report (Err x)) (sym (is.memory refl)) (count, a, r)
+module _ (A B : Type 0) (levels answers report : Count) where
+  pub counts_levels : (fault : ReadFault) → CountsReadFault {A = B} levels.before levels.after (Err fault) → Stays answers → Stays report
+      → CountsAudit {A = A} levels answers report (Err (error_of_read fault which.Levels))
+  counts_levels read.Device count a r = (count, a, r)
+  counts_levels read.TooLong count a r = (count, a, r)
+  counts_levels read.Memory count a r = (count, a, r)
 
-  pub counts_answers : (fault : ReadFault) → IsReadError fault which.Answers e → Stays levels → CountsReadFault {A = B} answers.before answers.after (Err fault)
-      → Stays report → CountsAudit {A = A} levels answers report (Err e)
-  counts_answers read.Device is l count r = subst (λ (x : AuditError). CountsAudit {A = A} levels answers report (Err x)) (sym (is.device refl)) (l, count, r)
-  counts_answers read.TooLong is l count r = subst (λ (x : AuditError). CountsAudit {A = A} levels answers report (Err x)) (sym (is.long refl)) (l, count, r)
-  counts_answers read.Memory is l count r = subst (λ (x : AuditError). CountsAudit {A = A} levels answers report (Err x)) (sym (is.memory refl)) (l, count, r)
+  pub counts_answers : (fault : ReadFault) → Stays levels → CountsReadFault {A = B} answers.before answers.after (Err fault) → Stays report
+      → CountsAudit {A = A} levels answers report (Err (error_of_read fault which.Answers))
+  counts_answers read.Device l count r = (l, count, r)
+  counts_answers read.TooLong l count r = (l, count, r)
+  counts_answers read.Memory l count r = (l, count, r)
 
--- the error of a fault comes at its place in the order of work of a call that reads one text
-pub due_for : (IsResult : List ℕ → Type 0) (lt : List ℕ) (e : AuditError) (fault : ReadFault) → IsReadError fault which.Levels e
-    → (fault ≡ read.TooLong → most_bytes < length lt) → IsDueFor IsResult lt e
-due_for IsResult lt e read.Device is long = subst (IsDueFor IsResult lt) (sym (is.device refl)) tt
-due_for IsResult lt e read.TooLong is long = subst (IsDueFor IsResult lt) (sym (is.long refl)) (long refl)
-due_for IsResult lt e read.Memory is long = subst (IsDueFor IsResult lt) (sym (is.memory refl)) tt
+pub due_for : (IsResult : List ℕ → Type 0) (lt : List ℕ) (fault : ReadFault) → (fault ≡ read.TooLong → most_bytes < length lt)
+    → IsDueFor IsResult lt (error_of_read fault which.Levels)
+due_for IsResult lt read.Device long = tt
+due_for IsResult lt read.TooLong long = long refl
+due_for IsResult lt read.Memory long = tt
 
-pub counts_for : (B : Type 0) (levels result : Count) (e : AuditError) (fault : ReadFault) → IsReadError fault which.Levels e
-    → CountsReadFault {A = B} levels.before levels.after (Err fault) → Stays result → CountsError levels result e
-counts_for B levels result e read.Device is count r = subst (CountsError levels result) (sym (is.device refl)) (count, r)
-counts_for B levels result e read.TooLong is count r = subst (CountsError levels result) (sym (is.long refl)) (count, r)
-counts_for B levels result e read.Memory is count r = subst (CountsError levels result) (sym (is.memory refl)) (count, r)
+pub counts_for : (B : Type 0) (levels result : Count) (fault : ReadFault) → CountsReadFault {A = B} levels.before levels.after (Err fault)
+    → Stays result → CountsError levels result (error_of_read fault which.Levels)
+counts_for B levels result read.Device count r = (count, r)
+counts_for B levels result read.TooLong count r = (count, r)
+counts_for B levels result read.Memory count r = (count, r)
 
 pub same_error : {T : Type 0} (e f : AuditError) → IsErrOf {T = T} (Err e) f → e ≡ f
 same_error e f is = cc

@@ -30,7 +30,7 @@ drop_at xs k x h e =
     let one : suc k ≡ k + 1 = omega arith in
     drop-cons xs k x h ∙ ap (λ y. y ∷ drop (suc k) xs) (sym e) ∙ ap (λ n. x ∷ drop n xs) one
 
--- the entries from position k on begin with that of record k
+-- the entries from position k on begin with the entry of record k
 pub next_record : (records : List RecordText) (k : ℕ) (r : RecordText) → k < length records → r ≡ get_or records k r
     → drop k (map entry_of records) ≡ entry_of r ∷ drop (k + 1) (map entry_of records)
 next_record records k r h e =

@@ -6,6 +6,9 @@ use Rattle.board.specs.Lines.{lines_in, without_mark}
 use Rattle.board.specs.Levels.{AreLevelsOf, most_levels}
 use Rattle.devices.specs.Device.{count_after}
 use Rattle.devices.specs.Reading.{most_bytes}
+use Rattle.devices.specs.declared.reading.ReadFault.{ReadFault}
+use Rattle.devices.specs.declared.reading.ReadFault.TheVariants as read
+use Rattle.report.specs.declared.fault.Which.{Which}
 use Rattle.report.specs.declared.fault.Which.TheVariants as which
 use Rattle.report.specs.declared.fault.AuditError.{AuditError}
 use Rattle.report.specs.declared.fault.AuditError.TheVariants.{Read, Write, TooLong, TooManyLevels, Memory}
@@ -15,6 +18,12 @@ pub record IsCollection (levels_text : List ℕ) (levels : List (List (List ℕ)
   pub short : length levels_text ≤ most_bytes
   pub levels_are : AreLevelsOf levels (lines_in (without_mark levels_text))
   pub few : length levels ≤ most_levels
+
+-- the error of a call that can't read that text whole
+abbrev pub error_of_read : ReadFault → Which → AuditError
+error_of_read read.Device text = Read text
+error_of_read read.TooLong text = TooLong text
+error_of_read read.Memory text = Memory
 
 -- the text has more levels than a collection may have
 abbrev pub HasTooManyLevels : List ℕ → Type 0

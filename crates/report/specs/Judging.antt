@@ -10,7 +10,7 @@ use Rattle.answers.specs.declared.record_text.RecordText.{RecordText}
 use Rattle.report.specs.Status.{Says}
 use Rattle.report.specs.declared.status.Status.{Status}
 
--- the status is that of the rows with the answer that the grammar reads in the record, if there is one
+-- the rows say this status, with the answer that the grammar reads in the record, if there is one
 abbrev pub SaysBy : List (List ℕ) → Option (Bor RecordText) → Status → Type 0
 SaysBy rows None status = Says rows None status
 SaysBy rows (Some r) status = (body : Body) → SaysOfLevel r.now body → Says rows (Some body) status

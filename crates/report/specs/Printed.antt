@@ -14,7 +14,7 @@ use Rattle.report.specs.Unsolvable.{IsUnsolvable}
 use Rattle.report.specs.Words.{refusal_words, solved_words}
 use Rattle.report.specs.declared.status.Refusal.{Refusal}
 
--- line number before + 1 of the text is that of the level with this number, and has these words
+-- line number before + 1 of the text is the line of the level with this number, and has these words
 abbrev pub HasWords : List ℕ → ℕ → List ℕ → Type 0
 HasWords text before words = slice_get (lines_in text) before ≡ Some (codes "level " ++ decimal (before + 1) ++ codes " " ++ words)
 

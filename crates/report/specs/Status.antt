@@ -1,7 +1,7 @@
 -- The status of a level, by its rows and its answer alone.
 --   rows        the lines of the level
 --   answer      what the record of the level's number says, if there is one
---   says        the rows and the answer say this status: it is that of the first of these cases that applies
+--   says        the rows and the answer say this status: the first of these cases that applies has it
 use Rattle.std.specs.Prelude.{◌≡◌, ℕ, List, Option, None, Some, length}
 use Rattle.std.specs.List.{concat}
 use Rattle.std.specs.FinSet as set

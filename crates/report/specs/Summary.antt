@@ -1,26 +1,26 @@
 -- The numbers of the report's last line.
-use Rattle.std.specs.Prelude.{◌≡◌, ◌+◌, List, Bool, true, false, length, count_by}
+use Rattle.std.specs.Prelude.{ℕ, ◌≡◌, ◌==◌, ◌+◌, ◌&&◌, if◌then◌else◌, List, Bool, true, false, length, count_by}
 use Rattle.report.specs.declared.status.Status.{Status}
 use Rattle.report.specs.declared.status.Status.TheVariants.{Solved, Unsolvable, UnsolvableZone, Refused, Missing}
 use Rattle.report.specs.declared.summary.Summary.{Summary}
 
--- the status is that of a solved level
+-- a solved level has this status
 abbrev pub is_solved : Status → Bool
 is_solved (Solved _) = true
 is_solved _ = false
 
--- the status is that of an unsolvable level
+-- an unsolvable level has this status
 abbrev pub is_unsolvable : Status → Bool
 is_unsolvable (Unsolvable _) = true
 is_unsolvable (UnsolvableZone _) = true
 is_unsolvable _ = false
 
--- the status is that of a refused level
+-- a refused level has this status
 abbrev pub is_refused : Status → Bool
 is_refused (Refused _) = true
 is_refused _ = false
 
--- the status is that of a level without an answer
+-- a level without an answer has this status
 abbrev pub is_missing : Status → Bool
 is_missing Missing = true
 is_missing _ = false
@@ -34,6 +34,10 @@ summary_of ss = record {
   refused = count_by is_refused ss;
   missing = count_by is_missing ss;
 }
+
+-- the exit status after a report is 0 if no level is refused or missing, and otherwise 1
+abbrev pub status_of : Summary → ℕ
+status_of summary = if summary.refused == 0 && summary.missing == 0 then 0 else 1
 
 -- the numbers of levels of each kind add up to the number of all levels
 abbrev pub AddsUp : Summary → Type 0

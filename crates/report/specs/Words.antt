@@ -64,7 +64,7 @@ abbrev pub zone_word : ZoneLineWhy → Text
 zone_word zone_why.Board = codes "board"
 zone_word zone_why.Wall = codes "wall"
 
--- the letter of a direction is that of its step
+-- a direction has the letter of its step
 abbrev pub dir_word : Dir → Text
 dir_word L = codes "l"
 dir_word U = codes "u"

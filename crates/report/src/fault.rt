@@ -1,4 +1,6 @@
 //! The errors of audits, made answers and maps, in the words that the program prints.
+ghost use Rattle.std.specs.Prelude.{◌≡◌};
+
 use board::BoardFault;
 use std::fmt;
 use thiserror::Error;
@@ -28,7 +30,7 @@ pub enum Why {
     /// A level line is due, and the line isn't one.
     #[error("level")]
     Level,
-    /// The level's number isn't above that of the record before.
+    /// The level's number isn't above the number in the record before.
     #[error("order")]
     Order,
     /// The level's number is above the number of levels.
@@ -77,4 +79,38 @@ pub enum DeadError {
     /// The level isn't legal, and why.
     #[error("board {0}")]
     Board(BoardFault),
+}
+
+/// Words have room for this many bytes, with the end of a line. The program has no longer ones.
+pub const MOST_WORDS: usize = 64;
+
+/// Words that are made without allocating, and their length in bytes. Bytes without room are left out.
+#[derive(Drop)]
+pub struct Words {
+    pub bytes: [u8; MOST_WORDS],
+    pub taken: usize,
+}
+
+impl Words {
+    /// Returns no words.
+    pub fn new() -> Words
+        ensures { result.taken ≡ 0 }
+    {
+        Words {
+            bytes: [0; MOST_WORDS],
+            taken: 0,
+        }
+    }
+}
+
+impl fmt::Write for Words {
+    fn write_str(&mut self, text: &str) -> fmt::Result {
+        for byte in text.bytes() {
+            if self.taken < MOST_WORDS {
+                self.bytes[self.taken] = byte;
+                self.taken += 1;
+            }
+        }
+        Ok(())
+    }
 }

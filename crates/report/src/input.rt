@@ -1,8 +1,8 @@
 //! The texts of a call: what is said of one that can't be read whole, and the levels of one.
-ghost use Rattle.std.specs.Prelude.{◌≡◌, ◌≢◌, ◌≤◌, ◌⊎◌, length, IfOk, IfErr};
+ghost use Rattle.std.specs.Prelude.{◌≡◌, ◌≤◌, ◌⊎◌, length, IfOk, IfErr};
 ghost use Rattle.board.specs.Levels.{AreLevelsOf, most_levels};
 ghost use Rattle.board.specs.Lines.{lines_in, without_mark};
-ghost use Rattle.report.specs.Collection.{HasTooManyLevels};
+ghost use Rattle.report.specs.Collection.{HasTooManyLevels, error_of_read};
 
 use crate::fault::{AuditError, Which};
 use board::{LevelText, LevelsFault, levels};
@@ -11,10 +11,7 @@ use std::alloc::Global;
 
 /// Returns the error of a call that can't read that text whole.
 pub fn read_error(fault: ReadFault, which: Which) -> AuditError
-    ensures device { fault ≡ ReadFault.Device → result ≡ AuditError.Read which }
-    ensures long { fault ≡ ReadFault.TooLong → result ≡ AuditError.TooLong which }
-    ensures memory { fault ≡ ReadFault.Memory → result ≡ AuditError.Memory }
-    ensures no_write { result ≢ AuditError.Write }
+    ensures { result ≡ error_of_read fault which }
 {
     match fault {
         ReadFault::Device => AuditError::Read { which },

@@ -6,9 +6,8 @@ ghost use Rattle.answers.specs.Grammar.{said_zone};
 ghost use Rattle.answers.specs.Body.{LetterLines, PatternLine, PatternLines, OneZone};
 ghost use Rattle.answers.specs.Certificates.{certificate_body};
 ghost use Rattle.answers.specs.Pieces.{ArePiecesOf};
-ghost use Rattle.answers.specs.Reading.{entry_of};
 ghost use Rattle.closure.specs.PatternList.{IsListOf};
-ghost use Rattle.report.specs.Judging.{SaysBy};
+ghost use Rattle.report.specs.Judging.{SaysBy, said_answer};
 ghost use Rattle.report.specs.Status.{Says};
 ghost use Rattle.report.specs.Summary.{is_unsolvable};
 
@@ -45,7 +44,7 @@ pub fn judge<S: CellSet>(
     answer: Option<&RecordText<'_>>,
     scratch: &mut Scratch<S>,
 ) -> Result<Status, AllocError>
-    // With a record, the status is that of what the grammar reads in it.
+    // If there is a record, the status follows from what the grammar reads in it.
     ensures says { IfOk result (SaysBy level.now answer.entry) }
     ensures unsolvable { IfOk result (λ status. is_unsolvable status ≡ true → (board : Level) × IsBoardOf level.now board × (Solvable board → ⊥)) }
 {
@@ -63,38 +62,22 @@ pub fn judge<S: CellSet>(
     status
 }
 
-// Returns the status of a legal level by its answer.
+// Returns the status of a legal level by its answer: by the letters of a solution, or by the lines of a certificate, which are read here.
 fn judge_board<S: CellSet>(
     alloc: Global,
     board: &Board<S>,
     answer: Option<&RecordText<'_>>,
     replayer: &mut Replayer,
 ) -> Result<Status, AllocError>
-    ensures says { IfOk result (λ status. (rows : List (List ℕ)) → IsBoardOf rows board.now → SaysBy rows answer.entry status) }
+    ensures says { IfOk result (λ status. (rows : List (List ℕ)) → IsBoardOf rows board.now → Says rows (said_answer answer.entry) status) }
     ensures unsolvable { IfOk result (λ status. is_unsolvable status ≡ true → Solvable board.now → ⊥) }
 {
-    match answer {
-        None => Ok(Status::Missing),
-        Some(answer) => judge_record(alloc, board, answer, replayer),
-    }
-}
-
-// Returns the status of a legal level by its record: by the letters of a solution, or by the lines of a certificate, which are read here.
-fn judge_record<S: CellSet>(
-    alloc: Global,
-    board: &Board<S>,
-    answer: &RecordText<'_>,
-    replayer: &mut Replayer,
-) -> Result<Status, AllocError>
-    ensures says { IfOk result (λ status. (rows : List (List ℕ)) → IsBoardOf rows board.now → Says rows (Some (entry_of answer.now).body) status) }
-    ensures unsolvable { IfOk result (λ status. is_unsolvable status ≡ true → Solvable board.now → ⊥) }
-{
-    if let Some(lines) = answer.certificate() {
-        return judge_certificate(alloc, board, lines);
-    }
-    match answer.letters(alloc)? {
-        Some(pieces) => judge_solution(replayer, board, &pieces),
-        None => unreachable!(),
+    let Some(record) = answer else {
+        return Ok(Status::Missing);
+    };
+    match record.certificate() {
+        Some(lines) => judge_certificate(alloc, board, lines),
+        None => judge_solution(replayer, board, &record.letters(alloc)?),
     }
 }
 

@@ -95,8 +95,8 @@ pub fn lines_mean_what_they_say()
     texts_have_one_reading();
 }
 
-/// A report can be read back: its n-th line is that of the n-th status, and its bytes fix the words and the kind of each
-/// status. Two refusals can have the same words: that of a pattern and that of a zone on the same line.
+/// A report can be read back: its n-th line is the line of the n-th status, and its bytes fix the words and the kind of each
+/// status. Two refusals can have the same words: a pattern and a zone that are refused on the same line.
 pub fn reports_can_be_read_back()
     ensures line { (statuses : List Status) (before : ℕ) (status : Status) → slice_get statuses before ≡ Some status
         → HasWords (report_text statuses) before (words_of status) }

@@ -22,7 +22,7 @@ mod status;
 mod summary;
 mod texts;
 
-pub use fault::{AuditError, DeadError, Which, Why};
+pub use fault::{AuditError, DeadError, MOST_WORDS, Which, Why, Words};
 pub use jobs::audit;
 pub use judging::{Scratch, judge};
 pub use laws::{

@@ -2,13 +2,12 @@
 ghost use Rattle.std.specs.Prelude.{◌≡◌, ◌≢◌, ◌+◌, ◌<◌, ◌≤◌, ◌⊎◌, ℕ, List, Some, length, IfOk, IfErr, IfSome, IfNone, IsErrOf};
 ghost use Rattle.std.specs.List.{flat_map, list_any};
 ghost use Rattle.std.specs.Io.KnownBytes.{Appends, Keeps};
-ghost use Rattle.answers.specs.Canonical.{holds_zone};
+ghost use Rattle.answers.specs.Canonical.{record_text};
 ghost use Rattle.devices.specs.Device.{AppendsBeginning, CountsFault};
 ghost use Rattle.answers.specs.declared.record.MadeRecord.{MadeRecord as MadeOne};
-ghost use Rattle.maker.specs.Made.{body_of};
 ghost use Rattle.report.specs.Collection.{HasTooManyLevels, IsDueFor};
 ghost use Rattle.report.specs.MadeAnswers.{IsRefused, HasNothingMade, AreMade, AreMadeAnswers, IsMadeText, CountsMade};
-ghost use Rattle.report.specs.Making.{AreDraftsOf, IsDraftFor, IsDraftOf, IsFoundFor, draft_text, drafts_text, is_zone};
+ghost use Rattle.report.specs.Making.{AreDraftsOf, IsDraftFor, IsFoundFor, draft_text, drafts_text, is_zone};
 ghost use Rattle.devices.specs.Reading.{most_bytes, TakesAtMost};
 ghost use Rattle.devices.specs.Writing.{Writes};
 
@@ -64,10 +63,7 @@ fn drafts_for(alloc: Global, text: &[u8]) -> Result<Vec<Draft>, AuditError>
     ensures ok { IfOk result (λ drafts. AreMadeAnswers text.now (drafts_text drafts.items) (length drafts.items)) }
     ensures err { IfErr result (λ error. (error ≡ AuditError.Memory) ⊎ ((error ≡ AuditError.TooManyLevels) × HasTooManyLevels text.now)) }
 {
-    let found = match levels_in(alloc, text) {
-        Ok(found) => found,
-        Err(error) => return Err(error),
-    };
+    let found = levels_in(alloc, text)?;
     match draft_levels(alloc, &found) {
         Ok(drafts) => Ok(drafts),
         Err(_) => Err(AuditError::Memory),
@@ -149,7 +145,7 @@ fn draft_levels(alloc: Global, levels: &[LevelText<'_>]) -> Result<Vec<Draft>, A
     Ok(drafts)
 }
 
-// Drafts the record of the level with this number, if a record is made for it. The last board is replaced by that of the level.
+// Drafts the record of the level with this number, if a record is made for it. The level's board replaces the last one.
 fn draft_for(
     alloc: Global,
     level: &LevelText<'_>,
@@ -164,30 +160,31 @@ fn draft_for(
             level: number,
             cells,
         })),
-        Some(Found::Other(made)) => Ok(Some(draft_of(alloc, record_of(made, number))?)),
+        Some(Found::Other(Made::Zone(zone))) => Ok(Some(Draft::Zone(MadeRecord {
+            level: number,
+            body: MadeBody::Zone(zone),
+        }))),
+        Some(Found::Other(Made::Patterns(patterns))) => {
+            let one = MadeRecord {
+                level: number,
+                body: MadeBody::Patterns(patterns),
+            };
+            Ok(Some(Draft::Text(text_of(alloc, &one)?)))
+        }
         None => Ok(None),
     }
 }
 
-// Returns the draft of a record. The patterns of a list take more memory than its text.
-fn draft_of(alloc: Global, one: MadeRecord<'static>) -> Result<Draft, AllocError>
-    ensures { IfOk result (IsDraftOf one.entry) }
+// Returns the text of a record. The patterns of a list take more memory than their text.
+fn text_of(alloc: Global, one: &MadeRecord) -> Result<Vec<u8>, AllocError>
+    ensures { IfOk result (λ text. text.items ≡ record_text one.now) }
 {
-    if holds_zone(&one.body) {
-        return Ok(Draft::Zone(one));
-    }
     let mut text = Device::new(Vec::new(alloc));
-    let Ok(()) = write_record(&one, &mut text) else {
+    let Ok(()) = write_record(one, &mut text) else {
         // A sink in memory fails only if the system refuses memory.
         return Err(AllocError);
     };
-    Ok(Draft::Text(text.into_inner()))
-}
-
-fn holds_zone(body: &MadeBody) -> bool
-    ensures { result ≡ holds_zone body.now }
-{
-    matches!(body, MadeBody::Zone(_))
+    Ok(text.into_inner())
 }
 
 // Returns the certificate that is found for a level, if the level is legal and there is one.
@@ -211,18 +208,4 @@ fn found_for<S: CellSet>(
     let found = find(alloc, &board);
     *last = Some(board);
     found
-}
-
-// Returns the record of the level with this number that has this certificate.
-fn record_of(made: Made, number: usize) -> MadeRecord<'static>
-    ensures { result ≡ record { level = number; body = body_of made } }
-{
-    let body = match made {
-        Made::Patterns(patterns) => MadeBody::Patterns(patterns),
-        Made::Zone(zone) => MadeBody::Zone(zone),
-    };
-    MadeRecord {
-        level: number,
-        body,
-    }
 }

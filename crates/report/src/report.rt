@@ -19,7 +19,7 @@ use std::alloc::{AllocError, Global};
 /// Room for a line of the report, in bytes. Few lines are longer.
 const LINE_ROOM: usize = 80;
 
-// Returns the next record if it is that of level `before + 1`, and then moves `next` to the record after it.
+// Returns the next record if it has level `before + 1`, and then moves `next` to the record after it.
 fn answer_to<'r, 'a>(
     records: &'r [RecordText<'a>],
     next: &mut usize,

@@ -1,6 +1,6 @@
 //! The numbers of the report's last line.
 ghost use Rattle.std.specs.Prelude.{◌≡◌, ◌<◌, ◌-◌, ◌^◌};
-ghost use Rattle.report.specs.Summary.{AddsUp, with_status};
+ghost use Rattle.report.specs.Summary.{AddsUp, status_of, with_status};
 
 use crate::status::Status;
 
@@ -44,5 +44,13 @@ impl Summary {
             Status::Refused(_) => self.refused += 1,
             Status::Missing => self.missing += 1,
         }
+    }
+
+    /// Returns the exit status of the program after a report with these numbers.
+    pub fn exit_status(self) -> u8
+        ensures value { result ≡ status_of self }
+        ensures below { result < 2 }
+    {
+        u8::from(self.refused > 0 || self.missing > 0)
     }
 }

@@ -33,18 +33,15 @@ pub fn audit_texts(
     ensures first { (error : AuditError) → IsFirstError levels.now answers.now error
         → MatchResult result (λ _. ⊥) (λ e. (e ≡ AuditError.Memory) ⊎ (e ≡ error)) }
 {
-    let (statuses, summary) = match judge_texts(alloc, levels, answers) {
-        Ok(told) => told,
-        Err(error) => return Err(error),
-    };
+    let (statuses, summary) = judge_texts(alloc, levels, answers)?;
     match report_of(alloc, &statuses, summary) {
         Ok(text) => Ok((text, summary)),
         Err(_) => Err(AuditError::Memory),
     }
 }
 
-/// Returns what the report says of each level, in order, without its text, and the numbers of its last line. The error is
-/// that of `audit_texts`.
+/// Returns what the report says of each level, in order, without its text, and the numbers of its last line. `audit_texts`
+/// returns the same error.
 pub fn judge_texts(
     alloc: Global,
     levels: &[u8],
@@ -82,10 +79,7 @@ fn statuses_in(
             which: Which::Answers,
         });
     }
-    let levels = match levels_in(alloc, levels) {
-        Ok(levels) => levels,
-        Err(error) => return Err(error),
-    };
+    let levels = levels_in(alloc, levels)?;
     let records = match split(alloc, answers, levels.len()) {
         Ok(records) => records,
         Err(fault) => return Err(answers_error(fault)),

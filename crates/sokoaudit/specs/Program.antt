@@ -3,17 +3,14 @@
 --   audit    the report of the levels and the answers; the status is 0 if no level is refused or missing, and otherwise 1
 --   make     the answers that are made for the levels; the status is 0
 --   dead     the map of the level with that number; the status is 0
-use Rattle.std.specs.Prelude.{ℕ, ◌≡◌, ◌==◌, ◌&&◌, ◌<◌, ◌-◌, ◌^◌, if◌then◌else◌, List, length, Option, Some, IsSome}
+use Rattle.std.specs.Prelude.{ℕ, ◌≡◌, ◌<◌, ◌-◌, ◌^◌, List, length, Option, Some, IsSome}
 use Rattle.std.specs.Io.KnownBytes.{Appends, Keeps}
 use Rattle.arguments.specs.Command.{Request, audit, make, dead}
 use Rattle.report.specs.DeadMap.{IsMapOf}
 use Rattle.report.specs.MadeAnswers.{AreMadeAnswers}
 use Rattle.report.specs.Report.{IsReport}
+use Rattle.report.specs.Summary.{status_of}
 use Rattle.report.specs.declared.summary.Summary.{Summary}
-
--- the status of a report is 0 if no level is refused or missing, and otherwise 1
-abbrev pub report_status : Summary → ℕ
-report_status summary = if summary.refused == 0 && summary.missing == 0 then 0 else 1
 
 -- the bytes of each file that the request names are known
 abbrev pub AreKnown : (List ℕ → Option (List ℕ)) → Request → Type 0
@@ -25,7 +22,7 @@ AreKnown known (dead levels n) = IsSome (known levels)
 abbrev pub Prints : (List ℕ → Option (List ℕ)) → Request → List ℕ → ℕ → Type 0
 Prints known (audit levels answers) text status = (levels_text : List ℕ) × (known levels ≡ Some levels_text)
     × (answers_text : List ℕ) × (known answers ≡ Some answers_text)
-    × (summary : Summary) × IsReport levels_text answers_text text summary × (status ≡ report_status summary)
+    × (summary : Summary) × IsReport levels_text answers_text text summary × (status ≡ status_of summary)
 Prints known (make levels) text status = (levels_text : List ℕ) × (known levels ≡ Some levels_text)
     × (count : ℕ) × AreMadeAnswers levels_text text count × (status ≡ 0)
 Prints known (dead levels n) text status = (levels_text : List ℕ) × (known levels ≡ Some levels_text)

@@ -5,13 +5,13 @@ ghost use Rattle.devices.specs.Device.{CountsFault};
 ghost use Rattle.clap.specs.Walk.{texts};
 ghost use Rattle.clap.specs.Words.{IsAmong, fault_of, kind_of};
 ghost use Rattle.arguments.specs.Command.{Request, AsksFor, program_app, audit as audit_of, make as make_of, dead as dead_of, request_of};
-ghost use Rattle.sokoaudit.specs.Program.{AreKnown, KeepsUnlessFailed, Prints, SpeaksUnlessFailed, report_status as status_in};
+ghost use Rattle.sokoaudit.specs.Program.{AreKnown, KeepsUnlessFailed, Prints, SpeaksUnlessFailed};
 
 use crate::words::print_line;
 use arguments::{Command, parse};
 use clap::error::ErrorKind;
 use devices::{Sink, Source, write_whole};
-use report::{AuditError, DeadError, Summary, Which, audit, dead_map, make_answers};
+use report::{AuditError, DeadError, Which, audit, dead_map, make_answers};
 use std::alloc::Global;
 use std::{fmt, io};
 
@@ -137,7 +137,7 @@ fn audit_files<F: Opener, O: Sink>(
     let mut answers = open(files, answers, Which::Answers)?;
     let summary = audit(alloc, &mut levels, &mut answers, output)?;
     flush(output)?;
-    Ok(report_status(&summary))
+    Ok(summary.exit_status())
 }
 
 fn make_file<F: Opener, O: Sink>(
@@ -232,12 +232,4 @@ fn flush<O: Sink>(output: &mut O) -> Result<(), AuditError>
         Ok(()) => Ok(()),
         Err(_) => Err(AuditError::Write),
     }
-}
-
-/// Returns the status of a report.
-fn report_status(summary: &Summary) -> u8
-    ensures value { result ≡ status_in summary.now }
-    ensures status { result ≤ 1 }
-{
-    u8::from(summary.refused > 0 || summary.missing > 0)
 }

@@ -1,9 +1,10 @@
--- The entries that C gets tell of the statuses, in order, up to the last one that there is room for.
+-- C gets the entries of the statuses, in order, up to the last one that there is room for.
 -- So what a status means is what its entry claims, and the words of its line are what its entry spells.
 use Rattle.std.proofs.Common.{◌≡◌, ◌⊎◌, ℕ, zero, suc, ◌+◌, ◌<◌, List, [], ◌∷◌, ◌++◌, length, min, get_or, slice_set, take, drop, Option, Some, refl, sym, ◌∙◌, ap, subst, inl, inr, arith}
 use Rattle.std.specs.Prelude.{map}
 use Rattle.std.specs.List.{slice_get}
 use Rattle.std.proofs.Math.Nat.{min-le_left, min-le_right}
+use Rattle.std.proofs.lemmas.List.{length-map}
 use Rattle.std.proofs.lemmas.Option.{slice_get_within}
 use Rattle.answers.specs.Body.{Body}
 use Rattle.report.specs.Answer.{answer_to}
@@ -37,14 +38,10 @@ mapped f [] n y there = absurd cc
 mapped f (x ∷ xs) zero y there = (x, refl, cc)
 mapped f (x ∷ xs) (suc n) y there = mapped f xs n y there
 
-same_length : {A B : Type 0} (f : A → B) (xs : List A) → length (map f xs) ≡ length xs
-same_length f [] = refl
-same_length f (x ∷ xs) = ap suc (same_length f xs)
-
 -- an entry at the position of a level is the entry of its status
 entry_at : (old new : List Line) (statuses : List Status) → Holds old new (map numbers_of statuses) → (n : ℕ) (line : Line) → n < length statuses
     → slice_get new n ≡ Some line → (status : Status) × (slice_get statuses n ≡ Some status) × (numbers_of status ≡ line)
-entry_at old new statuses holds n line below there = grind (arith, same_length, mapped, written)
+entry_at old new statuses holds n line below there = grind (arith, length-map, mapped, written)
 
 -- ---- the entries as they are written
 
@@ -80,7 +77,7 @@ right_unsolvable rows answer (Refused why) means (inr is) = grind (arith, refuse
 right_unsolvable rows answer Missing means (inl is) = absurd (omega arith)
 right_unsolvable rows answer Missing means (inr is) = absurd (omega arith)
 
--- the entry of a level is that of a status that the level has
+-- the entry of a level is the entry of a status that the level has
 module _ (lt at : List ℕ) (statuses : List Status) (are : AreStatuses lt at statuses) (old new : List Line)
     (holds : Holds old new (map numbers_of statuses)) where
   meant : (before : ℕ) (rows : List (List ℕ)) (line : Line) → slice_get are.levels before ≡ Some rows → slice_get new before ≡ Some line

@@ -1,6 +1,7 @@
 -- The numbers of a status spell the words of its line. Each kind of line has its own status, and each of its numbers is there.
-use Rattle.std.proofs.Common.{◌≡◌, ◌⊎◌, ◌<◌, [], ◌∷◌, ◌++◌, refl, inl, inr, lit<}
+use Rattle.std.proofs.Common.{◌≡◌, ◌⊎◌, ◌∙◌, ◌<◌, [], ◌∷◌, ◌++◌, refl, ap, arith, inl, inr, lit<}
 use Rattle.std.specs.Prelude.{codes}
+use Rattle.std.proofs.lemmas.Bool.Decides.{nat_tests}
 use Rattle.cellset.specs.declared.dir.Dir.{Dir}
 use Rattle.cellset.specs.declared.dir.Dir.TheVariants.{L, U, R, D}
 use Rattle.board.specs.declared.reading.BoardFault.{BoardFault}
@@ -24,6 +25,7 @@ use Rattle.report.specs.declared.status.Status.{Status}
 use Rattle.report.specs.declared.status.Status.TheVariants.{Solved, Unsolvable, UnsolvableZone, Refused, Missing}
 use Rattle.report.specs.declared.status.Refusal.{Refusal}
 use Rattle.report.specs.declared.status.Refusal.TheVariants.{Board, BadLine, Solution, Patterns, Zone}
+use Rattle.sokoaudit_c.specs.declared.numbers.Line.{Line}
 use Rattle.sokoaudit_c.specs.Numbers.{code_of, number_of_bad_line, number_of_board_fault, number_of_line_why, number_of_move_why, number_of_zone_why, numbers_of, numbers_of_list, numbers_of_refusal, numbers_of_solution, numbers_of_zone, refusal_spelled, spelled, why_word}
 
 board : (why : BoardFault) → why_word (number_of_board_fault why) ≡ board_words why
@@ -84,7 +86,7 @@ refusal (Solution fault) = solution fault
 refusal (Patterns fault) = list fault
 refusal (Zone fault) = zone fault
 
--- the status number of a refusal is that of no other line
+-- a refusal has its own status number, which no other line has
 pub refused_status : (why : Refusal) → ((numbers_of_refusal why).status ≡ 0) ⊎ ((3 < (numbers_of_refusal why).status) × ((numbers_of_refusal why).status < 12))
 refused_status (Board why) = inr (lit< tt, lit< tt)
 refused_status (BadLine n why) = inr (lit< tt, lit< tt)
@@ -100,24 +102,14 @@ refused_status (Zone (zone_fault.Leak n cell dir)) = inr (lit< tt, lit< tt)
 refused_status (Zone (zone_fault.Fits n)) = inr (lit< tt, lit< tt)
 refused_status (Zone zone_fault.Memory) = inl refl
 
-refused : (why : Refusal) → spelled (numbers_of_refusal why) ≡ codes "refused " ++ refusal_words why
-refused (Board why) = search (refusal)
-refused (BadLine n why) = search (refusal)
-refused (Solution (replay_fault.Move number why)) = search (solution)
-refused (Solution (replay_fault.Unsolved boxes)) = refl
-refused (Solution replay_fault.Memory) = refl
-refused (Patterns (check_fault.Line n why)) = search (list)
-refused (Patterns check_fault.Start) = refl
-refused (Patterns (check_fault.Push n player dir)) = search (list)
-refused (Patterns check_fault.Memory) = refl
-refused (Zone (zone_fault.Line n why)) = search (zone)
-refused (Zone (zone_fault.Leak n cell dir)) = search (zone)
-refused (Zone (zone_fault.Fits n)) = refl
-refused (Zone zone_fault.Memory) = refl
+-- an entry with such a number spells a refusal
+spelled_refused : (l : Line) → (l.status ≡ 0) ⊎ ((3 < l.status) × (l.status < 12)) → spelled l ≡ codes "refused " ++ refusal_spelled l
+spelled_refused l (inl none) = rw none refl
+spelled_refused l (inr (above, below)) = grind (arith, nat_tests)
 
 pub spelled_words : (status : Status) → spelled (numbers_of status) ≡ words_of status
 spelled_words (Solved tally) = refl
 spelled_words (Unsolvable patterns) = refl
 spelled_words (UnsolvableZone cells) = refl
-spelled_words (Refused why) = refused why
+spelled_words (Refused why) = spelled_refused (numbers_of_refusal why) (refused_status why) ∙ ap (λ words. codes "refused " ++ words) (refusal why)
 spelled_words Missing = refl

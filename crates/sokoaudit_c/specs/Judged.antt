@@ -13,7 +13,7 @@ use Rattle.sokoaudit_c.specs.declared.judge.Fault.{Fault}
 use Rattle.sokoaudit_c.specs.declared.judge.Fault.TheVariants.{Memory, LevelTooLong, BodyTooLong, ManyLevels, NoLevel, BodyEnd, Kind}
 use Rattle.sokoaudit_c.specs.declared.numbers.Line.{Line}
 
--- the kind line is that of a solution for kind 1, and otherwise that of a certificate
+-- kind 1 has the kind line of a solution, and any other the kind line of a certificate
 abbrev pub kind_words : ℕ → List ℕ
 kind_words kind = if kind == 1 then codes "solution\n" else codes "unsolvable\n"
 

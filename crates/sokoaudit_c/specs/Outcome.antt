@@ -2,7 +2,7 @@
 --   holds     the buffer begins with the text, or with as much of it as there is room for; the rest is unchanged
 --   outcome   the nine numbers of a report, of made answers, of a map or of an error; a number that
 --             means nothing there is 0
-use Rattle.std.specs.Prelude.{ℕ, ◌≡◌, ◌==◌, ◌&&◌, if◌then◌else◌, ◌++◌, List, length, take, drop}
+use Rattle.std.specs.Prelude.{ℕ, ◌≡◌, ◌++◌, List, length, take, drop}
 use Rattle.board.specs.declared.reading.BoardFault.{BoardFault}
 use Rattle.board.specs.declared.reading.BoardFault.TheVariants as board_fault
 use Rattle.report.specs.declared.fault.AuditError.TheVariants.{TooLong, TooManyLevels, Answers}
@@ -40,10 +40,6 @@ outcome_of_answers bytes records = record no_numbers { bytes = bytes; records = 
 -- a map of this many bytes has this outcome
 abbrev pub outcome_of_map : ℕ → Outcome
 outcome_of_map bytes = record no_numbers { bytes = bytes }
-
--- the status of a report is 0 if no level is refused or missing, and otherwise 1
-abbrev pub status_of : Summary → ℕ
-status_of summary = if summary.refused == 0 && summary.missing == 0 then 0 else 1
 
 -- a fault of a line of the answers has the number that include/sokoaudit.h gives it
 abbrev pub number_of_line : Why → ℕ

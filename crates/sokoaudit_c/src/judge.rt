@@ -29,7 +29,7 @@ pub enum Fault {
     NoLevel,
     /// The body has a line `end`.
     BodyEnd,
-    /// The kind is neither that of a solution nor that of a certificate.
+    /// The kind names neither a solution nor a certificate.
     Kind,
 }
 
@@ -43,7 +43,7 @@ pub extern "C" fn sokoaudit_judge(
     body: &[u8],
     line: &mut Line,
 ) -> u32
-    // The audit of the level and of the answers around the body has one status, and its numbers are returned.
+    // The audit of the level and of the answers around the body has one status, and the line has its numbers.
     ensures done { result ≡ 0 → (status : Said) × AreStatuses level.now (answers_around kind body.now) (status ∷ []) × (line.new ≡ in_body (numbers status)) }
     ensures refused { result ≢ 0 → (fault : Fault) × HasFault level.now kind body.now fault × (result ≡ number_of_fault fault) }
     ensures fault { result ≢ 0 → line.new ≡ no_line }

@@ -13,6 +13,7 @@ ghost use Rattle.std.specs.Prelude.{◌≡◌, ◌≤◌, ◌<◌, ◌⊎◌, �
 ghost use Rattle.report.specs.Audit.{IsFirstError};
 ghost use Rattle.report.specs.Collection.{IsDueFor};
 ghost use Rattle.report.specs.Report.{IsReport};
+ghost use Rattle.report.specs.Summary.{status_of};
 ghost use Rattle.report.specs.MadeAnswers.{AreMadeAnswers, IsMadeText};
 ghost use Rattle.report.specs.DeadMap.{IsMapOf, IsDueMap};
 ghost use Rattle.report.specs.declared.fault.AuditError.{AuditError as Error};
@@ -20,12 +21,11 @@ ghost use Rattle.report.specs.declared.fault.AuditError.TheVariants as error_of_
 ghost use Rattle.report.specs.declared.fault.DeadError.{DeadError as MapError};
 ghost use Rattle.report.specs.declared.fault.DeadError.TheVariants.{Audit};
 ghost use Rattle.report.specs.declared.summary.Summary.{Summary as Numbers};
-ghost use Rattle.sokoaudit_c.specs.Outcome.{Holds, outcome_of_answers, outcome_of_error, outcome_of_map, outcome_of_report, status_of};
+ghost use Rattle.sokoaudit_c.specs.Outcome.{Holds, outcome_of_answers, outcome_of_error, outcome_of_map, outcome_of_report};
 
 mod judge;
 mod numbers;
 mod outcome;
-mod room;
 mod verdicts;
 
 use answers::Device;
@@ -33,11 +33,9 @@ pub use judge::{Fault, bodies_without_end_are_judged, sokoaudit_judge};
 pub use numbers::Line;
 pub use outcome::Outcome;
 use outcome::{error_of, of_answers, of_error, of_map, of_report};
-use report::{DeadError, audit_texts, dead_map, make_answers};
-use room::{MOST_WORDS, Words, put};
+use report::{DeadError, MOST_WORDS, Words, audit_texts, dead_map, make_answers};
 use std::alloc::Global;
 use std::fmt::Write;
-use verdicts::exit_status;
 pub use verdicts::sokoaudit_lines;
 
 /// Writes the report of an audit of two texts. Returns the program's exit status: 0, 1, or 2 if there is no report.
@@ -65,7 +63,7 @@ pub extern "C" fn sokoaudit_audit(
         Ok((text, summary)) => {
             put(&text, report);
             *outcome = of_report(text.len(), summary);
-            exit_status(summary)
+            summary.exit_status().into()
         }
         Err(error) => {
             *outcome = of_error(DeadError::Audit(error));
@@ -142,14 +140,19 @@ pub extern "C" fn sokoaudit_fault_text(outcome: &Outcome, text: &mut [u8]) -> us
     ensures words { (words : List ℕ) × (length words ≤ 64) × (result ≡ length words) × Holds text.old text.new words }
     ensures none { outcome.now.fault ≡ 0 → result ≡ 0 }
 {
-    let mut words = Words {
-        bytes: [0; MOST_WORDS],
-        taken: 0,
-    };
+    let mut words = Words::new();
     if let Some(error) = error_of(outcome) {
         let _ = write!(words, "{error}");
     }
     let taken = words.taken.min(MOST_WORDS);
     put(&words.bytes[..taken], text);
     taken
+}
+
+// Copies a text to the beginning of a buffer, or as much of it as there is room for.
+fn put(text: &[u8], buffer: &mut [u8])
+    ensures { Holds buffer.old buffer.new text.now }
+{
+    let taken = text.len().min(buffer.len());
+    buffer[..taken].copy_from_slice(&text[..taken]);
 }

@@ -2,20 +2,18 @@
 ghost use Rattle.std.specs.Prelude.{◌≡◌, ◌<◌, ◌≤◌, ◌⊎◌, List, map};
 ghost use Rattle.report.specs.Audit.{IsFirstError};
 ghost use Rattle.report.specs.Report.{AreStatuses};
-ghost use Rattle.report.specs.Summary.{summary_of};
+ghost use Rattle.report.specs.Summary.{status_of, summary_of};
 ghost use Rattle.report.specs.declared.fault.AuditError.{AuditError as Error};
 ghost use Rattle.report.specs.declared.fault.AuditError.TheVariants as error_of_audit;
 ghost use Rattle.report.specs.declared.fault.DeadError.TheVariants.{Audit};
 ghost use Rattle.report.specs.declared.status.Status.{Status as Said};
 ghost use Rattle.sokoaudit_c.specs.Lines.{AreRight, SpellReport};
 ghost use Rattle.sokoaudit_c.specs.Numbers.{numbers_of as numbers};
-ghost use Rattle.sokoaudit_c.specs.Outcome.{Holds, outcome_of_error, outcome_of_report, status_of};
+ghost use Rattle.sokoaudit_c.specs.Outcome.{Holds, outcome_of_error, outcome_of_report};
 
 use crate::numbers::{Line, numbers_of};
 use crate::outcome::{Outcome, of_error, of_report};
-use report::{
-    DeadError, Status, Summary, judge_texts, reports_can_be_read_back, texts_have_one_report,
-};
+use report::{DeadError, Status, judge_texts, reports_can_be_read_back, texts_have_one_report};
 use std::alloc::Global;
 
 /// Writes what an audit of two texts says of each level, as numbers. Returns the program's exit status: 0, 1, or 2 if there
@@ -50,21 +48,13 @@ pub extern "C" fn sokoaudit_lines(
         Ok((statuses, summary)) => {
             put_lines(&statuses, lines);
             *outcome = of_report(0, summary);
-            exit_status(summary)
+            summary.exit_status().into()
         }
         Err(error) => {
             *outcome = of_error(DeadError::Audit(error));
             2
         }
     }
-}
-
-/// Returns the program's exit status after a report with these numbers.
-pub fn exit_status(summary: Summary) -> u32
-    ensures value { result ≡ status_of summary }
-    ensures below { result < 2 }
-{
-    u32::from(summary.refused > 0 || summary.missing > 0)
 }
 
 // Writes the numbers of the statuses to the first entries, up to the last entry.

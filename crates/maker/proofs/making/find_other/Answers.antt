@@ -1,5 +1,5 @@
--- There are three ways out: a list, a zone, or None. A list is closed because it is made of dead patterns, with or without that of the
--- frozen boxes (`Accepting.antt`). A zone refutes because it is the least one, and a text can spell it (`MadeZones.antt`). None says that
+-- There are three ways out: a list, a zone, or None. A list is closed because it is made of dead patterns, with or without the pattern
+-- of the frozen boxes (`Accepting.antt`). A zone refutes because it is the least one, and a text can spell it (`MadeZones.antt`). None says that
 -- there is neither. What a callee returned is taken out of its `Option`.
 use Rattle.std.specs.Prelude.{map}
 use Rattle.std.proofs.lemmas.Option.{MatchOption-at_some, MatchOption-at_none}

@@ -2,15 +2,14 @@
 -- at its place in the order of work, because a text that was read before isn't too long. The texts that were read are the bytes of the
 -- sources, if these are known, so what `audit_texts` says of the texts holds of the bytes. The count of a device rises only in the way
 -- out that returns its error. Nothing is written before the last two.
-use Rattle.std.proofs.Common.{◌≡◌, ◌<◌, ◌≤◌, ℕ, List, length, subst, Some, IfSome, Err, ap, refl, sym}
+use Rattle.std.proofs.Common.{◌≡◌, ◌<◌, ◌≤◌, ℕ, List, length, subst, Some, IfSome, Err, ap, refl, sym, ◌∙◌}
 use Rattle.std.specs.Prelude.{Option}
 use Rattle.std.proofs.lemmas.Result.{err_from_is_err_and}
 use Rattle.report.specs.Audit.{IsDue}
 use Rattle.report.specs.Report.{IsReport}
 use Rattle.report.proofs.Errors.{error_due}
-use Rattle.report.proofs.ReadErrors.{IsReadError, at_known, counts_answers, counts_levels, due_answers, due_levels, keeps_same, no_error, same_error, takes_none}
+use Rattle.report.proofs.ReadErrors.{at_known, counts_answers, counts_levels, due_answers, due_levels, keeps_same, no_error, no_write, same_error, takes_none}
 use Rattle.devices.specs.Reading.{most_bytes}
-use Rattle.report.specs.declared.fault.Which.TheVariants as which
 use Rattle.report.proofs.jobs.audit.Goals as goal
 
 -- the bytes that were read are those that the source had, if they are known
@@ -29,31 +28,28 @@ said P o bytes is h = subst (λ (p : Option (List ℕ)). IfSome p P) is h
 
 pub returns-in-Err : goal.returns-in-Err
 returns-in-Err g c =
-    let e = c.read_error.ensures in
-    let is : IsReadError c.in-Err.fault which.Levels c.read_error.result = record { device = e.device; long = e.long; memory = e.memory } in
+    let is = c.read_error.ensures in
     record {
       ok = λ _ _ _ _. tt;
-      refused = λ lt at is_lt is_at. due_levels lt at _ _ is (λ long. said (λ b. most_bytes < length b) _ lt is_lt (c.in-Err.ensures.too_long (ap Err long)));
-      beginning = λ _ _ _ _ failed. absurd (e.no_write (same_error _ _ failed));
+      refused = λ lt at is_lt is_at. rw is (due_levels lt at _ (λ long. said (λ b. most_bytes < length b) _ lt is_lt (c.in-Err.ensures.too_long (ap Err long))));
+      beginning = λ _ _ _ _ failed. absurd (no_write _ _ (sym is ∙ same_error _ _ failed));
       untouched = λ _. keeps_same _;
-      cause = counts_levels (Unit {0}) (Unit {0}) _ _ _ _ _ is c.in-Err.ensures.cause refl refl;
+      cause = rw is (counts_levels (Unit {0}) (Unit {0}) _ _ _ _ c.in-Err.ensures.cause refl refl);
       taken = (c.read_whole.ensures.taken, takes_none _ _);
     }
 
 pub returns-in-Err-read_whole : goal.returns-in-Err-read_whole
 returns-in-Err-read_whole g c =
-    let e = c.read_error-in-Err-read_whole.ensures in
-    let is : IsReadError c.in-Err-read_whole.fault which.Answers c.read_error-in-Err-read_whole.result =
-    record { device = e.device; long = e.long; memory = e.memory } in
+    let is = c.read_error-in-Err-read_whole.ensures in
     let fits = c.in-Ok.ensures.limit in
     record {
       ok = λ _ _ _ _. tt;
-      refused = λ lt at is_lt is_at. due_answers lt at _ _ is (subst (λ (b : List ℕ). length b ≤ most_bytes) (known_text _ _ lt c.in-Ok.ensures.value is_lt)
+      refused = λ lt at is_lt is_at. rw is (due_answers lt at _ (subst (λ (b : List ℕ). length b ≤ most_bytes) (known_text _ _ lt c.in-Ok.ensures.value is_lt)
           fits)
-          (λ long. said (λ b. most_bytes < length b) _ at is_at (c.in-Err-read_whole.ensures.too_long (ap Err long)));
-      beginning = λ _ _ _ _ failed. absurd (e.no_write (same_error _ _ failed));
+          (λ long. said (λ b. most_bytes < length b) _ at is_at (c.in-Err-read_whole.ensures.too_long (ap Err long))));
+      beginning = λ _ _ _ _ failed. absurd (no_write _ _ (sym is ∙ same_error _ _ failed));
       untouched = λ _. keeps_same _;
-      cause = counts_answers (Unit {0}) (Unit {0}) _ _ _ _ _ is c.in-Ok.ensures.cause c.in-Err-read_whole.ensures.cause refl;
+      cause = rw is (counts_answers (Unit {0}) (Unit {0}) _ _ _ _ c.in-Ok.ensures.cause c.in-Err-read_whole.ensures.cause refl);
       taken = (c.read_whole.ensures.taken, c.read_whole-2.ensures.taken);
     }
 

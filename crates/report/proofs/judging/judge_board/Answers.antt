@@ -1,15 +1,25 @@
-use Rattle.std.proofs.Common.{Option, sym, subst}
-use Rattle.std.specs.Borrow.{Bor}
-use Rattle.answers.specs.declared.record_text.RecordText.{RecordText}
-use Rattle.report.specs.Judging.{SaysBy}
+use Rattle.std.proofs.Common.{[], sym, subst}
+use Rattle.answers.specs.Body.{LetterLines}
+use Rattle.answers.specs.Certificates.{certificate_body}
+use Rattle.answers.specs.Pieces.{ArePiecesOf}
+use Rattle.answers.specs.Reading.{entry_of}
+use Rattle.answers.proofs.BodyLines.{says_one_body}
 use Rattle.report.specs.Status.{missing}
-use Rattle.report.specs.declared.status.Status.TheVariants.{Missing}
-use Rattle.report.proofs.Answered.{judged_by}
+use Rattle.report.proofs.SolutionPieces.{says_pieces}
 use Rattle.report.proofs.judging.judge_board.Goals as goal
 
-pub returns-in-None-clause-says : goal.returns-in-None-clause-says
-returns-in-None-clause-says g c = λ rows board.
-    subst (λ (a : Option (Bor RecordText)). SaysBy rows a Missing) (sym c.in-None.is) (missing board)
+pub returns-in_default-clause-says : goal.returns-in_default-clause-says
+returns-in_default-clause-says g c = λ rows is. rw c.in_default.is (missing is)
 
-pub returns-in-Some-clause-says : goal.returns-in-Some-clause-says
-returns-in-Some-clause-says g c = judged_by c.judge_record.result c.args.board.now c.args.answer _ c.in-Some.is c.judge_record.ensures.says
+pub returns-in-Some-certificate-clause-says : goal.returns-in-Some-certificate-clause-says
+returns-in-Some-certificate-clause-says g c =
+    let says = rw c.in-Some-certificate.is at c.certificate.ensures.some in
+    rw (c.in-Some.is, sym (says_one_body c.in-Some.record.now (certificate_body [] c.in-Some-certificate.lines) says)) c.judge_certificate.ensures.says
+
+pub returns-in_ok-letters-in-None-clause-says : goal.returns-in_ok-letters-in-None-clause-says
+returns-in_ok-letters-in-None-clause-says g c =
+    let record_text = c.in-Some.record.now in
+    let (lines, says) = rw c.in-None.is at c.certificate.ensures.none in
+    rw c.in-Some.is (says_pieces c.judge_solution.result c.args.board.now lines c.deref.result.now (entry_of record_text).body
+    (says_one_body record_text (LetterLines lines) says)
+    (subst (ArePiecesOf lines) (sym c.deref.ensures.value) (c.in_ok-letters-in-None.ensures.letters lines says)) c.judge_solution.ensures.says)

@@ -1,7 +1,9 @@
 use Rattle.std.proofs.Common.{refl, sym, subst}
 use Rattle.std.proofs.lemmas.Option.{MatchOption-at_some}
 use Rattle.maker.specs.Made.{body_of}
-use Rattle.report.specs.Making.{IsDraftOf, IsFoundFor}
+use Rattle.maker.specs.declared.making.Found.TheVariants.{Other}
+use Rattle.maker.specs.declared.making.Made.TheVariants.{Patterns, Zone}
+use Rattle.report.specs.Making.{IsFoundFor}
 use Rattle.report.proofs.LoneRecords.{body_is_made, few_cells, made_of, text_of}
 use Rattle.report.proofs.MadeRecords.{found_made}
 use Rattle.report.proofs.making.draft_for.Goals as goal
@@ -17,10 +19,18 @@ returns-in-Some-Dead-clause-some c =
       record { text = sym (text_of dead.cells small c.args.number); zone = refl },
     )
 
-pub returns-in_ok-draft_of-in-Some-Other-clause-some : goal.returns-in_ok-draft_of-in-Some-Other-clause-some
-returns-in_ok-draft_of-in-Some-Other-clause-some c =
+pub returns-in-Some-Other-Zone-clause-some : goal.returns-in-Some-Other-Zone-clause-some
+returns-in-Some-Other-Zone-clause-some c =
     let rows = c.args.level.now in
-    let other = c.in-Some-Other in
-    let found = subst (IsFoundFor rows) other.field-0-is (MatchOption-at_some _ (IsFoundFor rows) other.field-0 other.is c.in_ok-cells.ensures.some) in
-    let draft = c.in_ok-draft_of-in-Some-Other in
-    (body_of other.made, found_made rows other.made found, subst (λ r. IsDraftOf r draft.field-0) c.record_of.ensures draft.ensures)
+    let other = c.in-Some-Other-Zone in
+    let some = MatchOption-at_some _ (IsFoundFor rows) other.field-0 other.is c.in_ok-cells.ensures.some in
+    let found = subst (λ made. IsFoundFor rows (Other made)) other.field-0-0-is (subst (IsFoundFor rows) other.field-0-is some) in
+    (_, found_made rows (Zone other.zone) found, record { text = refl; zone = refl })
+
+pub returns-in_ok-text_of-in-Some-Other-Patterns-clause-some : goal.returns-in_ok-text_of-in-Some-Other-Patterns-clause-some
+returns-in_ok-text_of-in-Some-Other-Patterns-clause-some c =
+    let rows = c.args.level.now in
+    let other = c.in-Some-Other-Patterns in
+    let some = MatchOption-at_some _ (IsFoundFor rows) other.field-0 other.is c.in_ok-cells.ensures.some in
+    let found = subst (λ made. IsFoundFor rows (Other made)) other.field-0-0-is (subst (IsFoundFor rows) other.field-0-is some) in
+    (_, found_made rows (Patterns other.patterns) found, record { text = c.in_ok-text_of-in-Some-Other-Patterns.ensures; zone = refl })

@@ -3,9 +3,9 @@ use Rattle.report.specs.MadeAnswers.{AreMade}
 use Rattle.report.proofs.MadeRecords.{made_below}
 use Rattle.report.proofs.making.drafts_for.Goals as goal
 
-pub returns-in-Ok-draft_levels-clause-ok : goal.returns-in-Ok-draft_levels-clause-ok
-returns-in-Ok-draft_levels-clause-ok c =
-    let found = c.in-Ok.found.items in
-    let made = c.in-Ok-draft_levels.ensures in
+pub returns-in-Ok-clause-ok : goal.returns-in-Ok-clause-ok
+returns-in-Ok-clause-ok c =
+    let found = c.in_ok-found.found.items in
+    let made = c.in-Ok.ensures in
     let all = subst (λ (levels : List (List (List ℕ))). AreMade 1 levels made.0) c.deref.ensures.value made.1 in
-    made_below c.args.text.now found made.0 c.in-Ok-draft_levels.drafts.items c.requires c.in-Ok.ensures.ok c.in-Ok.ensures.few all made.2
+    made_below c.args.text.now found made.0 c.in-Ok.drafts.items c.requires c.in_ok-found.ensures.ok c.in_ok-found.ensures.few all made.2

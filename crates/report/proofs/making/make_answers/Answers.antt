@@ -3,29 +3,27 @@
 -- is the bytes of the source, if these are known, so what `drafts_for` says of the text holds of the bytes. The count of a device rises
 -- only in the way out that returns its error. Nothing is written before the last one, so after any other error the sink holds what it
 -- held.
-use Rattle.std.proofs.Common.{◌≡◌, ◌<◌, ◌≤◌, ℕ, List, length, Some, Err, ap, refl, sym, subst}
+use Rattle.std.proofs.Common.{◌≡◌, ◌<◌, ◌≤◌, ℕ, List, length, Some, Err, ap, refl, sym, subst, ◌∙◌}
 use Rattle.std.proofs.lemmas.Option.{MatchOption-at_some}
 use Rattle.std.proofs.lemmas.Result.{IfErr-at_err, IfOk-weaker}
 use Rattle.report.specs.Collection.{IsDueFor}
 use Rattle.report.specs.MadeAnswers.{AreMadeAnswers, IsMadeText}
 use Rattle.report.specs.Making.{drafts_text}
 use Rattle.devices.specs.Reading.{most_bytes}
-use Rattle.report.specs.declared.fault.Which.TheVariants as which
 use Rattle.report.specs.declared.fault.AuditError.TheVariants.{Write}
-use Rattle.report.proofs.ReadErrors.{IsReadError, at_known, counts_for, counts_levels_in, counts_written, due_for, due_levels_in, err_weaker, keeps_same, levels_in_no_write, same_error}
+use Rattle.report.proofs.ReadErrors.{at_known, counts_for, counts_levels_in, counts_written, due_for, due_levels_in, err_weaker, keeps_same, levels_in_no_write, no_write, same_error}
 use Rattle.report.proofs.making.make_answers.Goals as goal
 
 pub returns-in-Err : goal.returns-in-Err
 returns-in-Err g c =
-    let e = c.read_error.ensures in
-    let is : IsReadError c.in-Err.fault which.Levels c.read_error.result = record { device = e.device; long = e.long; memory = e.memory } in
+    let is = c.read_error.ensures in
     record {
       ok = λ _ _. tt;
-      refused = λ lt is_lt. due_for (IsMadeText lt) lt _ _ is (λ long. MatchOption-at_some _ (λ (b : List ℕ). most_bytes < length b) lt is_lt
-          (c.in-Err.ensures.too_long (ap Err long)));
-      beginning = λ _ _ failed. absurd (e.no_write (same_error _ _ failed));
+      refused = λ lt is_lt. rw is (due_for (IsMadeText lt) lt _ (λ long. MatchOption-at_some _ (λ (b : List ℕ). most_bytes < length b) lt is_lt
+          (c.in-Err.ensures.too_long (ap Err long))));
+      beginning = λ _ _ failed. absurd (no_write _ _ (sym is ∙ same_error _ _ failed));
       untouched = λ _. keeps_same _;
-      cause = counts_for (Unit {0}) _ _ _ _ is c.in-Err.ensures.cause refl;
+      cause = rw is (counts_for (Unit {0}) _ _ _ c.in-Err.ensures.cause refl);
       taken = c.read_whole.ensures.taken;
     }
 

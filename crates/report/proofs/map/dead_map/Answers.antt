@@ -1,25 +1,23 @@
 -- There are four ways out: the read fails, there is no map, the write fails, or the map is written. An error comes at its place in the
 -- order of work, because a text that was read before isn't too long. The text that was read is the bytes of the source, if these are
 -- known, so what `map_text` says of the text holds of the bytes. The count of a device rises only in the way out that returns its error.
-use Rattle.std.proofs.Common.{◌≡◌, ◌<◌, ℕ, List, length, Some, Err, ap, refl, sym, subst}
+use Rattle.std.proofs.Common.{◌≡◌, ◌<◌, ℕ, List, length, Some, Err, ap, refl, sym, subst, ◌∙◌}
 use Rattle.std.proofs.lemmas.Option.{MatchOption-at_some}
 use Rattle.report.specs.DeadMap.{IsMapOf}
 use Rattle.devices.specs.Reading.{most_bytes}
-use Rattle.report.specs.declared.fault.Which.TheVariants as which
-use Rattle.report.proofs.ReadErrors.{IsReadError, at_known, counts_for, due_for, keeps_same, no_error, same_map_error}
+use Rattle.report.proofs.ReadErrors.{at_known, counts_for, due_for, keeps_same, no_error, no_write, same_map_error}
 use Rattle.report.proofs.map.dead_map.Goals as goal
 
 pub returns-in-Err : goal.returns-in-Err
 returns-in-Err g c =
-    let e = c.read_error.ensures in
-    let is : IsReadError c.in-Err.fault which.Levels c.read_error.result = record { device = e.device; long = e.long; memory = e.memory } in
+    let is = c.read_error.ensures in
     record {
       ok = λ _ _. tt;
-      refused = λ lt is_lt. due_for (IsMapOf lt c.args.n) lt _ _ is
-          (λ long. MatchOption-at_some _ (λ (b : List ℕ). most_bytes < length b) lt is_lt (c.in-Err.ensures.too_long (ap Err long)));
-      beginning = λ _ _ failed. absurd (e.no_write (same_map_error _ _ failed));
+      refused = λ lt is_lt. rw is (due_for (IsMapOf lt c.args.n) lt _
+          (λ long. MatchOption-at_some _ (λ (b : List ℕ). most_bytes < length b) lt is_lt (c.in-Err.ensures.too_long (ap Err long))));
+      beginning = λ _ _ failed. absurd (no_write _ _ (sym is ∙ same_map_error _ _ failed));
       untouched = λ _. keeps_same _;
-      cause = counts_for (Unit {0}) _ _ _ _ is c.in-Err.ensures.cause refl;
+      cause = rw is (counts_for (Unit {0}) _ _ _ c.in-Err.ensures.cause refl);
       taken = c.read_whole.ensures.taken;
     }
 

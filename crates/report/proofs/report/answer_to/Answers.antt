@@ -1,6 +1,6 @@
--- There are three ways out. If no record is left, none answers a level. If the next record is that of another level, the level is a later
+-- There are three ways out. If no record is left, none answers a level. If the next record is of another level, the level is a later
 -- one, because the numbers rise. So no record answers this level, and the same records are left for the later ones. If the next record is
--- that of this level, it is the answer, and it answers no later level. So the records after it have the answers of the later levels.
+-- of this level, it is the answer, and it answers no later level. So the records after it have the answers of the later levels.
 use Rattle.std.proofs.Common.{◌≢◌, ℕ, ◌+◌, ◌≤◌, ◌∷◌, drop, sym, ◌∙◌, ap, subst, arith}
 use Rattle.std.specs.Prelude.{map}
 use Rattle.answers.specs.Grammar.{RiseWithin}

@@ -6,13 +6,13 @@ use Rattle.report.proofs.texts.audit_texts.Goals as goal
 
 pub report_of-requires-clause-few : goal.report_of-requires-clause-few
 report_of-requires-clause-few c =
-    let are = c.in-Ok.ensures.ok.0 in
+    let are = c.in_ok-statuses.ensures.ok.0 in
     let few = are.few in
     let long = ap length c.deref.ensures.value ∙ each_long Says 1 are.levels are.entries _ are.say in
     omega (arith, few, long)
 
-pub returns-in-Ok-report_of-clause-ok : goal.returns-in-Ok-report_of-clause-ok
-returns-in-Ok-report_of-clause-ok c =
-    let ok = c.in-Ok.ensures.ok in
-    report_by c.args.levels.now c.args.answers.now c.in-Ok.told.0.items _ c.in-Ok.told.1 ok.0
-    (c.in-Ok-report_of.ensures ∙ ap report_text c.deref.ensures.value) ok.1
+pub returns-in-Ok-clause-ok : goal.returns-in-Ok-clause-ok
+returns-in-Ok-clause-ok c =
+    let ok = c.in_ok-statuses.ensures.ok in
+    report_by c.args.levels.now c.args.answers.now c.in_ok-statuses.statuses.items _ c.in_ok-statuses.summary ok.0
+    (c.in-Ok.ensures ∙ ap report_text c.deref.ensures.value) ok.1

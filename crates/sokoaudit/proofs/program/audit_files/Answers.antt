@@ -14,7 +14,7 @@ returns-clause-printed g c known =
     let (text, report, now) = c.in_ok-summary.ensures.ok levels_text answers_text levels_left answers_left in (
       text,
       Appends-kept _ _ _ text now c.flush.ensures.same,
-      (levels_text, levels_is, answers_text, answers_is, c.in_ok-summary.summary, report, c.report_status.ensures.value),
+      (levels_text, levels_is, answers_text, answers_is, c.in_ok-summary.summary, report, c.exit_status.ensures.value),
     )
 
 pub returns-in_err-summary-clause-kept : goal.returns-in_err-summary-clause-kept

@@ -1,5 +1,6 @@
 use Rattle.std.proofs.Common.{ap, ◌∙◌}
-use Rattle.sokoaudit_c.specs.Outcome.{outcome_of_report, status_of}
+use Rattle.report.specs.Summary.{status_of}
+use Rattle.sokoaudit_c.specs.Outcome.{outcome_of_report}
 use Rattle.sokoaudit_c.proofs.Entries.{are_right, spell_report}
 use Rattle.sokoaudit_c.proofs.verdicts.sokoaudit_lines.Goals as goal
 
@@ -14,7 +15,7 @@ returns-in-Ok-clause-done c _ =
       holds,
       are_right c.args.levels.now c.args.answers.now statuses are c.args.lines.now c.put_lines.new.lines holds,
       c.of_report.ensures ∙ ap (outcome_of_report 0) numbers,
-      c.exit_status.ensures.value ∙ ap status_of numbers,
+      c.into.ensures ∙ (c.exit_status.ensures.value ∙ ap status_of numbers),
     )
 
 pub returns-in-Ok-clause-printed : goal.returns-in-Ok-clause-printed

@@ -1,5 +1,5 @@
 -- The invariant is `IsFlipping`: the goals from the end of the path up to the freed one have their new boxes already. It holds at the
--- start, where the free goal is freed. Each turn writes one entry, whose index is that of the freed goal, and frees the goal before it on
+-- start, where the free goal is freed. Each turn writes one entry, at the index of the freed goal, and frees the goal before it on
 -- the path, which an earlier visit is at. So the number of flips that are left falls. At the end the box of the search gets the freed
 -- goal, and the table is a matching of one box more.
 use Rattle.std.proofs.Common.{◌≡◌, ◌∙◌, ap}
