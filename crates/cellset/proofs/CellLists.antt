@@ -36,11 +36,11 @@ subset_more xs t i d lt = ap (λ s. set.is_subset s t) (set_more xs i d lt) ∙ 
 -- ---- what holds of every cell of two lists, and of the two joined
 pub all_join : (P : Cell → Type 0) (l r : List Cell) → AllByRecursion P l → AllByRecursion P r → AllByRecursion P (l ++ r)
 all_join P [] r a b = b
-all_join P (x ∷ l) r a b = (a.0, all_join P l r a.1 b)
+all_join P (x ∷ l) r a b = search (all_join P l r a.1 b)
 
 pub all_left : (P : Cell → Type 0) (l r : List Cell) → AllByRecursion P (l ++ r) → AllByRecursion P l
 all_left P [] r a = tt
-all_left P (x ∷ l) r a = (a.0, all_left P l r a.1)
+all_left P (x ∷ l) r a = search (all_left P l r a.1)
 
 pub all_right : (P : Cell → Type 0) (l r : List Cell) → AllByRecursion P (l ++ r) → AllByRecursion P r
 all_right P [] r a = a

@@ -1,7 +1,7 @@
 -- Elements of lists, lists in strict order, and what a filter keeps of them.
 -- Suppose that two tests agree on everything after an element, that both fail on everything before it, and that only
 -- the first passes the element itself. Then the first filter keeps that element, followed by what the second keeps.
-use Rattle.std.proofs.Common.{◌≡◌, zero, suc, Bool, true, false, cond, List, [], ◌∷◌, ◌++◌, refl, sym, ◌∙◌, ap, subst, inl, arith}
+use Rattle.std.proofs.Common.{◌≡◌, zero, suc, Bool, true, false, cond, List, [], ◌∷◌, ◌++◌, refl, sym, ◌∙◌, ap, inl, arith}
 use Rattle.std.specs.Prelude.{◌⊎◌}
 use Rattle.std.specs.List.{Contains, AllByRecursion, filter}
 use Rattle.std.specs.List.Sorted.{IsStrictlySortedBy}
@@ -32,7 +32,7 @@ module _ {X : Type 0} where
   pub filter_kept : (t : X → Bool) (xs : List X) (x : X) → Contains xs x → t x ≡ true → Contains (filter t xs) x
   filter_kept t [] x (k, within, is) pass = absurd (omega arith)
   filter_kept t (y ∷ xs) x h pass = either (in_cases y xs x h)
-      (λ e. rw (← (sym (sym (ap t e) ∙ pass))) (subst (Contains (y ∷ filter t xs)) (sym e) (first_in y (filter t xs))))
+      (λ e. grind arith)
       (λ later. elim (t y) as (λ b. Contains (cond b (y ∷ filter t xs) (filter t xs)) x) [
         | true ↦ later_in y (filter t xs) x (filter_kept t xs x later pass)
         | false ↦ filter_kept t xs x later pass
@@ -46,14 +46,11 @@ module _ {X : Type 0} where
 
   pub filter_none : (t : X → Bool) (xs : List X) → ((x : X) → Contains xs x → t x ≡ false) → filter t xs ≡ []
   filter_none t [] f = refl
-  filter_none t (x ∷ xs) f =
-      ap (λ b. cond b (x ∷ filter t xs) (filter t xs)) (f x (first_in x xs)) ∙ filter_none t xs (λ y h. f y (later_in x xs y h))
+  filter_none t (x ∷ xs) f = grind (arith, filter_none t xs (λ y h. f y (later_in x xs y h)))
 
   pub filter_same : (t u : X → Bool) (xs : List X) → ((x : X) → Contains xs x → t x ≡ u x) → filter t xs ≡ filter u xs
   filter_same t u [] f = refl
-  filter_same t u (x ∷ xs) f =
-      let rest = filter_same t u xs (λ y h. f y (later_in x xs y h)) in
-      λ i. cond (f x (first_in x xs) i) (x ∷ rest i) (rest i)
+  filter_same t u (x ∷ xs) f = grind (arith, filter_same t u xs (λ y h. f y (later_in x xs y h)))
 
 module _ {X : Type 0} (R : X → X → Ordering) where
   pub sorted_append : (xs ys : List X) → IsStrictlySortedBy R xs → IsStrictlySortedBy R ys
@@ -75,9 +72,7 @@ module _ {X : Type 0} (R : X → X → Ordering) where
       ∙ (λ i. sym e i ∷ filter_same t u ys (λ x k. later x (later_in y ys x k) (rw e (of_all (λ z. R y z ≡ Less) ys x s.0 k))) i)
       ∙ ap (λ b. m ∷ cond b (y ∷ filter u ys) (filter u ys)) (sym (sym (ap u e) ∙ fail)))
       (λ k. let before = earlier y (first_in y ys) (of_all (λ z. R y z ≡ Less) ys m s.0 k) in
-      ap (λ b. cond b (y ∷ filter t ys) (filter t ys)) before.0
-      ∙ filter_first t u ys m s.1 k pass fail (λ x l. later x (later_in y ys x l)) (λ x l. earlier x (later_in y ys x l))
-      ∙ ap (λ b. m ∷ cond b (y ∷ filter u ys) (filter u ys)) (sym before.1))
+      grind (arith, filter_first t u ys m s.1 k pass fail (λ x l. later x (later_in y ys x l)) (λ x l. earlier x (later_in y ys x l))))
 
   -- in a sorted list, what is less than an element comes before it
   pub in_front : ((x : X) → R x x ≡ Less → ⊥) → ((x y z : X) → R x y ≡ Less → R y z ≡ Less → R x z ≡ Less) → (came rest : List X) (x y : X)

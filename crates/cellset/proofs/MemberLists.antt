@@ -81,10 +81,7 @@ all_left shape s from on start =
     let has = λ (q : Cell) (h : Contains list q). (and_parts (contains s q) (is_left from q)
     (filter_from (passes s from) (grid_cells shape) q h).1).0 in
     record {
-      exact = λ q. (
-        has q,
-        λ member. filter_kept (passes s from) (grid_cells shape) q (grid_has shape q (on q member)) (passing s from q member (begun q member from start)),
-      );
+      exact = λ q. search (filter_kept, grid_has, passing, begun);
       on = λ q h. on q (has q h);
       in_order = IsStrictlySortedBy-filter cell_cmp (passes s from) (grid_cells shape) (grid_sorted shape);
     }

@@ -1,6 +1,6 @@
 -- Steps on a grid. Rows and columns count from 1, so a step from a cell of the grid never subtracts from 0, and the
 -- opposite step leads back.
-use Rattle.std.proofs.Common.{◌≡◌, ◌-◌, ◌≤◌, arith}
+use Rattle.std.proofs.Common.{◌≡◌, ◌≤◌, arith}
 use Rattle.cellset.specs.Cell.{neighbor, opposite}
 use Rattle.cellset.specs.declared.cell.Cell.{Cell}
 use Rattle.cellset.specs.declared.dir.Dir.{Dir}

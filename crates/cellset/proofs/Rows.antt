@@ -89,7 +89,7 @@ first_on shape row part k on = grind arith
 
 -- the bit of a cell on the grid is none of the bits before the first cell
 led : (shape : Extent) (row part k : ℕ) → IsOn shape (row_cell row part k) → 1 - part ≤ k
-led shape row part k on = let l = on.left in omega arith
+led shape row part k on = omega arith
 
 cell_on : (shape : Extent) (row part k : ℕ) → IsOn shape (first_cell row part) → 1 - part ≤ k → 64 * part + k ≤ shape.width → IsOn shape (row_cell row part k)
 cell_on shape row part k on from within = grind arith
@@ -109,22 +109,13 @@ pub record IsCutPart (shape : Extent) (words : List ℕ) (row part taken bits : 
 
 pub row_taken : (shape : Extent) (words : List ℕ) (row part taken bits : ℕ) → IsCutPart shape words row part taken bits
     → IsRowOf (members_of shape words) row part (bits * 2 ^ (1 - part) % 2 ^ 64)
-row_taken shape words row part taken bits cut = λ k small.
-    either (cases_lt k (1 - part))
-    (λ before. bit_up_below bits (1 - part) k small before ∙ none k (λ on. let from = led shape row part k on in omega arith))
-    (λ from. bit_up bits (1 - part) k small from ∙ told k small from)
+row_taken shape words row part taken bits cut = grind (arith, either, cases_lt, bit_up_below, led, bit_up, none, told)
   where
     none : (k : ℕ) → (IsOn shape (row_cell row part k) → ⊥) → false ≡ contains (members_of shape words) (row_cell row part k)
-    none k off = sym (lacks_where (members_of shape words) (row_cell row part k) (λ has. off (member_on shape words (row_cell row part k) has)))
+    none k off = search (lacks_where, member_on)
 
     told : (k : ℕ) → k < 64 → 1 - part ≤ k → bit bits (k - (1 - part)) ≡ contains (members_of shape words) (row_cell row part k)
-    told k small from =
-        let first = cut.first in
-        either (cases_lt (k - (1 - part)) (shape.width + 1 - (64 * part + (1 - part))))
-        (λ lt. cut.inside (k - (1 - part)) lt ∙ cut.taken_are (k - (1 - part)) (omega arith)
-        ∙ ap (has_bit words) (sym (side_by_side shape row part k from))
-        ∙ sym (contains_on shape words (row_cell row part k) (cell_on shape row part k first from (omega arith))))
-        (λ past. cut.outside (k - (1 - part)) past ∙ none k (λ on. let r = on.right in omega arith))
+    told k small from = grind (arith, either, cases_lt, side_by_side, contains_on, cell_on, none)
 
 pub row_is_on : (shape : Extent) (words : List ℕ) (row part bits : ℕ) → IsRowOf (members_of shape words) row part bits → IsRowOn shape row part bits
 row_is_on shape words row part bits is = grind (arith, member_on)
@@ -153,8 +144,7 @@ pub record IsPartOf (shape : Extent) (row part bits : ℕ) (q : Cell) : Type 0 w
 in_part : (shape : Extent) (row part bits : ℕ) (q : Cell) → IsRowOn shape row part bits → Has (cells_of_row row part bits) q → IsPartOf shape row part bits q
 in_part shape row part bits q row_on has =
     let i = has_in_row row part bits 64 q has in
-    let from = led shape row part i.k (row_on i.k i.below i.is_set) in
-    record { k = i.k; is_set = i.is_set; from = from; at = ap (index shape) i.here ∙ side_by_side shape row part i.k from }
+    grind arith
 
 -- a set bit of a part has its cell on the grid, at its distance from the first cell
 part_at : (shape : Extent) (row part bits j : ℕ) → IsRowOn shape row part bits → bits < 2 ^ 64 → bit bits (1 - part + j) ≡ true
@@ -176,7 +166,7 @@ row_bit shape row part bits q row_on fits on from =
     (λ f. absurd (index_apart shape q (row_cell row part (1 - part + j)) on there.0 f same_place)))
     (λ unset. unset ∙ sym (lacks_where (cells_of_row row part bits) q (λ has.
     let i = in_part shape row part bits q row_on has in
-    let j_is : 1 - part + j ≡ i.k = let at = i.at in let low = i.from in omega arith in
+    let j_is : 1 - part + j ≡ i.k = omega arith in
     false≢true (sym unset ∙ ap (bit bits) j_is ∙ i.is_set))))
 
 -- a cell before the part isn't a cell of the part
@@ -184,7 +174,6 @@ row_after : (shape : Extent) (row part bits : ℕ) (q : Cell) → IsRowOn shape 
     → Lacks (cells_of_row row part bits) q
 row_after shape row part bits q row_on before = lacks_where (cells_of_row row part bits) q (λ has.
     let i = in_part shape row part bits q row_on has in
-    let at = i.at in
     omega arith)
 
 pub row_members : (shape : Extent) (old new : List ℕ) (row part bits : ℕ) → IsBitsOf shape old → IsRowAdded shape old new row part bits
@@ -248,9 +237,6 @@ row_empty s row part bits none = same_cells _ _ (λ q. sym (
 pub record IsRowRead (s : Cells) (row part bits k : ℕ) : Type 0 where
   pub done : (j : ℕ) → j < k → bit bits j ≡ contains s (row_cell row part j)
   pub rest : (j : ℕ) → k ≤ j → bit bits j ≡ false
-
-pub none_read : (s : Cells) (row part : ℕ) → IsRowRead s row part 0 0
-none_read s row part = grind (arith, zero_bit)
 
 pub member_read : (s : Cells) (row part bits k : ℕ) → IsRowRead s row part bits k → k < 64 → Has s (row_cell row part k)
     → IsRowRead s row part (bit_or bits (1 * 2 ^ k % 2 ^ 64)) (k + 1)

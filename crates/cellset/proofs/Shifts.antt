@@ -60,16 +60,7 @@ taken_last words n fits last k small = grind (arith, either, cases_lt, taken_low
 
 pub taken_both : (words : List ℕ) (n : ℕ) → word_of words n < 2 ^ 64 → (k : ℕ) → k < 64
     → bit (bit_or (word_of words n / 2 ^ (n % 64)) (get_or words (n / 64 + 1) 0 * 2 ^ (64 - n % 64) % 2 ^ 64)) k ≡ has_bit words (n + k)
-taken_both words n fits k small =
-    let low = word_of words n / 2 ^ (n % 64) in
-    let next = get_or words (n / 64 + 1) 0 in
-    let high = next * 2 ^ (64 - n % 64) % 2 ^ 64 in
-    bit-or low high k ∙ either (cases_lt (n % 64 + k) 64)
-    (λ inside. (λ i. taken_low words n k inside i || bit_up_below next (64 - n % 64) k small (omega arith) i) ∙ or-false (has_bit words (n + k)))
-    (λ past.
-    let there : 64 * (n / 64 + 1) + (k - (64 - n % 64)) ≡ n + k = omega arith in
-    (λ i. taken_past words n k fits past i || bit_up next (64 - n % 64) k small (omega arith) i)
-    ∙ sym (bit_there words (n / 64 + 1) (k - (64 - n % 64)) (omega arith)) ∙ ap (has_bit words) there)
+taken_both words n fits k small = grind (arith, bit-or, either, cases_lt, taken_low, bit_up_below, or-false, taken_past, bit_up, bit_there)
 
 -- ---- bits set
 abbrev joined : List ℕ → ℕ → ℕ → List ℕ
@@ -111,11 +102,7 @@ both_before words n bits lt k before = grind (arith, joined_apart, first_before)
 pub both_from : (words : List ℕ) (n bits : ℕ) → n / 64 + 1 < length words → bits < 2 ^ 64 → (k : ℕ) → n ≤ k
     → has_bit (both_set words n bits) k ≡ (has_bit words k || bit bits (k - n))
 both_from words n bits lt fits k from =
-    let down = bits / 2 ^ (64 - n % 64) in
     either (cases_eq (k / 64) (n / 64 + 1))
     (λ e.
-    let there : 64 - n % 64 + k % 64 ≡ k - n = omega arith in
-    joined_here (first_set words n bits) (n / 64 + 1) down k (rw length-set lt) e
-    ∙ (λ i. joined_apart words (n / 64) (up n bits) k (λ f. omega arith) i || (bit_down bits (64 - n % 64) (k % 64) ∙ ap (bit bits) there) i))
-    (λ ne. joined_apart (first_set words n bits) (n / 64 + 1) down k ne
-    ∙ first_from words n bits (omega arith) fits k from (λ other. omega arith))
+    grind (arith, joined_here, joined_apart, bit_down, length-set))
+    (λ ne. grind (arith, joined_apart, first_from))

@@ -2,18 +2,17 @@
 -- The search holds a word whose bits from n on are the bits of word i, and has found none before.
 -- The count of a word is the sum of its bits, so each word adds its count to that of the bits below it.
 use Rattle.std.proofs.Common.{◌≡◌, ◌≢◌, ℕ, zero, suc, ◌+◌, ◌-◌, ◌*◌, ◌/◌, ◌%◌, ◌^◌, ◌<◌, ◌≤◌, Bool, true, false, cond, not, ◌&&◌, List, [], ◌∷◌, length, get_or}
-use Rattle.std.proofs.Common.{max, replicate, Some, refl, sym, ◌∙◌, ap, arith}
+use Rattle.std.proofs.Common.{replicate, Some, refl, sym, ◌∙◌, ap, arith}
 use Rattle.std.specs.Prelude.{nat_eq, bit_or, bit_and}
 use Rattle.std.proofs.lemmas.Bool.{false≢true, cases_lt}
 use Rattle.std.proofs.lemmas.Nat.Bits.{bit_at-zero, bit_at-suc, bit_at_lowest, bit_at-lt, bit_at_mask_inside, bit_at_mask_below, bit_at_or, same_from_bits}
 use Rattle.std.proofs.lemmas.Nat.Bits.{ones_shl, bit_at-trailing_zeros}
-use Rattle.std.specs.Int.{bit_at, bit_not, w64, trailing_zeros}
+use Rattle.std.specs.Int.{bit_not, w64, trailing_zeros}
 use Rattle.std.specs.Int.Bits.{and_lt}
 use Rattle.std.specs.Prelude.{count_ones}
 use Rattle.std.specs.Int.Count.{ones_step}
 use Rattle.std.proofs.lemmas.Nat.{ones-le}
 use Rattle.std.proofs.Math.Bool.{and-false, and-true}
-use Rattle.std.proofs.Math.Nat.{pow-suc}
 use Rattle.cellset.specs.Bits.{bit, has_bit, bits_below, IsFirstBit}
 use Rattle.cellset.proofs.Truth.{either}
 use Rattle.cellset.proofs.Bits.{bit-and, bit-not}
@@ -36,8 +35,7 @@ word_past (w ∷ ws) zero h = absurd (omega arith)
 word_past (w ∷ ws) (suc i) h = word_past ws i (omega arith)
 
 pub or_zero : (a b : ℕ) → b ≡ 0 → a ≡ bit_or a b
-or_zero a b none = same_from_bits a (bit_or a b) (λ i. sym
-    (bit_at_or a b i ∙ ap (λ n. max (bit_at a i) (bit_at n i)) none ∙ ap (max (bit_at a i)) (bit_at-zero i) ∙ (omega arith)))
+or_zero a b none = same_from_bits a (bit_or a b) (λ i. grind (arith, bit_at_or, bit_at-zero))
 
 pub none_past : (words : List ℕ) (k : ℕ) → length words ≤ k / 64 → has_bit words k ≡ false
 none_past words k past = search (word_past, zero_bit)
@@ -74,9 +72,8 @@ search_starts words n lt fits =
       within = lt;
       from = omega arith;
       fits = and_lt 64 w mask fits (omega arith);
-      same = λ j small from. bit-and w mask j ∙ ap (λ b. bit w j && b) (mask_inside (n % 64) j (omega arith) small) ∙ and-true (bit w j)
-          ∙ sym (bit_there words (n / 64) j small);
-      masked = λ j small before. bit-and w mask j ∙ ap (λ b. bit w j && b) (mask_below (n % 64) j (omega arith) (omega arith)) ∙ and-false (bit w j);
+      same = λ j small from. grind (arith, bit-and, mask_inside, and-true, bit_there);
+      masked = λ j small before. grind (arith, bit-and, mask_below, and-false);
       passed = λ k low high. absurd (omega arith);
     }
 
@@ -95,19 +92,7 @@ pub search_finds : (words : List ℕ) (n i word : ℕ) → IsSearched words n i 
 search_finds words n i word s some =
     let t = trailing_zeros w64 word in
     let lowest = bit_at-trailing_zeros w64 word (omega arith) s.fits in
-    let small = lowest.0 in
-    let is_set : bit word t ≡ true = ap (λ b. nat_eq b 1) lowest.1 in
-    let low : n ≤ 64 * i + t = either (cases_lt (64 * i + t) n) (λ lt. absurd (false≢true (sym (s.masked t small lt) ∙ is_set))) (λ ge. ge) in (
-      low,
-      sym (s.same t small low) ∙ is_set,
-      (λ k from lt.
-          either (cases_lt k (64 * i)) (s.passed k from)
-          (λ ge.
-          let there : 64 * i + (k - 64 * i) ≡ k = omega arith in
-          let below : k - 64 * i < t = omega arith in
-          ap (has_bit words) (sym there) ∙ sym (s.same (k - 64 * i) (omega arith) (omega arith))
-          ∙ ap (λ b. nat_eq b 1) (lowest.2 (k - 64 * i) below))),
-    )
+    grind arith
 
 -- ---- the count
 abbrev one_if : Bool → ℕ
@@ -127,15 +112,12 @@ bit_counted (suc (suc a)) h = absurd (omega arith)
 ones_front : (w m : ℕ) → ones_below w (suc m) ≡ w % 2 + ones_below (w / 2) m
 unfolding ones_below
 ones_front w zero = grind (arith, bit_counted, bit_at-lt, bit_at_lowest)
-ones_front w (suc m) =
-    let rest = ones_front w m in
-    let next = ap (λ b. one_if (nat_eq b 1)) (bit_at-suc w m) in
-    omega arith
+ones_front w (suc m) = grind (arith, bit_at-suc, ones_front w m)
 
 ones_all : (m w : ℕ) → w < 2 ^ m → ones_below w m ≡ count_ones w
 unfolding ones_below
 ones_all zero w h = grind (arith, ones-le)
-ones_all (suc m) w h = ones_front w m ∙ ap (λ n. w % 2 + n) (ones_all m (w / 2) (let double = pow-suc 2 m in omega arith)) ∙ sym (ones_step w)
+ones_all (suc m) w h = ones_front w m ∙ ap (λ n. w % 2 + n) (ones_all m (w / 2) (omega arith)) ∙ sym (ones_step w)
 
 count_within : (words : List ℕ) (i m : ℕ) → m ≤ 64 → bits_below words (64 * i + m) ≡ bits_below words (64 * i) + ones_below (get_or words i 0) m
 unfolding bits_below ones_below
@@ -154,7 +136,7 @@ pub count_word : (words : List ℕ) (i : ℕ) → get_or words i 0 < 2 ^ 64
     → bits_below words (64 * (i + 1)) ≡ bits_below words (64 * i) + count_ones (get_or words i 0)
 count_word words i fits =
     let up : 64 * (i + 1) ≡ 64 * i + 64 = omega arith in
-    ap (bits_below words) up ∙ count_within words i 64 (omega arith) ∙ ap (λ n. bits_below words (64 * i) + n) (ones_all 64 (get_or words i 0) fits)
+    grind (arith, count_within, ones_all)
 
 -- at most n of the first n bits are set
 pub count_le : (words : List ℕ) (n : ℕ) → bits_below words n ≤ n
@@ -193,7 +175,7 @@ pub all_within : (words others : List ℕ) → ((i : ℕ) → get_or others i 0 
 all_within words others fits none n h =
     let a = get_or words (n / 64) 0 in
     let b = get_or others (n / 64) 0 in
-    let inside : n / 64 < length words = either (cases_lt (n / 64) (length words)) (λ lt. lt) (λ ge. absurd (false≢true (sym (none_past words n ge) ∙ h))) in
+    let inside : n / 64 < length words = grind (arith, either, cases_lt, false≢true, none_past) in
     let j = n % 64 in
     within_false (bit a j) (bit b j) (ap (λ c. bit a j && c) (sym (bit-not b j (fits (n / 64)) (omega arith))) ∙ sym (bit-and a (bit_not w64 b) j)
     ∙ ap (λ w. bit w j) (none (n / 64) inside) ∙ zero_bit j) h
@@ -219,8 +201,7 @@ count_four words i fits =
     let one = step i (i + 1) (omega arith) in
     let two = step (i + 1) (i + 2) (omega arith) in
     let three = step (i + 2) (i + 3) (omega arith) in
-    let four = step (i + 3) (i + 4) (omega arith) in
-    omega arith
+    grind (arith, step)
   where
     step : (j k : ℕ) → j + 1 ≡ k → bits_below words (64 * k) ≡ bits_below words (64 * j) + count_ones (get_or words j 0)
     step j k e = ap (λ n. bits_below words (64 * n)) (sym e) ∙ count_word words j (fits j)
