@@ -3,7 +3,6 @@
 use Rattle.std.proofs.Common.{◌≡◌, ℕ, ◌+◌, ◌-◌, ◌*◌, ◌/◌, ◌%◌, ◌^◌, ◌<◌, ◌≤◌, List, length, get_or, refl, ◌∙◌, inl, inr, arith}
 use Rattle.std.specs.Prelude.{◌↔◌, bit_or}
 use Rattle.std.proofs.Math.ListN.{set, length-set}
-use borrow.Author.Count.{below_more}
 use Rattle.std.proofs.lemmas.Bool.{cases_lt}
 use Rattle.std.proofs.lemmas.List.{get_or_past, get_or-set_other}
 use Rattle.reach.specs.Bits.{Bit, HasBit, Run, FromBelow, FromAbove}
@@ -56,25 +55,25 @@ module _ (free seeds : List ℕ) where
       → IsUpTo row i carry → IsUpTo (set row i got) (i + 1) (got / 2 ^ 63)
   upward_more row i carry got within fits word_fits filled u = record {
     long = length-set row i got ∙ u.long;
-    fit = below_more (λ j. get_or seeds j 0 < 2 ^ 64) i u.fit (rw (u.rest i (omega arith)) at word_fits);
+    fit = grind arith;
     small = omega arith;
     done = λ k h. elim (cases_lt k (64 * i)) [
       | inl old ↦ (
         (λ b. wrote_cases row i got (k / 64) (k % 64) within b (λ e _. absurd (omega arith)) (λ _ kept. (u.done k old).0 kept)),
-        (λ b. wrote_other row i got (k / 64) (k % 64) (omega arith) ((u.done k old).1 b)),
+        (λ b. grind (arith, wrote_other)),
       )
       | inr new ↦
           let word : k / 64 ≡ i = omega arith in
           let place : k ≡ 64 * i + k % 64 = omega arith in (
             (λ b. wrote_cases row i got (k / 64) (k % 64) within b (λ _ g. there (k % 64) k (omega arith) place g) (λ ne _. absurd (ne word))),
-            (λ b. wrote_same row i got (k / 64) (k % 64) within word (back (k % 64) k (omega arith) place b)),
+            (λ b. grind (arith, wrote_same, back)),
           )
     ];
     rest = λ j h. get_or-set_other row i j got 0 (omega arith) ∙ u.rest j (omega arith);
     came = λ b h.
         let last = bit_shr got 63 b h in
         let in_word = bit_below got 64 (63 + b) fits last in
-        (omega arith, omega arith, there (63 + b) (64 * (i + 1) - 1) in_word (omega arith) last);
+        grind (arith, there);
     comes = λ _ h. bit_shr_from got 63 0 (back (63 + 0) (64 * (i + 1) - 1) (omega arith) (omega arith) h);
   }
     where
@@ -86,43 +85,28 @@ module _ (free seeds : List ℕ) where
           (λ old. record {
             seed = 64 * i + f.seed;
             below = omega arith;
-            is_seed = of_word seeds i f.seed (64 * i + f.seed) (omega arith) refl (rw (u.rest i (omega arith)) at old);
+            is_seed = grind arith;
             run = run_of_word free i f.seed b (64 * i + f.seed) k below refl e f.run;
           })
           (λ c.
-          let (first, some, before) = u.came f.seed c in
-          let low' = before.below in
-          record {
-            seed = before.seed;
-            below = omega arith;
-            is_seed = before.is_seed;
-            run = run_then (HasBit free) before.seed (64 * i - 1) k before.run (run_of_word free i f.seed b (64 * i - 1 + 1) k below (omega arith) e f.run);
-          })
+          grind (arith, run_then, run_of_word))
 
       back : (b k : ℕ) → b < 64 → k ≡ 64 * i + b → Below k → Bit got b
       back b k below e h =
-          let low = h.below in
           (filled b).1 (elim (cases_lt h.seed (64 * i)) [
             | inr here ↦
                 let place : h.seed ≡ 64 * i + (h.seed - 64 * i) = omega arith in
                 record {
                   seed = h.seed - 64 * i;
                   below = omega arith;
-                  is_seed = bit_or_l _ carry _ (rw (u.rest i (omega arith)) (to_word seeds i _ h.seed (omega arith) place h.is_seed));
+                  is_seed = grind (arith, bit_or_l, to_word);
                   run = run_to_word free i (h.seed - 64 * i) b h.seed k below place e h.run;
                 }
             | inl before ↦ record {
               seed = 0;
               below = omega arith;
-              is_seed = bit_or_r (get_or row i 0) carry 0
-                  (u.comes (omega arith) (record {
-                    seed = h.seed;
-                    below = omega arith;
-                    is_seed = h.is_seed;
-                    run =
-                        run_within (HasBit free) h.seed k h.seed (64 * i - 1) (omega arith) (omega arith) h.run;
-                  }));
-              run = run_to_word free i 0 b (64 * i + 0) k below refl e (run_within (HasBit free) h.seed k (64 * i + 0) k (omega arith) (omega arith) h.run);
+              is_seed = bit_or_r (get_or row i 0) carry 0 (grind arith);
+              run = grind (arith, run_to_word, run_within);
             }
           ])
 
@@ -144,9 +128,6 @@ module _ (free seeds : List ℕ) where
     pub came : (b : ℕ) → Bit carry b → (b ≡ 63) × Above (64 * i)
     pub comes : Above (64 * i) → Bit carry 63
 
-  pub downward_start : (n : ℕ) → length free ≡ n → length seeds ≡ n → IsDownTo seeds n 0
-  downward_start n long_free long = grind (arith, none_past, no_bit_zero)
-
   pub downward_more : (row : List ℕ) (i carry got : ℕ) → i < length row → get_or free i 0 < 2 ^ 64
       → ((b : ℕ) → Bit got b ↔ FromAbove (Bit (get_or free i 0)) (Bit (bit_or (get_or row i 0) carry)) b)
       → IsDownTo row (i + 1) carry → IsDownTo (set row i got) i (got * 2 ^ 63 % 2 ^ 64)
@@ -155,19 +136,19 @@ module _ (free seeds : List ℕ) where
     done = λ k h. elim (cases_lt k (64 * (i + 1))) [
       | inr old ↦ (
         (λ b. wrote_cases row i got (k / 64) (k % 64) within b (λ e _. absurd (omega arith)) (λ _ kept. (d.done k old).0 kept)),
-        (λ b. wrote_other row i got (k / 64) (k % 64) (omega arith) ((d.done k old).1 b)),
+        (λ b. grind (arith, wrote_other)),
       )
       | inl new ↦
           let word : k / 64 ≡ i = omega arith in
           let place : k ≡ 64 * i + k % 64 = omega arith in (
             (λ b. wrote_cases row i got (k / 64) (k % 64) within b (λ _ g. there (k % 64) k (omega arith) place g) (λ ne _. absurd (ne word))),
-            (λ b. wrote_same row i got (k / 64) (k % 64) within word (back (k % 64) k (omega arith) place b)),
+            (λ b. grind (arith, wrote_same, back)),
           )
     ];
     rest = λ j h. get_or-set_other row i j got 0 (omega arith) ∙ d.rest j (omega arith);
     came = λ b h.
         let (below, high, first) = bit_shl got 63 64 b h in
-        (omega arith, there (b - 63) (64 * i) (omega arith) (omega arith) first);
+        grind (arith, there);
     comes = λ h. bit_shl_from got 63 64 63 (omega arith) (omega arith) (back (63 - 63) (64 * i) (omega arith) (omega arith) h);
   }
     where
@@ -180,45 +161,33 @@ module _ (free seeds : List ℕ) where
           (λ old. record {
             seed = 64 * i + f.seed;
             above = omega arith;
-            is_seed = of_word seeds i f.seed (64 * i + f.seed) in_word refl (rw (d.rest i (omega arith)) at old);
+            is_seed = grind arith;
             run = run_of_word free i b f.seed k (64 * i + f.seed) in_word e refl f.run;
           })
           (λ c.
           let (last, after) = d.came f.seed c in
-          let high' = after.above in
-          let next : 64 * (i + 1) ≡ 64 * i + f.seed + 1 = omega arith in
           record {
             seed = after.seed;
             above = omega arith;
             is_seed = after.is_seed;
-            run = run_then (HasBit free) k (64 * i + f.seed) after.seed (run_of_word free i b f.seed k (64 * i + f.seed) in_word e refl f.run)
-                (rw next at after.run);
+            run = grind arith;
           })
 
       back : (b k : ℕ) → b < 64 → k ≡ 64 * i + b → Above k → Bit got b
       back b k below e h =
-          let high = h.above in
           (filled b).1 (elim (cases_lt h.seed (64 * (i + 1))) [
             | inl here ↦
                 let place : h.seed ≡ 64 * i + (h.seed - 64 * i) = omega arith in
                 record {
                   seed = h.seed - 64 * i;
                   above = omega arith;
-                  is_seed = bit_or_l _ carry _ (rw (d.rest i (omega arith)) (to_word seeds i _ h.seed (omega arith) place h.is_seed));
+                  is_seed = grind (arith, bit_or_l, to_word);
                   run = run_to_word free i b (h.seed - 64 * i) k h.seed (omega arith) e place h.run;
                 }
             | inr after ↦ record {
               seed = 63;
               above = omega arith;
-              is_seed = bit_or_r (get_or row i 0) carry 63
-                  (d.comes (record {
-                    seed = h.seed;
-                    above = after;
-                    is_seed = h.is_seed;
-                    run =
-                        run_within (HasBit free) k h.seed (64 * (i + 1)) h.seed (omega arith) (omega arith) h.run;
-                  }));
-              run = run_to_word free i b 63 k (64 * i + 63) (omega arith) e refl
-                  (run_within (HasBit free) k h.seed k (64 * i + 63) (omega arith) (omega arith) h.run);
+              is_seed = bit_or_r (get_or row i 0) carry 63 (grind arith);
+              run = grind (arith, run_to_word, run_within);
             }
           ])

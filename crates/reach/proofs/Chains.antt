@@ -2,7 +2,7 @@
 -- Each cell of the region is reached from a seed, and no step leads out of the region from a row outside the worklist. A look takes
 -- a row from the worklist, adds what steps along it reach, and adds to the rows above and below what steps from it reach. Each of
 -- those two joins the worklist if it grew. Once the worklist is empty, no step leads out of the region, so it has all that is reached.
-use Rattle.std.proofs.Common.{◌≡◌, ℕ, ◌+◌, ◌*◌, ◌^◌, ◌<◌, ◌≤◌, List, [], length, get_or, sym, ◌∙◌, inl, inr, arith}
+use Rattle.std.proofs.Common.{◌≡◌, ℕ, ◌+◌, ◌*◌, ◌^◌, ◌<◌, ◌≤◌, List, [], length, get_or, ◌∙◌, inl, inr, arith}
 use Rattle.std.specs.Prelude.{◌⊎◌, ◌↔◌, sum}
 use Rattle.std.proofs.Math.ListN.{set}
 use Rattle.std.proofs.lemmas.Bool.{cases_eq}
@@ -29,7 +29,7 @@ reached_more L S T f c (by_step b before step) = by_step b (reached_more L S T f
 -- a set that no step leads out of has all that is reached from it
 pub reached_within : (L : Cell → Cell → Type 0) (S : Cell → Type 0) → IsClosedUnder L S → (c : Cell) → Reached L S c → S c
 reached_within L S closed c (at_seed seed) = seed
-reached_within L S closed c (by_step b before step) = closed b c (reached_within L S closed b before) step
+reached_within L S closed c (by_step b before step) = search (reached_within L S closed b before)
 
 -- the invariant of a flood
 pub record IsGrowing (L : Cell → Cell → Type 0) (Seed Region : Cell → Type 0) (Waits : ℕ → Type 0) : Type 0 where
@@ -48,7 +48,7 @@ growing_more L S G G' W Rest W' row g rest s = grind (arith, reached_twice, eith
 -- with an empty worklist the region is complete
 complete : (L : Cell → Cell → Type 0) (S G : Cell → Type 0) (W : ℕ → Type 0) → ((k : ℕ) → W k → ⊥) → IsGrowing L S G W → (c : Cell) → Reached L S c → G c
 complete L S G W none g c (at_seed seed) = g.kept c seed
-complete L S G W none g c (by_step b before step) = either (g.settled b (complete L S G W none g b before)) (λ w. absurd (none b.row w)) (λ done. done c step)
+complete L S G W none g c (by_step b before step) = grind (arith, complete L S G W none g b before)
 
 pub growing_end : (L : Cell → Cell → Type 0) (S G : Cell → Type 0) (W : ℕ → Type 0) → ((k : ℕ) → W k → ⊥) → IsGrowing L S G W → (c : Cell) → G c ↔ Reached L S c
 growing_end L S G W none g c = grind (arith, complete)
@@ -69,11 +69,7 @@ pub look : (L : Cell → Cell → Type 0) (row above n : ℕ) (Region Filled Rai
 look L row above n Region Filled Raised New Waits More NewWaits beside within low is_above apart filled up down = record {
   kept = λ c h. down.kept c (up.kept c (filled.kept c h));
   sound = λ c h. either (down.added c h) (sound_up c) (λ (_, _, (b, (from, step))). by_step b (sound_up b from) step);
-  added = λ c h. either (down.added c h)
-      (λ old. either (up.added c old)
-      (λ older. either (filled.added c older) (λ o. inl o) (λ e. inr (inl e)))
-      (λ (_, w, _). inr (inr (down.waits c.row w))))
-      (λ (_, w, _). inr (inr w));
+  added = λ c h. grind arith;
   here = λ b c e h step. go b c e (same_row b e h) step;
   waits = λ k w. down.waits k (up.waits k w);
 }
@@ -82,9 +78,7 @@ look L row above n Region Filled Raised New Waits More NewWaits beside within lo
     sound_up c h = either (up.added c h) (filled.sound c) (λ (_, _, (b, (from, step))). by_step b (filled.sound b from) step)
 
     same_row : (b : Cell) → b.row ≡ row → New b → Filled b
-    same_row b e h = either (down.added b h)
-        (λ old. either (up.added b old) (λ older. older) (λ (to, _, _). absurd (apart (sym to ∙ e))))
-        (λ (to, _, _). absurd (omega arith))
+    same_row b e h = grind arith
 
     go : (b c : Cell) → b.row ≡ row → Filled b → L b c → New c
     go b c e h step =
@@ -102,7 +96,7 @@ pub row_filled : (L : Cell → Cell → Type 0) (region : List (List ℕ)) (y : 
 row_filled L region y row within kept sound closed = record {
   kept = kept_all;
   sound = λ c h. either (written.only c h)
-      (λ (e, bit). rw (as_at c y e) at (reached_more L (InRow y (get_or region y [])) (InRows region) (λ q (f, b). of_row region y q f b) (cell_at c.column y) (sound c.column bit)))
+      (λ (e, bit). grind (arith, as_at, reached_more, of_row))
       (λ (_, old). at_seed old);
   added = λ c h. either (written.only c h) (λ (e, _). inr e) (λ (_, old). inl old);
   closed = λ b c e f h step. written.same c f (closed b.column c.column
@@ -131,11 +125,7 @@ module _ (L : Cell → Cell → Type 0) (region : List (List ℕ)) (from to : �
 
   offered_all : (n : ℕ) (b c : Cell) → b.row ≡ from → c.row ≡ to → c.row < n → c.column ≡ b.column → InRows region b → L b c → InRows (set region to row) c
   offered_all n b c e f low column h step =
-      let at : cell_at c.column from ≡ b = λ j. record { row = sym e j; column = column j } in
-      (row_written region to row within).same c f ((bits c.column).1 (inr (
-        rw column (to_row region from b e h),
-        (leads c.column).1 (rw at (rw (as_at c to f) step)),
-      )))
+      (row_written region to row within).same c f (grind arith)
 
   pub offered_more : (n : ℕ) (W W' : ℕ → Type 0) → ((k : ℕ) → W' k ↔ (W k ⊎ (k ≡ to))) → IsOffered L from to n (InRows region) W (InRows (set region to row)) W'
   offered_more n W W' waits = record {

@@ -1,6 +1,6 @@
 -- How a row gets the free bits of another row, word by word.
-use Rattle.std.proofs.Common.{◌≡◌, ℕ, Bool, true, false, ◌+◌, ◌-◌, ◌*◌, ◌/◌, ◌%◌, ◌^◌, ◌<◌, ◌≤◌, List, [], ◌∷◌, length, get_or, suc, refl, sym, ◌∙◌, ap}
-use Rattle.std.proofs.Common.{inl, inr, arith}
+use Rattle.std.proofs.Common.{◌≡◌, ℕ, ◌+◌, ◌-◌, ◌*◌, ◌/◌, ◌%◌, ◌^◌, ◌<◌, ◌≤◌, List, [], ◌∷◌, length, get_or, suc, ◌∙◌, ap}
+use Rattle.std.proofs.Common.{arith}
 use Rattle.std.specs.Prelude.{◌⊎◌, ◌↔◌, bit_and, bit_or}
 use Rattle.std.specs.Int.{bit_not, w64}
 use Rattle.std.proofs.Math.ListN.{set, length-set}
@@ -41,51 +41,31 @@ module _ (free here start : List ℕ) where
       there = λ k h. wrote_cases row i _ (k / 64) (k % 64) within h
           (λ e b. bit_or_cases (get_or row i 0) gain (k % 64) b
           (λ old. j.there k (moved row i (k / 64) (k % 64) e old))
-          (λ n. let both = bit_and_l _ _ (k % 64) n in
-          inr (moved here i (k / 64) (k % 64) e (bit_and_l _ _ (k % 64) both), moved free i (k / 64) (k % 64) e (bit_and_r _ _ (k % 64) both))))
+          (λ n. grind (arith, bit_and_l, moved, bit_and_r)))
           (λ _ old. j.there k old);
       kept = λ k h. keep k (j.kept k h);
-      got = λ k low h f. elim (cases_lt k (64 * i)) [
-        | inl old ↦ keep k (j.got k old h f)
-        | inr now ↦ either (offered k (omega arith) h f) (keep k)
-            (λ n. wrote_same row i _ (k / 64) (k % 64) within (omega arith) (bit_or_r (get_or row i 0) gain (k % 64) n))
-      ];
+      got = λ k low h f. grind (arith, cases_lt, either, offered, wrote_same, bit_or_r, keep);
       none = λ e. let no_gain : gain ≡ 0 = omega (arith, le_or_r grew gain) in
           rw no_gain (ap (λ n. set row i n) (or_zero_r (get_or row i 0)) ∙ set-get_or row i 0 ∙ j.none (omega (arith, le_or_l grew gain)));
-      less = let less = j.less in omega (arith, rooms, le_or_l (get_or row i 0) gain);
-      some = λ more. elim (cases_lt 0 gain) [
-        | inl new ↦ let less = j.less in omega (arith, rooms, larger new)
-        | inr none ↦
-            let no_gain : gain ≡ 0 = omega arith in
-            let before : bit_or grew gain ≡ grew = ap (λ n. bit_or grew n) no_gain ∙ or_zero_r grew in
-            let less = j.some (omega arith) in
-            omega (arith, rooms, le_or_l (get_or row i 0) gain)
-      ];
+      less = omega (arith, rooms, le_or_l (get_or row i 0) gain);
+      some = λ more. grind (arith, cases_lt, le_or_l, rooms, larger);
     }
       where
         keep : (k : ℕ) → HasBit row k → HasBit (set row i (bit_or (get_or row i 0) gain)) k
-        keep k h = elim (cases_eq (k / 64) i) [
-          | inl e ↦ wrote_same row i _ (k / 64) (k % 64) within e (bit_or_l (get_or row i 0) gain (k % 64) (moved row (k / 64) i (k % 64) (sym e) h))
-          | inr ne ↦ wrote_other row i _ (k / 64) (k % 64) ne h
-        ]
+        keep k h = grind (arith, cases_eq, wrote_same, bit_or_l, moved, wrote_other)
 
         rooms : room_left (set row i (bit_or (get_or row i 0) gain)) + (2 ^ 64 - get_or row i 0) ≡ room_left row + (2 ^ 64 - bit_or (get_or row i 0) gain)
         rooms = omega (arith, sum_by-set (λ w. 2 ^ 64 - w) row i (bit_or (get_or row i 0) gain) 0 within)
 
         larger : 0 < gain → get_or row i 0 < bit_or (get_or row i 0) gain
         larger new =
-            let low = lowest_bit gain new (let le = and_le_r (bit_and (get_or here i 0) (get_or free i 0)) (bit_not w64 (get_or row i 0)) in omega arith) in
+            let low = lowest_bit gain new (grind (arith, and_le_r)) in
             less_by_bit (bit_or (get_or row i 0) gain) (get_or row i 0) _ (le_or_l (get_or row i 0) gain) (bit_or_r (get_or row i 0) gain _ low.1)
             (bit_not_l (get_or row i 0) _ fits (bit_and_r _ _ _ low.1))
 
   pub joined : (row : List ℕ) (n grew : ℕ) → length free ≡ n → IsJoining row n grew → (k : ℕ)
       → HasBit row k ↔ (HasBit start k ⊎ (HasBit here k × HasBit free k))
   joined row n grew long j k = grind (arith, either, cases_lt, none_past)
-
--- ---- a row that joined others has no more room
-pub room_joined : (grew : Bool) (was now : List ℕ) → (grew ≡ false → now ≡ was) → (grew ≡ true → room_left now < room_left was) → room_left now ≤ room_left was
-room_joined true was now none some = omega (arith, some refl)
-room_joined false was now none some = grind arith
 
 -- ---- a row that keeps its bits has no more room
 rooms_le : (xs ys : List ℕ) → length xs ≡ length ys → ((i : ℕ) → get_or ys i 0 ≤ get_or xs i 0) → room_left xs ≤ room_left ys
@@ -103,4 +83,4 @@ pub room_shrinks : (xs ys : List ℕ) → length xs ≡ length ys → ((i : ℕ)
     → room_left xs ≤ room_left ys
 room_shrinks xs ys e fits more = rooms_le xs ys e (λ i. le_by_bits (get_or ys i 0) (get_or xs i 0) (λ b h.
     let below = bit_below (get_or ys i 0) 64 b (fits i) h in
-    to_word xs i b (64 * i + b) below refl (more (64 * i + b) (of_word ys i b (64 * i + b) below refl h))))
+    grind (arith, to_word, of_word)))

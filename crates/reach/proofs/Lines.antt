@@ -1,5 +1,5 @@
 -- Filling a row over clear columns, seen as steps along it: each step leads to the column before or after, if that is clear.
-use Rattle.std.proofs.Common.{◌≡◌, ℕ, ◌+◌, ◌-◌, ◌*◌, ◌/◌, ◌%◌, ◌^◌, ◌<◌, List, length, get_or, refl, sym, ap, inl, inr, arith}
+use Rattle.std.proofs.Common.{◌≡◌, ℕ, ◌+◌, ◌-◌, ◌*◌, ◌/◌, ◌%◌, ◌^◌, ◌<◌, List, length, get_or, refl, ap, inl, inr, arith}
 use Rattle.std.specs.Prelude.{◌⊎◌, ◌↔◌, bit_and, bit_or}
 use Rattle.std.specs.Int.{bit_not, w64}
 use Rattle.std.proofs.Math.ListN.{set, replicate}
@@ -20,15 +20,8 @@ use Rattle.reach.specs.Reached.{Reached, at_seed, by_step}
 pub both_word : (a b : List ℕ) (i wa wb : ℕ) → wa ≡ get_or a i 0 → wb ≡ get_or b i 0 → wa < 2 ^ 64
     → (k : ℕ) → Bit (bit_and wa wb) k ↔ ((k < 64) × (HasBit a (64 * i + k) × HasBit b (64 * i + k)))
 both_word a b i wa wb is_a is_b fits k = (
-  (λ h. let below = bit_below wa 64 k fits (bit_and_l wa wb k h) in (
-    below,
-    (
-      of_word a i k (64 * i + k) below refl (rw is_a at (bit_and_l wa wb k h)),
-      of_word b i k (64 * i + k) below refl (rw is_b at (bit_and_r wa wb k h)),
-    ),
-  )),
-  (λ (below, both). bit_and_from wa wb k (rw is_a (to_word a i k (64 * i + k) below refl both.0))
-      (rw is_b (to_word b i k (64 * i + k) below refl both.1))),
+  (λ h. let below = bit_below wa 64 k fits (bit_and_l wa wb k h) in grind (arith, of_word, bit_and_l, bit_and_r)),
+  (λ (below, both). grind (arith, bit_and_from, to_word)),
 )
 
 pub either_word : (a b : List ℕ) (i : ℕ) → get_or a i 0 < 2 ^ 64 → get_or b i 0 < 2 ^ 64
@@ -37,9 +30,7 @@ either_word a b i fits_a fits_b k = (
   (λ h. bit_or_cases (get_or a i 0) (get_or b i 0) k h
       (λ x. let below = bit_below (get_or a i 0) 64 k fits_a x in (below, inl (of_word a i k (64 * i + k) below refl x)))
       (λ x. let below = bit_below (get_or b i 0) 64 k fits_b x in (below, inr (of_word b i k (64 * i + k) below refl x)))),
-  (λ (below, h). either h
-      (λ x. bit_or_l (get_or a i 0) (get_or b i 0) k (to_word a i k (64 * i + k) below refl x))
-      (λ x. bit_or_r (get_or a i 0) (get_or b i 0) k (to_word b i k (64 * i + k) below refl x))),
+  (λ (below, h). grind (arith, either, bit_or_l, to_word, bit_or_r)),
 )
 
 -- what is filled along some places is filled along more
@@ -76,42 +67,21 @@ cleared words place within k = (there, back)
 
     there : HasBit (set words (place / 64) word) k → HasBit words k × (k ≡ place → ⊥)
     there h = wrote_cases words (place / 64) word (k / 64) (k % 64) within h
-        (λ e b. (
-          moved words (place / 64) (k / 64) (k % 64) e (bit_and_l (get_or words (place / 64) 0) _ (k % 64) b),
-          λ same. bit_cleared (get_or words (place / 64) 0) (place % 64) (k % 64) (omega arith) b (ap (λ n. n % 64) same),
-        ))
+        (λ e b. grind (arith, moved, bit_and_l, bit_cleared))
         (λ ne old. (old, λ same. ne (ap (λ n. n / 64) same)))
 
     back : HasBit words k × (k ≡ place → ⊥) → HasBit (set words (place / 64) word) k
-    back (h, ne) = elim (cases_eq (k / 64) (place / 64)) [
-      | inl e ↦ wrote_same words (place / 64) word (k / 64) (k % 64) within e
-          (bit_not_cleared (get_or words (place / 64) 0) (place % 64) (k % 64) (omega arith) (omega arith) (λ same. ne (omega arith))
-          (moved words (k / 64) (place / 64) (k % 64) (sym e) h))
-      | inr other ↦ wrote_other words (place / 64) word (k / 64) (k % 64) other h
-    ]
+    back (h, ne) = grind (arith, cases_eq, wrote_same, bit_not_cleared, moved, wrote_other)
 
 -- two tests that clear the same places fill the same places
 pub filled_as : (S F G : ℕ → Type 0) → ((k : ℕ) → F k ↔ G k) → (k : ℕ) → IsFilled (λ j. S j ⊎ F j) S k ↔ IsFilled (λ j. S j ⊎ G j) S k
-filled_as S F G same k = (
-  filled_more (λ j. S j ⊎ F j) (λ j. S j ⊎ G j) S (λ j h. either h (λ s. inl s) (λ f. inr ((same j).0 f))) k,
-  filled_more (λ j. S j ⊎ G j) (λ j. S j ⊎ F j) S (λ j h. either h (λ s. inl s) (λ f. inr ((same j).1 f))) k,
-)
+filled_as S F G same k = grind arith
 
 -- the bits of a word without the bits of another one
 pub word_without : (words others : List ℕ) (i : ℕ) → get_or words i 0 < 2 ^ 64 → get_or others i 0 < 2 ^ 64
     → (k : ℕ) → Bit (bit_and (get_or words i 0) (bit_not w64 (get_or others i 0))) k ↔
     ((k < 64) × (HasBit words (64 * i + k) × (HasBit others (64 * i + k) → ⊥)))
 word_without words others i fits fits_other k = (
-  (λ h. let bit = bit_and_l (get_or words i 0) (bit_not w64 (get_or others i 0)) k h in
-      let below = bit_below (get_or words i 0) 64 k fits bit in (
-        below,
-        (
-          of_word words i k (64 * i + k) below refl bit,
-          λ there. bit_not_l (get_or others i 0) k fits_other (bit_and_r (get_or words i 0) (bit_not w64 (get_or others i 0)) k h)
-              (to_word others i k (64 * i + k) below refl there),
-        ),
-      )),
-  (λ (below, (here, gone)). bit_and_from (get_or words i 0) (bit_not w64 (get_or others i 0)) k (to_word words i k (64 * i + k) below refl here)
-      (bit_cases (get_or others i 0) k (λ b. absurd (gone (of_word others i k (64 * i + k) below refl b)))
-      (λ z. bit_not_from (get_or others i 0) k fits_other below z))),
+  (λ h. search (bit_and_l, bit_below, of_word, bit_not_l, bit_and_r, to_word)),
+  (λ (below, (here, gone)). grind (arith, bit_and_from, to_word, bit_cases, of_word, bit_not_from)),
 )

@@ -1,11 +1,11 @@
 -- How a row of words is read or written part by part, and the rows of a grid one after another.
-use Rattle.std.proofs.Common.{◌≡◌, ℕ, ◌+◌, ◌-◌, ◌*◌, ◌/◌, ◌%◌, ◌^◌, ◌<◌, ◌≤◌, List, [], length, get_or, refl, sym, ◌∙◌, ap, inl, inr, arith}
+use Rattle.std.proofs.Common.{◌≡◌, ℕ, ◌+◌, ◌*◌, ◌/◌, ◌%◌, ◌^◌, ◌<◌, ◌≤◌, List, length, get_or, refl, sym, ◌∙◌, ap, inl, inr, arith}
 use Rattle.std.specs.Prelude.{◌⊎◌, ◌↔◌, ◌||◌}
 use Rattle.std.specs.FinSet as finset
 use Rattle.std.specs.FinSet.{contains, contains-union}
-use Rattle.std.proofs.Math.ListN.{set, length-set, replicate}
+use Rattle.std.proofs.Math.ListN.{set, length-set}
 use Rattle.std.proofs.lemmas.Bool.{cases_lt, cases_eq}
-use Rattle.std.proofs.lemmas.List.{get_or_past, length-replicate}
+use Rattle.std.proofs.lemmas.List.{get_or_past}
 use Rattle.cellset.specs.Cell.{cell_at}
 use Rattle.cellset.specs.CellSet.{Cells, Has}
 use Rattle.cellset.specs.RowBits.{IsRowOf, cells_of_row}
@@ -17,10 +17,8 @@ use Rattle.reach.specs.Bits.{Bit, HasBit}
 use Rattle.reach.proofs.Words.{bit_below, no_bit_zero}
 use Rattle.reach.specs.RowsOf.{InRows}
 use Rattle.reach.proofs.Many.{wrote_same, wrote_other, wrote_cases}
-use Rattle.reach.proofs.Carries.{to_word, of_word}
-use Rattle.reach.proofs.Carries as carries
-use Rattle.reach.proofs.Lines.{none_in_zeros}
-use Rattle.reach.proofs.Written.{IsWritten, row_written, as_at, to_row, of_row}
+use Rattle.reach.proofs.Carries.{of_word}
+use Rattle.reach.proofs.Written.{IsWritten, row_written, as_at}
 
 -- the words below i have the columns at which P holds, and the others have none
 pub record IsLoaded (P : ℕ → Type 0) (n i : ℕ) (row : List ℕ) : Type 0 where
@@ -29,36 +27,18 @@ pub record IsLoaded (P : ℕ → Type 0) (n i : ℕ) (row : List ℕ) : Type 0 w
 
 pub loaded_more : (P : ℕ → Type 0) (n i : ℕ) (row : List ℕ) (word : ℕ) → i < n → IsLoaded P n i row → ((k : ℕ) → Bit word k ↔ ((k < 64) × P (64 * i + k)))
     → IsLoaded P n (i + 1) (set row i word)
-loaded_more P n i row word within l is = record {
-  long = length-set row i word ∙ l.long;
-  bits = λ k. (there k, back k);
-}
+loaded_more P n i row word within l is = grind (arith, length-set, there, back)
   where
     in_row : i < length row
     in_row = let e = l.long in omega arith
 
     there : (k : ℕ) → HasBit (set row i word) k → (k < 64 * (i + 1)) × P k
     there k h = wrote_cases row i word (k / 64) (k % 64) in_row h
-        (λ e b. let place : 64 * i + k % 64 ≡ k = omega arith in (omega arith, rw place at ((is (k % 64)).0 b).1))
+        (λ e b. grind arith)
         (λ _ old. let o = (l.bits k).0 old in let low = o.0 in (omega arith, o.1))
 
     back : (k : ℕ) → (k < 64 * (i + 1)) × P k → HasBit (set row i word) k
-    back k (low, p) = elim (cases_eq (k / 64) i) [
-      | inl e ↦ let place : k ≡ 64 * i + k % 64 = omega arith in wrote_same row i word (k / 64) (k % 64) in_row e ((is (k % 64)).1 (omega arith, rw place at p))
-      | inr ne ↦ wrote_other row i word (k / 64) (k % 64) ne ((l.bits k).1 (omega arith, p))
-    ]
-
-pub loaded_none : (P : ℕ → Type 0) (n : ℕ) → IsLoaded P n 0 (replicate n 0)
-loaded_none P n = grind (arith, length-replicate, none_in_zeros)
-
-pub loaded_all : (P : ℕ → Type 0) (n i : ℕ) (row : List ℕ) → i ≡ n → IsLoaded P n i row → (k : ℕ) → HasBit row k ↔ ((k < 64 * n) × P k)
-loaded_all P n i row all l k = grind arith
-
-pub loaded_whole : (P : ℕ → Type 0) (n i : ℕ) (row : List ℕ) → i ≡ n → ((k : ℕ) → P k → k < 64 * n) → IsLoaded P n i row → (k : ℕ) → HasBit row k ↔ P k
-loaded_whole P n i row all within l k = grind (arith, loaded_all)
-
-pub bit_within : (words : List ℕ) (n k : ℕ) → length words ≡ n → HasBit words k → k < 64 * n
-bit_within words n k long h = elim (cases_lt k (64 * n)) [ inl low ↦ low | inr past ↦ absurd (carries.none_past words n k long past h) ]
+    back k (low, p) = grind (arith, cases_eq, wrote_same, wrote_other, in_row)
 
 -- ---- a part of a row of a set, as bits
 pub row_tells : (s : Cells) (y i word : ℕ) → word < 2 ^ 64 → IsRowOf s y i word → (k : ℕ) → Bit word k ↔ ((k < 64) × Has s (cell_at (64 * i + k) y))
@@ -96,14 +76,7 @@ stored_more start now next row y i word word_is fits kept added only s = record 
     ap (λ (q : Cell). q.row) e,
     rw (ap (λ (q : Cell). q.column) e) (of_word row i k (64 * i + k) (bit_below word 64 k fits b) refl (rw word_is at b)),
   ));
-  done = λ c e low h. elim (cases_lt c.column (64 * i)) [
-    | inl old ↦ kept c (s.done c e old h)
-    | inr new ↦
-        let place : c.column ≡ 64 * i + (c.column - 64 * i) = omega arith in
-        let here = added (c.column - 64 * i) (rw word_is (to_word row i (c.column - 64 * i) c.column (omega arith) place h)) in
-        let same : cell_at (64 * i + (c.column - 64 * i)) y ≡ c = λ j. record { row = sym e j; column = sym place j } in
-        rw same at here
-  ];
+  done = λ c e low h. grind arith;
 }
 
 -- ---- rows past the last have no cell
@@ -145,9 +118,3 @@ row_below rows c h = grind (arith, cases_lt, none_past)
 pub done_all : (Done Rest : Cell → Type 0) (n : ℕ) (rows : List (List ℕ)) → length rows ≤ n → ((c : Cell) → Done c → c.row < n) → AreDone Done Rest n rows
     → (c : Cell) → InRows rows c ↔ Done c
 done_all Done Rest n rows whole within all c = grind (arith, row_below)
-
--- ---- rows that are stored one after another
-pub stored_row : (P Q R : Cell → Type 0) (rows : List (List ℕ)) (y : ℕ) (row : List ℕ) → row ≡ get_or rows y []
-    → ((c : Cell) → Q c ↔ (P c ⊎ ((c.row < y) × InRows rows c))) → ((c : Cell) → R c ↔ (Q c ⊎ ((c.row ≡ y) × HasBit row c.column)))
-    → (c : Cell) → R c ↔ (P c ⊎ ((c.row < y + 1) × InRows rows c))
-stored_row P Q R rows y row read before now c = grind (arith, either, of_row, cases_eq, to_row)

@@ -1,5 +1,5 @@
 -- The bits of many words, one after another.
-use Rattle.std.proofs.Common.{◌≡◌, ℕ, ◌+◌, ◌*◌, ◌/◌, ◌%◌, ◌^◌, ◌<◌, ◌≤◌, List, length, get_or, refl, sym, ◌∙◌, ap, subst, inl, inr, arith, get_or-set_other}
+use Rattle.std.proofs.Common.{◌≡◌, ℕ, ◌+◌, ◌*◌, ◌/◌, ◌%◌, ◌^◌, ◌<◌, ◌≤◌, List, length, get_or, refl, ◌∙◌, ap, inl, inr, arith, get_or-set_other}
 use Rattle.std.proofs.Common.{get_or-set_same}
 use Rattle.std.specs.Prelude.{◌⊎◌, ◌↔◌, bit_and, bit_or, sum}
 use Rattle.std.specs.Int.{bit_not, trailing_zeros, w64}
@@ -13,17 +13,14 @@ use Rattle.reach.proofs.Words.{bit_and_l, bit_or_l, bit_set_cases, bit_set_same,
 
 -- what holds of a value holds at the index at which it was written
 pub at_same : {A : Type 0} (P : A → Type 0) (xs : List A) (i : ℕ) (v : A) (j : ℕ) (d : A) → i < length xs → j ≡ i → P v → P (get_or (set xs i v) j d)
-at_same {A} P xs i v j d within e h = subst P (sym (rw e (get_or-set_same xs i v d within))) h
+at_same {A} P xs i v j d within e h = grind (arith, get_or-set_same)
 
 pub at_other : {A : Type 0} (P : A → Type 0) (xs : List A) (i : ℕ) (v : A) (j : ℕ) (d : A) → (j ≡ i → ⊥) → P (get_or xs j d) → P (get_or (set xs i v) j d)
-at_other P xs i v j d ne h = subst P (sym (get_or-set_other xs i j v d ne)) h
+at_other P xs i v j d ne h = grind (arith, get_or-set_other)
 
 pub at_cases : {A G : Type 0} (P : A → Type 0) (xs : List A) (i : ℕ) (v : A) (j : ℕ) (d : A) → i < length xs → P (get_or (set xs i v) j d)
     → (j ≡ i → P v → G) → ((j ≡ i → ⊥) → P (get_or xs j d) → G) → G
-at_cases {A} P xs i v j d within h f g = elim (cases_eq j i) [
-  | inl e ↦ f e (rw (subst (λ (n : ℕ). get_or (set xs i v) n d ≡ v) (sym e) (get_or-set_same xs i v d within)) at h)
-  | inr ne ↦ g ne (rw (get_or-set_other xs i j v d ne) at h)
-]
+at_cases {A} P xs i v j d within h f g = grind (arith, cases_eq, get_or-set_same, get_or-set_other)
 
 -- a word that was written has its bits at its index
 pub wrote_same : (xs : List ℕ) (i v j k : ℕ) → i < length xs → j ≡ i → Bit v k → Bit (get_or (set xs i v) j 0) k
@@ -57,21 +54,13 @@ added words row within k = (there, back)
         (λ _ old. inl old)
 
     back : HasBit words k ⊎ (k ≡ row) → HasBit (set words i word) k
-    back (inl old) = elim (cases_eq (k / 64) i) [
-      | inl e ↦ wrote_same words i word (k / 64) (k % 64) within e (bit_or_l (get_or words i 0) _ (k % 64) (moved words (k / 64) i (k % 64) (sym e) old))
-      | inr ne ↦ wrote_other words i word (k / 64) (k % 64) ne old
-    ]
-    back (inr e) = subst (λ (n : ℕ). HasBit (set words i word) n) (sym e)
-        (wrote_same words i word (row / 64) (row % 64) within refl (bit_set_same (get_or words i 0) (row % 64) (omega arith)))
+    back (inl old) = grind (arith, cases_eq, wrote_same, bit_or_l, moved, wrote_other)
+    back (inr e) = grind (arith, wrote_same, bit_set_same)
 
 -- clearing one bit of a word takes this bit from the bits of the words
 pub taken_bit : (words : List ℕ) (i word bit : ℕ) → i < length words → word ≡ get_or words i 0 → bit < 64 → Bit word bit
     → IsTaken words (64 * i + bit) (set words i (bit_and word (bit_not w64 (1 * 2 ^ bit % 2 ^ 64))))
-taken_bit words i word bit within is in_word set_there = record {
-  was = subst (λ (n : ℕ). HasBit words n) refl (was);
-  others = λ k. (others_there k, others_back k);
-  less = less;
-}
+taken_bit words i word bit within is in_word set_there = grind (arith, was, others_there, others_back, less)
   where
     rest : ℕ
     rest = bit_and word (bit_not w64 (1 * 2 ^ bit % 2 ^ 64))
@@ -83,25 +72,18 @@ taken_bit words i word bit within is in_word set_there = record {
     at_bit = let b = in_word in omega arith
 
     here : (k : ℕ) → k / 64 ≡ i → HasBit words k → Bit word (k % 64)
-    here k e h = subst (λ (w : ℕ). Bit w (k % 64)) (sym is) (moved words (k / 64) i (k % 64) (sym e) h)
+    here k e h = grind arith
 
     was : HasBit words (64 * i + bit)
     was = moved words i _ _ at_word (rw (← at_bit, is) at set_there)
 
     others_there : (k : ℕ) → HasBit (set words i rest) k → HasBit words k × (k ≡ 64 * i + bit → ⊥)
     others_there k h = wrote_cases words i rest (k / 64) (k % 64) within h
-        (λ e b. (
-          moved words i (k / 64) (k % 64) e (rw is at (bit_and_l word _ (k % 64) b)),
-          (λ same. bit_cleared word bit (k % 64) in_word b (ap (λ n. n % 64) same ∙ at_bit)),
-        ))
+        (λ e b. grind (arith, moved, bit_and_l, bit_cleared, at_bit))
         (λ ne old. (old, (λ same. ne (ap (λ n. n / 64) same ∙ at_word))))
 
     others_back : (k : ℕ) → HasBit words k × (k ≡ 64 * i + bit → ⊥) → HasBit (set words i rest) k
-    others_back k (h, ne) = elim (cases_eq (k / 64) i) [
-      | inl e ↦ wrote_same words i rest (k / 64) (k % 64) within e
-          (bit_not_cleared word bit (k % 64) in_word (omega arith) (λ same. ne (omega arith)) (here k e h))
-      | inr other ↦ wrote_other words i rest (k / 64) (k % 64) other h
-    ]
+    others_back k (h, ne) = grind (arith, cases_eq, wrote_same, bit_not_cleared, wrote_other, here)
 
     less : sum (set words i rest) < sum words
     less = let smaller = less_by_bit word rest bit (and_le_l word _) set_there (λ b. bit_cleared word bit bit in_word b refl) in

@@ -1,8 +1,7 @@
 -- Pulls (`PullsTo`): steps to the cells from which a push leads here.
-use Rattle.std.proofs.Common.{◌≡◌, ℕ, ◌+◌, ◌-◌, ◌<◌, ◌≤◌, List, [], length, get_or, ap, inl, inr, arith}
+use Rattle.std.proofs.Common.{◌≡◌, ℕ, ◌+◌, ◌-◌, ◌≤◌, List, [], get_or, ap, inl, inr, arith}
 use Rattle.std.specs.Prelude.{◌⊎◌, ◌↔◌}
-use Rattle.cellset.specs.Shape.{Extent}
-use Rattle.cellset.specs.Cell.{IsOn, neighbor, opposite, cell_at}
+use Rattle.cellset.specs.Cell.{neighbor, opposite, cell_at}
 use Rattle.cellset.specs.declared.cell.Cell.{Cell}
 use Rattle.cellset.specs.declared.dir.Dir.{Dir}
 use Rattle.cellset.specs.declared.dir.Dir.TheVariants.{L, U, R, D}
@@ -11,7 +10,6 @@ use Rattle.reach.specs.RowsOf.{InRows}
 use Rattle.reach.specs.Reached.{PullsTo, IsBetween}
 use Rattle.reach.specs.Grown.{AreInside, Passes, in_rows, IsBeside}
 use Rattle.reach.proofs.Lines.{filled_beside}
-use Rattle.reach.proofs.Loads.{row_below}
 use Rattle.reach.proofs.Walking.{of_test}
 
 pub beside_by : (b c : Cell) (d : Dir) → b ≡ neighbor c d → 1 ≤ b.row → IsBeside b c
@@ -19,13 +17,6 @@ beside_by b c L e low = grind arith
 beside_by b c U e low = grind arith
 beside_by b c R e low = grind arith
 beside_by b c D e low = grind arith
-
-pub pulls_end : (free : List (List ℕ)) (b c : Cell) (d : Dir) → b ≡ neighbor c d → InRows free (neighbor c (opposite d)) → b.row < length free
-    → c.row < length free
-pulls_end free b c L e behind low = grind arith
-pulls_end free b c U e behind low = let after = row_below free (neighbor c D) behind in omega arith
-pulls_end free b c R e behind low = grind arith
-pulls_end free b c D e behind low = grind arith
 
 -- a pull along a row enters each column between two free ones
 pub pulls_enter : (free : List (List ℕ)) (y j k : ℕ) → (k ≡ j + 1) ⊎ (k + 1 ≡ j) → IsBetween (HasBit (get_or free y [])) k
@@ -71,14 +62,3 @@ module _ (free : List (List ℕ)) (from to k : ℕ) where
   pub pulls_across : (to + 1 ≡ from) ⊎ (to ≡ from + 1) → (InRows free (cell_at k (to - 1)) × InRows free (cell_at k (to + 1))) ↔ PullsTo
       (Passes (in_rows free)) (cell_at k from) (cell_at k to)
   pulls_across side = grind (arith, there, back, of_test)
-
--- a cell between two cells of the grid is on the grid
-between_on : (shape : Extent) (q : Cell) (d : Dir) → IsOn shape (neighbor q d) → IsOn shape (neighbor q (opposite d)) → IsOn shape q
-between_on shape q L ahead behind = grind arith
-between_on shape q U ahead behind = grind arith
-between_on shape q R ahead behind = grind arith
-between_on shape q D ahead behind = grind arith
-
-pub pulls_on : (shape : Extent) (free : List (List ℕ)) (b c : Cell) → ((q : Cell) → InRows free q → IsOn shape q) → PullsTo (Passes (in_rows free)) b c
-    → IsOn shape c
-pulls_on shape free b c on p = grind (arith, between_on, of_test)

@@ -3,7 +3,7 @@
 -- The cells come in reading order and the directions in theirs, so all that is tried is in the order of pushes, and what passes too. Each push
 -- out of the region is tried, since its player is in the region, and something tried passes exactly if it is a push out.
 -- `next` needs no lemma: a call takes the front of what is left to try, and the test decides whether that is given or dropped.
-use Rattle.std.proofs.Common.{◌≡◌, true, List, [], ◌∷◌, None, refl, sym, ◌∙◌, ap, subst, arith, rules, tests}
+use Rattle.std.proofs.Common.{◌≡◌, true, List, [], ◌∷◌, None, refl, ap, subst, arith, rules, tests}
 use Rattle.std.proofs.lemmas.Cmp.{tied_itself}
 use Rattle.std.proofs.lemmas.List.Kept.{IsStrictlySortedBy-filter}
 use Rattle.std.specs.List.{AllByRecursion, Contains}
@@ -19,7 +19,7 @@ use Rattle.cellset.specs.declared.cell.Cell.{Cell}
 use Rattle.cellset.specs.declared.dir.Dir.{Dir}
 use Rattle.cellset.specs.declared.dir.Dir.TheVariants.{L, U, R, D}
 use Rattle.cellset.proofs.Members.{cells_total}
-use Rattle.cellset.proofs.Filters.{first_in, later_in, in_cases, all_of, of_all, filter_kept, filter_from, sorted_append}
+use Rattle.cellset.proofs.Filters.{later_in, in_cases, all_of, of_all, filter_kept, filter_from, sorted_append}
 use Rattle.cellset.proofs.Truth.{either}
 use Rattle.reach.specs.Pushes.{ArePushesOut, IsPushOut, PushBefore, push_by, push_cmp, dir_rank}
 use Rattle.reach.specs.PushesLeft.{is_push, pushes_left, tries_from, tries_left}
@@ -46,9 +46,7 @@ here_has c D = (3, omega arith, refl)
 in_tries : (cells : List Cell) (p : Push) → Contains (tries_left None cells) p → (p ≡ push_by p.player p.dir) × Contains cells p.player
 in_tries [] p (k, within, is) = absurd (omega arith)
 in_tries (c ∷ cells) p h = either (Contains-append_cases (tries_from c L) (tries_left None cells) p h)
-    (λ here. let e = in_here c p here in
-    let same = ap (λ (q : Push). q.player) e in
-    (e ∙ ap (λ (q : Cell). push_by q p.dir) (sym same), rw same (first_in c cells)))
+    (λ here. grind arith)
     (λ later. let rest = in_tries cells p later in (rest.0, later_in c cells p.player rest.1))
 
 tries_have : (cells : List Cell) (c : Cell) (d : Dir) → Contains cells c → Contains (tries_left None cells) (push_by c d)
@@ -67,18 +65,11 @@ tries_sorted (c ∷ cells) s = sorted_append push_cmp (tries_from c L) (tries_le
 -- the cells that are tried are on the grid
 pub tries_on : {shape : Extent} {region : Cells} {players : List Cell} → AreMembersOf shape region players
     → AllByRecursion (λ p. IsOn shape p.player) (tries_left None players)
-tries_on {players = players} members =
-    all_of _ (tries_left None players) (λ p h. members.on p.player (in_tries players p h).1)
+tries_on {players = players} members = all_of _ (tries_left None players) (λ p h. members.on p.player (in_tries players p h).1)
 
 module _ {shape : Extent} {walls boxes region : Cells} {players : List Cell} (members : AreMembersOf shape region players) where
   out_of_try : (p : Push) → Contains (tries_left None players) p → is_push shape walls boxes p ≡ true → IsPushOut shape walls boxes (Has region) p
-  out_of_try p h t = let is = in_tries players p h in record {
-    standing = (members.exact p.player).0 is.1;
-    next_cell = ap (λ (q : Push). q.from) is.0;
-    box = search (tests, rules);
-    cell_behind = ap (λ (q : Push). q.to) is.0 ∙ ap (λ (c : Cell). neighbor c p.dir) (sym (ap (λ (q : Push). q.from) is.0));
-    free = record { on = search (tests, rules); no_wall = search (tests, rules); no_bar = search (tests, rules) };
-  }
+  out_of_try p h t = let is = in_tries players p h in grind arith
 
   try_of_out : (p : Push) → IsPushOut shape walls boxes (Has region) p → Contains (tries_left None players) p
   try_of_out p out = rw (same p.player p.dir p.from p.to out.next_cell out.cell_behind) at (tries_have players p.player p.dir ((members.exact p.player).1 out.standing))

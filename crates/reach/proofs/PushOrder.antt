@@ -3,9 +3,9 @@
 -- and two pushes out of a region that tie are one, since both keys fix the cells that the box leaves and enters.
 -- In a list in this order a push that is before another one also comes before it. So of the pushes out of a region those
 -- before the one that comes next are exactly those that came already.
-use Rattle.std.proofs.Common.{◌≡◌, refl, sym, ◌∙◌, ap, arith}
+use Rattle.std.proofs.Common.{◌≡◌, refl, ◌∙◌, ap, arith}
 use Rattle.std.proofs.lemmas.Bool.{false≢true}
-use Rattle.std.proofs.lemmas.Cmp.{ranked, on_total, then_total, nat_cmp_total, tied_itself}
+use Rattle.std.proofs.lemmas.Cmp.{on_total, then_total, nat_cmp_total, tied_itself}
 use Rattle.std.specs.Cmp.{IsTotalOrder}
 use Rattle.std.specs.declared.cmp.Ordering.{Ordering}
 use Rattle.std.specs.declared.cmp.Ordering.TheVariants.{Less, Equal, Greater}
@@ -13,7 +13,7 @@ use Rattle.std.specs.Ordering.{nat_cmp, ordering_then, ordering_reverse}
 use Rattle.cellset.specs.Cell.{Before, cell_cmp}
 use Rattle.cellset.specs.declared.dir.Dir.{Dir}
 use Rattle.cellset.specs.declared.dir.Dir.TheVariants.{L, U, R, D}
-use Rattle.cellset.proofs.Members.{cells_total, exact_cells}
+use Rattle.cellset.proofs.Members.{cells_total}
 use Rattle.reach.specs.Pushes.{PushBefore, push_cmp, dir_rank}
 use Rattle.reach.specs.declared.pushes.Push.{Push}
 
@@ -59,5 +59,5 @@ push_before_or_after {G} a b if_before if_same if_after =
   where
     tied : (o : Ordering) → cell_cmp a.player b.player ≡ o → ordering_then o (nat_cmp (dir_rank a.dir) (dir_rank b.dir)) ≡ Equal → G
     tied Less e k = absurd (cc)
-    tied Equal e k = if_same (exact_cells _ _ e) (same_dir a.dir b.dir (ranked (dir_rank a.dir) (dir_rank b.dir) Equal (sym k)))
+    tied Equal e k = grind arith
     tied Greater e k = absurd (cc)

@@ -19,7 +19,7 @@ use Rattle.reach.proofs.PushOrder.{push_before_itself, push_before_trans}
 -- the pushes that came and those that are left make up the list
 pub came_and_left : (pushes came left : List Push) → Yields (YieldsFirst (λ s. s)) pushes came left → pushes ≡ came ++ left
 came_and_left pushes [] left run = run
-came_and_left pushes (p ∷ came) left (j, first, run) = first ∙ ap (λ rest. p ∷ rest) (came_and_left j came left run)
+came_and_left pushes (p ∷ came) left (j, first, run) = search (came_and_left j came left run)
 
 module _ {shape : Extent} {walls boxes : Cells} {InRegion : Cell → Type 0} {pushes : List Push} (all : ArePushesOut shape walls boxes InRegion pushes)
     (came left : List Push) (run : Yields (YieldsFirst (λ s. s)) pushes came left) where

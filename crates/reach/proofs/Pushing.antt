@@ -40,12 +40,7 @@ module _ (n : ℕ) (free row mids moved right left once twice : List ℕ) (free_
   mid_at k (inr a) = a.run.all k (omega arith) a.above
 
   beside : (j k : ℕ) → HasBit moved j → (k ≡ j + 1) ⊎ (k + 1 ≡ j) → IsMoved (HasBit free) (HasBit row) k
-  beside j k h side = let filled = (is_moved j).0 h in (
-    j,
-    filled_more (HasBit mids) (IsBetween (HasBit free)) (HasBit row) mid_of j filled,
-    mid_of j (mid_at j filled),
-    side,
-  )
+  beside j k h side = let filled = (is_moved j).0 h in search (filled_more, mid_of, mid_at)
 
   pub slid_added : (k : ℕ) → HasBit twice k → HasBit row k ⊎ IsMoved (HasBit free) (HasBit row) k
   slid_added k h = either ((is_twice k).0 h)
@@ -71,10 +66,7 @@ module _ (n : ℕ) (free row mids moved right left once twice : List ℕ) (free_
       let end = below_end k after in
       let here : HasBit moved k = (is_moved k).1 (is_filled k h (to_mid k mid)) in
       let e : k ≡ k + 1 - 1 = omega arith in
-      let f : k ≡ k - 1 + 1 = omega arith in
-      let on : HasBit right (k + 1) = (is_right (k + 1)).1 (end, (omega arith, rw e at here)) in
-      let back : HasBit left (k - 1) = (is_left (k - 1)).1 (omega arith, rw f at here) in
-      ((is_twice (k - 1)).1 (inr (back, back)), (is_twice (k + 1)).1 (inl ((is_once (k + 1)).1 (inr (on, on)))))
+      grind arith
 
 -- ---- steps
 

@@ -3,7 +3,7 @@
 -- begins at a bit ends right before the bit `step` places on, so what is near that bit is near this one at twice the
 -- step, and two such runs make one of twice the length. If every free bit right below a seed is a seed itself, no run leaves
 -- the seeds.
-use Rattle.std.proofs.Common.{◌≡◌, ℕ, ◌+◌, ◌-◌, ◌*◌, ◌/◌, ◌^◌, ◌<◌, ◌≤◌, zero, suc, subst, inl, inr, arith}
+use Rattle.std.proofs.Common.{◌≡◌, ℕ, ◌+◌, ◌-◌, ◌*◌, ◌/◌, ◌^◌, ◌<◌, ◌≤◌, zero, suc, inl, inr, arith}
 use Rattle.std.specs.Prelude.{◌⊎◌, ◌↔◌, bit_and, bit_or}
 use Rattle.std.specs.Int.{bit_not, w64}
 use Rattle.std.proofs.lemmas.Bool.{cases_lt}
@@ -42,18 +42,11 @@ pub down_start : (free seeds : ℕ) → IsDoublingDown free seeds (bit_and seeds
 down_start free seeds = record {
   some = omega arith;
   got_near = λ k h. record {
-    from = record {
-      seed = k;
-      above = omega arith;
-      is_seed = bit_and_l seeds free k h;
-      run =
-          run_one (Bit free) k (bit_and_r seeds free k h);
-    };
+    from = grind (arith, bit_and_l, run_one, bit_and_r);
     near = omega arith;
   };
-  near_got = λ k n. let above = n.from.above in let near = n.near in let e : n.from.seed ≡ k = omega arith in
-      bit_and_from seeds free k (rw e at n.from.is_seed) (n.from.run.all k (omega arith) above);
-  run_begins = λ k h. let e : k ≡ k + 1 - 1 = omega arith in rw (← e) (run_one (Bit free) k h);
+  near_got = λ k n. grind (arith, bit_and_from);
+  run_begins = λ k h. grind arith;
   begins_run = λ k r. r.all k (omega arith) (omega arith);
 }
 
@@ -67,47 +60,28 @@ down_twice free seeds got run step d = record {
       let r = d.run_begins k (bit_and_l run _ k new) in
       let n = d.got_near (step + k) (bit_shr got step k (bit_and_r run _ k new)) in
       let some = d.some in let above = n.from.above in let near = n.near in
-      let next : step + k ≡ k + step - 1 + 1 = omega arith in
       record {
-        from = record {
-          seed = n.from.seed;
-          above = omega arith;
-          is_seed = n.from.is_seed;
-          run = run_then (Bit free) k (k + step - 1) n.from.seed r (rw (← next) n.from.run);
-        };
+        from = grind (arith, run_then);
         near = omega arith;
       });
   near_got = λ k n.
-      let above = n.from.above in let near = n.near in let some = d.some in
+      let near = n.near in let some = d.some in
       elim (cases_lt n.from.seed (k + step)) [
         | inl h ↦ bit_or_l got _ k (d.near_got k (record { from = n.from; near = h }))
         | inr h ↦
             bit_or_r got _ k (bit_and_from run _ k
-            (d.begins_run k (run_within (Bit free) k n.from.seed k (k + step - 1) (omega arith) (omega arith) n.from.run))
+            (grind arith)
             (bit_shr_from got step k (d.near_got (step + k) (record {
-              from = record {
-                seed = n.from.seed;
-                above = omega arith;
-                is_seed = n.from.is_seed;
-                run =
-                    run_within (Bit free) k n.from.seed (step + k) n.from.seed (omega arith) (omega arith) n.from.run;
-              };
+              from = grind arith;
               near = omega arith;
             }))))
       ];
   run_begins = λ k h.
       let r = d.run_begins k (bit_and_l run _ k h) in
       let s = d.run_begins (step + k) (bit_shr run step k (bit_and_r run _ k h)) in
-      let some = d.some in
-      let next : step + k ≡ k + step - 1 + 1 = omega arith in
-      let last : step + k + step - 1 ≡ k + step * 2 - 1 = omega arith in
-      rw last at (run_then (Bit free) k (k + step - 1) (step + k + step - 1) r
-      (rw (← next) s));
+      grind arith;
   begins_run = λ k r.
-      let some = d.some in
-      bit_and_from run _ k (d.begins_run k (run_within (Bit free) k (k + step * 2 - 1) k (k + step - 1) (omega arith) (omega arith) r))
-      (bit_shr_from run step k (d.begins_run (step + k) (run_within (Bit free) k (k + step * 2 - 1) (step + k) (step + k + step - 1) (omega arith)
-      (omega arith) r)));
+      bit_and_from run _ k (grind arith) (bit_shr_from run step k (grind arith));
 }
 
 pub down_end : (free seeds got run step : ℕ) → free < 2 ^ 64 → 64 ≤ step → IsDoublingDown free seeds got run step → (k : ℕ)
@@ -133,7 +107,7 @@ module _ (free seeds : ℕ) (fits : free < 2 ^ 64) (closed : bit_and (bit_and fr
   pub down_at_once : (k : ℕ) → Bit (bit_and seeds free) k ↔ FromAbove (Bit free) (Bit seeds) k
   down_at_once k = (
     (λ h. ((down_start free seeds).got_near k h).from),
-    (λ f. let above = f.above in stays (f.seed - k) k f.seed (omega arith) f.is_seed f.run),
+    (λ f. stays (f.seed - k) k f.seed (omega arith) f.is_seed f.run),
   )
 
 -- ---- up and then down: a run up to a bit and one down from it are one run, on one side of the seed
@@ -143,10 +117,9 @@ filled free seeds up down is_up is_down k = (there, back)
   where
     turned : (a : FromAbove free up k) → FromBelow free seeds a.seed → IsFilled free seeds k
     turned a b =
-        let above = a.above in let below = b.below in
-        elim (cases_lt k b.seed) [
-          | inl h ↦ inr (record { seed = b.seed; above = omega arith; is_seed = b.is_seed; run = run_within free k a.seed k b.seed (omega arith) below a.run })
-          | inr h ↦ inl (record { seed = b.seed; below = h; is_seed = b.is_seed; run = run_within free b.seed a.seed b.seed k (omega arith) above b.run })
+        let above = a.above in elim (cases_lt k b.seed) [
+          | inl h ↦ grind arith
+          | inr h ↦ grind arith
         ]
 
     there : down k → IsFilled free seeds k
@@ -155,14 +128,7 @@ filled free seeds up down is_up is_down k = (there, back)
     back : IsFilled free seeds k → down k
     back (inl b) = (is_down k).1 (record { seed = k; above = omega arith; is_seed = (is_up k).1 b; run = run_one free k (b.run.all k b.below (omega arith)) })
     back (inr a) =
-        let here : FromBelow free seeds a.seed = record {
-          seed = a.seed;
-          below = omega arith;
-          is_seed = a.is_seed;
-          run =
-              run_one free a.seed (a.run.all a.seed a.above (omega arith));
-        } in
-        (is_down k).1 (record { seed = a.seed; above = a.above; is_seed = (is_up a.seed).1 here; run = a.run })
+        grind arith
 
 -- ---- what is filled is closed under free neighbours
 pub filled_seed : (free seeds : ℕ → Type 0) (k : ℕ) → seeds k → free k → IsFilled free seeds k
@@ -192,10 +158,9 @@ module _ (free seeds Holds : ℕ → Type 0) (start : (k : ℕ) → seeds k → 
 
   pub filled_along : (k : ℕ) → IsFilled free seeds k → Holds k
   filled_along k (inl b) =
-      let below = b.below in
       let e : b.seed + (k - b.seed) ≡ k = omega arith in
-      subst Holds e (upward b.seed (k - b.seed) (λ m low high. b.run.all m low (omega arith)) (start b.seed b.is_seed))
+      grind (arith, upward)
   filled_along k (inr a) =
       let above = a.above in
       let e : a.seed ≡ k + (a.seed - k) = omega arith in
-      downward k (a.seed - k) (λ m low high. a.run.all m low (omega arith)) (rw e at (start a.seed a.is_seed))
+      grind (arith, downward)

@@ -2,8 +2,7 @@
 use Rattle.std.proofs.Common.{◌≡◌, ℕ, ◌+◌, ◌*◌, ◌<◌, ◌≤◌, Bool, true, false, ◌||◌, List, ◌++◌, take, drop, length, refl, sym, ◌∙◌, ap, inl}
 use Rattle.std.proofs.Common.{inr, arith}
 use Rattle.std.specs.Prelude.{◌⊎◌, ◌↔◌}
-use Rattle.std.proofs.Math.ListN.{replicate, length-set}
-use Rattle.std.proofs.Math.ListN as lists
+use Rattle.std.proofs.Math.ListN.{replicate}
 use Rattle.std.proofs.lemmas.Bool.{false≢true, cases_lt}
 use Rattle.std.proofs.lemmas.List.{get_or-replicate, length-replicate, append-nil, take_all, drop_all}
 use Rattle.std.specs.FinSet as set
@@ -12,7 +11,7 @@ use Rattle.cellset.specs.Shape.{Extent}
 use Rattle.cellset.specs.Cell.{IsOn, cell_cmp}
 use Rattle.cellset.specs.CellSet.{Cells, CellsOn, Has}
 use Rattle.cellset.specs.declared.cell.Cell.{Cell}
-use Rattle.cellset.proofs.Truth.{either, never_true, left_true, right_true, or_cases}
+use Rattle.cellset.proofs.Truth.{either, never_true}
 use Rattle.cellset.proofs.Members.{cells_total, has_empty, same_cells, same_members}
 use Rattle.cellset.proofs.ReadingOrder.{has_where, in_where}
 use Rattle.reach.specs.Bits.{HasBit}
@@ -50,10 +49,6 @@ pub rows_put_back : (n : ℕ) (shape : Extent) (len : ℕ) (old new : List (List
     → ((c : Cell) → InRows new c → IsOn shape c) → AreRowsOf n shape (take len (new ++ drop (length new) old))
 rows_put_back n shape len old new same_len were kept on = grind (arith, put_back)
 
-pub rows_written : (n : ℕ) (shape : Extent) (y : ℕ) (row : List ℕ) (rows : List (List ℕ)) → AreRowsOf n shape rows
-    → ((c : Cell) → InRows (lists.set rows y row) c → IsOn shape c) → AreRowsOf n shape (lists.set rows y row)
-rows_written n shape y row rows were on = search (length-set)
-
 -- rows of the same grid are equally many
 pub rows_alike : (n : ℕ) (a b : Extent) (xs ys : List (List ℕ)) → a ≡ b → AreRowsOf n a xs → AreRowsOf n b ys → length xs ≡ length ys
 rows_alike n a b xs ys same x y = search
@@ -89,16 +84,12 @@ pub stored_is : (s t u : Cells) → s ≡ set.empty → u ≡ set.union s t → 
 stored_is s t u empty union q =
     let whole : contains u q ≡ (contains s q || contains t q) = ap (λ v. contains v q) union ∙ contains-union cells_total s t q in
     let none : contains s q ≡ false = ap (λ v. contains v q) empty ∙ contains-empty cell_cmp q in
-    let same : contains u q ≡ contains t q = whole ∙ ap (λ b. b || contains t q) none in
-    ((λ h. sym same ∙ h), (λ h. same ∙ h))
+    grind arith
 
 -- a union has the members of both
 pub has_union : (s t u : Cells) → u ≡ set.union s t → (q : Cell) → Has u q ↔ (Has s q ⊎ Has t q)
 has_union s t u union q =
-    let whole : contains u q ≡ (contains s q || contains t q) = ap (λ v. contains v q) union ∙ contains-union cells_total s t q in (
-      (λ h. or_cases (contains s q) (contains t q) (sym whole ∙ h) (λ a. inl a) (λ b. inr b)),
-      (λ h. whole ∙ either h (left_true (contains s q) (contains t q)) (right_true (contains s q) (contains t q))),
-    )
+    let whole : contains u q ≡ (contains s q || contains t q) = ap (λ v. contains v q) union ∙ contains-union cells_total s t q in grind arith
 
 -- rows with the columns of the grid that they lacked have the cells of the grid that they lacked
 pub complement_is : (shape : Extent) (on : List ℕ) (old rows : List (List ℕ)) → length old ≡ shape.height + 1

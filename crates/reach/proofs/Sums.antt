@@ -78,17 +78,14 @@ cleared f s c zero small (inr (e, r)) = bit_cases s 0 (λ seed. inl seed)
     (λ none. let zero_first : s % 2 ≡ 0 = sym (bit_at_lowest s) ∙ none in let one = first_bit f (r.all 0 (omega arith) (omega arith)) in
     let even : (f + s + c) % 2 ≡ 0 = omega arith in inr (bit_at_lowest (f + s + c) ∙ even))
 cleared f s c (suc k) small carried =
-    either (cleared (f / 2) (s / 2) (next f s c) k (let a = mod-lt f (pow_pos 1) in omega arith) (to_halves f s c k small carried))
-    (λ seed. inl (bit_half s k seed)) (λ none. inr (sum_halves f s c k ∙ none))
+    grind (arith, either, mod-lt, pow_pos, to_halves, carried, bit_half, sum_halves, cleared (f / 2) (s / 2) (next f s c) k (let a = mod-lt f (pow_pos 1) in omega arith) (to_halves f s c k small carried))
 
 -- an addition clears no other free bit
 carried : (f s c k : ℕ) → c ≤ 1 → ((m : ℕ) → Bit s m → Bit f m) → Bit f k → Bit s k ⊎ (bit_at (f + s + c) k ≡ 0) → IsCarried f s c k
 carried f s c k small within free (inl seed) = grind (arith, run_one)
 carried f s c zero small within free (inr none) = grind (arith, bit_cases, run_one, bit_at_lowest, first_bit)
 carried f s c (suc k) small within free (inr none) =
-    of_halves f s c k small (within 0)
-    (carried (f / 2) (s / 2) (next f s c) k (omega arith) (λ m h. half_bit f m (within (suc m) (bit_half s m h))) (half_bit f k free)
-    (inr (sym (sum_halves f s c k) ∙ none)))
+    search (of_halves, half_bit, bit_half, sum_halves, carried (f / 2) (s / 2) (next f s c) k (omega arith) (λ m h. half_bit f m (within (suc m) (bit_half s m h))) (half_bit f k free) (inr (sym (sum_halves f s c k) ∙ none)))
 
 -- the word of the seeds and of the free bits that the carry cleared
 abbrev pub up_word : ℕ → ℕ → ℕ → ℕ
@@ -145,7 +142,7 @@ module _ (f s c : ℕ) (fits : f < 2 ^ 64) (small : c ≤ 1) where
       up = filled_up f (bit_and s f) c fits small (λ m b. bit_and_r s f m b) k
 
       there : IsCarried f (bit_and s f) c k → FromBelow (Bit f) (Bit (bit_or s c)) k
-      there (inl b) = record { seed = b.seed; below = b.below; is_seed = bit_or_l s c b.seed (bit_and_l s f b.seed b.is_seed); run = b.run }
+      there (inl b) = search (bit_or_l, bit_and_l)
       there (inr (e, r)) = record { seed = 0; below = omega arith; is_seed = bit_or_r s c 0 (bit_first c (omega arith)); run = r }
 
       back : FromBelow (Bit f) (Bit (bit_or s c)) k → IsCarried f (bit_and s f) c k
@@ -154,8 +151,7 @@ module _ (f s c : ℕ) (fits : f < 2 ^ 64) (small : c ≤ 1) where
             seed = b.seed;
             below = b.below;
             is_seed = bit_and_from s f b.seed seed (b.run.all b.seed (omega arith) b.below);
-            run =
-                b.run;
+            run = b.run;
           }))
           (λ carry.
           let first : b.seed ≡ 0 = let low = bit_below c 1 b.seed (omega arith) carry in omega arith in

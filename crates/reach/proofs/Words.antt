@@ -66,12 +66,9 @@ bit_at_low a w k h = sym (bit_at_cat_low (a / 2 ^ w) w (a % 2 ^ w) k h) ∙ ap (
 -- the bits of `a << s` at w bits
 pub bit_shl : (a s w k : ℕ) → Bit (a * 2 ^ s % 2 ^ w) k → (k < w) × (s ≤ k) × Bit a (k - s)
 bit_shl a s w k h =
-    let below : k < w = bit_below (a * 2 ^ s % 2 ^ w) w k (mod-lt (a * 2 ^ s) (pow_pos w)) h in
-    let here : bit_at (a * 2 ^ s + 0) k ≡ 1 = ap (λ v. bit_at v k) (add-zero (a * 2 ^ s)) ∙ sym (bit_at_low (a * 2 ^ s) w k below) ∙ is_one h in
-    elim (cases_lt k s) [
-      | inl low ↦ absurd (let z = bit_at_cat_low a s 0 k low in let n = bit_at-zero k in omega arith)
-      | inr high ↦ (below, high, bit_of a (k - s) (sym (bit_at_cat_high a s 0 k (pow_pos s) high) ∙ here))
-    ]
+    let below : k < w = search (bit_below, mod-lt, pow_pos) in
+    let here : bit_at (a * 2 ^ s + 0) k ≡ 1 = grind (arith, add-zero, bit_at_low, is_one) in
+    grind (arith, cases_lt, bit_at_cat_low, bit_at-zero, bit_of, bit_at_cat_high, pow_pos)
 
 pub bit_shl_from : (a s w k : ℕ) → k < w → s ≤ k → Bit a (k - s) → Bit (a * 2 ^ s % 2 ^ w) k
 bit_shl_from a s w k below high h =
@@ -105,9 +102,7 @@ pub bit_not_l : (a k : ℕ) → a < 2 ^ 64 → Bit (bit_not w64 a) k → Bit a k
 bit_not_l a k fits h g =
     let below : k < 64 = bit_below (bit_not w64 a) 64 k (omega arith) h in
     let e = bit_at_not w64 a k fits below in
-    let is = is_one h in
-    let set = is_one g in
-    omega arith
+    grind arith
 
 pub bit_not_from : (a k : ℕ) → a < 2 ^ 64 → k < 64 → bit_at a k ≡ 0 → Bit (bit_not w64 a) k
 bit_not_from a k fits below none = bit_of (bit_not w64 a) k (let e = bit_at_not w64 a k fits below in omega arith)
@@ -118,5 +113,5 @@ le_by_bits a b f = rw (same_from_bits (bit_or a b) b same) at (le_or_l a b)
   where
     same : (k : ℕ) → bit_at (bit_or a b) k ≡ bit_at b k
     same k = bit_cases a k
-        (λ h. let e = is_one h in let g = is_one (f k h) in omega (arith, bit_at_or a b k))
+        (λ h. search (is_one, bit_at_or))
         (λ z. omega (arith, bit_at_or a b k))

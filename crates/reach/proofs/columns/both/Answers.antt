@@ -1,6 +1,6 @@
 use Rattle.std.proofs.Common.{get_or, refl, arith}
 use Rattle.reach.specs.Bits.{HasBit}
-use Rattle.reach.proofs.Loads.{loaded_none, loaded_more, loaded_whole, bit_within}
+use Rattle.reach.proofs.Loads.{loaded_more}
 use Rattle.reach.proofs.Lines.{both_word}
 use Rattle.reach.proofs.columns.both.Goals as goal
 
@@ -11,9 +11,3 @@ loop-i-preserved g c =
     let i = c.loop-i.i in
     loaded_more (λ k. HasBit a k × HasBit b k) g.row.N i c.loop-i.row _ (omega arith) c.loop-i.invariant
     (both_word a b i (get_or a i 0) (get_or b i 0) refl refl (omega arith))
-
-pub loop-i-init : goal.loop-i-init
-loop-i-init g c = loaded_none _ _
-
-pub returns : goal.returns
-returns g c = grind (arith, loaded_whole, bit_within)

@@ -1,6 +1,6 @@
 use Rattle.std.proofs.Common.{◌+◌, get_or, refl, arith}
 use Rattle.reach.specs.Bits.{HasBit}
-use Rattle.reach.proofs.Loads.{loaded_none, loaded_more, loaded_all}
+use Rattle.reach.proofs.Loads.{loaded_more}
 use Rattle.reach.proofs.Moved.{earlier_word}
 use Rattle.reach.proofs.columns.earlier.Goals as goal
 
@@ -10,9 +10,3 @@ loop-i-preserved g c =
     let i = c.loop-i.i in
     loaded_more (λ k. HasBit of (k + 1)) g.row.N i c.loop-i.row _ (omega arith) c.loop-i.invariant
     (earlier_word of i (get_or of i 0) c.word_after.result refl (omega arith) c.word_after.ensures)
-
-pub loop-i-init : goal.loop-i-init
-loop-i-init g c = loaded_none _ _
-
-pub returns : goal.returns
-returns g c = grind (arith, loaded_all)

@@ -1,5 +1,3 @@
-use Rattle.std.proofs.Common.{arith}
-use Rattle.reach.proofs.Joins.{room_joined}
 use Rattle.reach.proofs.Pushing.{slid_added, slid_settled}
 use Rattle.reach.proofs.columns.slide.Goals as goal
 
@@ -14,9 +12,3 @@ returns-clause-closed g c =
     slid_settled g.row.N c.args.free.now c.args.row.now c.between-mids.result c.fill.new.row c.later-right.result c.earlier-left.result c.join.new.row
     c.join-2.new.row
     c.told-free c.between-mids.ensures c.fill.ensures.filled c.later-right.ensures c.earlier-left.ensures c.join.ensures.bits c.join-2.ensures.bits
-
-pub returns-clause-kept : goal.returns-clause-kept
-returns-clause-kept g c = grind arith
-
-pub returns-clause-room : goal.returns-clause-room
-returns-clause-room g c = grind (arith, room_joined)

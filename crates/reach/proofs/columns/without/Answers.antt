@@ -1,6 +1,6 @@
 use Rattle.std.proofs.Common.{arith}
 use Rattle.reach.specs.Bits.{HasBit}
-use Rattle.reach.proofs.Loads.{loaded_none, loaded_more, loaded_whole, bit_within}
+use Rattle.reach.proofs.Loads.{loaded_more}
 use Rattle.reach.proofs.Lines.{word_without}
 use Rattle.reach.proofs.columns.without.Goals as goal
 
@@ -11,9 +11,3 @@ loop-i-preserved g c =
     let i = c.loop-i.i in
     loaded_more (λ k. HasBit row k × (HasBit other k → ⊥)) g.row.N i c.loop-i.left _ (omega arith) c.loop-i.invariant
     (word_without row other i (omega arith) (omega arith))
-
-pub loop-i-init : goal.loop-i-init
-loop-i-init g c = loaded_none _ _
-
-pub returns : goal.returns
-returns g c = grind (arith, loaded_whole, bit_within)

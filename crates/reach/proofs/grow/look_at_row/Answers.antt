@@ -2,9 +2,8 @@
 -- so it is closed again, and a step reaches each cell that was added (`look`).
 use Rattle.reach.specs.RowsOf.{InRows}
 use Rattle.reach.specs.Grown.{in_rows}
-use Rattle.std.proofs.Common.{length, arith, rules}
-use Rattle.std.proofs.Math.ListN.{length-set}
-use Rattle.reach.proofs.Chains.{look, row_filled, reached_on, work_written}
+use Rattle.std.proofs.Common.{length, arith}
+use Rattle.reach.proofs.Chains.{look, row_filled, reached_on}
 use Rattle.reach.proofs.grow.look_at_row.Goals as goal
 
 pub returns-clause-looked : goal.returns-clause-looked
@@ -19,9 +18,3 @@ pub returns-clause-on : goal.returns-clause-on
 returns-clause-on g c = λ shape free region q h.
     reached_on shape (g.T.StepKind.leads (in_rows c.args.free.now)) (InRows c.args.region.now) (λ a b step. c.along.ensures.on shape a b free step) region q
     ((returns-clause-looked g c).sound q h)
-
-pub offer-requires-2 : goal.offer-requires-2
-offer-requires-2 g c = search (rules, length-set)
-
-pub returns-clause-falls : goal.returns-clause-falls
-returns-clause-falls g c = search (rules, work_written)

@@ -1,9 +1,6 @@
 use Rattle.std.proofs.Common.{arith}
-use Rattle.reach.proofs.Loads.{loaded_none, loaded_more, row_tells}
+use Rattle.reach.proofs.Loads.{loaded_more, row_tells}
 use Rattle.reach.proofs.rows.row_of.Goals as goal
-
-pub loop-part-init : goal.loop-part-init
-loop-part-init g c = loaded_none _ _
 
 pub loop-part-preserved : goal.loop-part-preserved
 loop-part-preserved g c =

@@ -22,9 +22,6 @@ find_region-requires-clause-on g c = λ q h.
 
 pub returns-clause-exact : goal.returns-clause-exact
 returns-clause-exact g c =
-    let walls = g.S.CellSet.members c.args.walls.now in
-    let seed = only c.args.seed in
-    let region = c.find_region.new.seeds.members in
     let extent = c.insert.ensures.extent ∙ c.in_ok-renew-2.ensures.renewed.0 ∙ c.shape-shape.ensures.value in
     let seeds = one_cell _ _ c.args.seed c.in_ok-renew-2.ensures.renewed.1 c.insert.ensures.members in
     rw (c.load.ensures.members, extent) at (rw seeds at c.find_region.ensures.exact)

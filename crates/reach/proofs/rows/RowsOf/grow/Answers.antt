@@ -34,8 +34,7 @@ invariant_of-self g c =
       few = c.self.invariant.few;
       wide = c.self.invariant.wide;
       sides = c.self.invariant.sides;
-      long =
-          long;
+      long = long;
       on = c.grow.ensures.on shape free_on old_on;
     })
 

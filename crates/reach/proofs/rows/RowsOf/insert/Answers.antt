@@ -1,38 +1,18 @@
 -- The cell is on the grid, so its row is one of the rows. That row gets one more bit, and no other row changes, so the bits of all rows
 -- are the old ones and the cell's (`cell_added` in `Written.antt`). All of them are on the grid, which is the invariant of the type. The
 -- members are the cells of the bits (`Sets.antt`), so they are the old ones and the cell.
-use Rattle.std.proofs.Common.{◌≡◌, ℕ, ◌<◌, [], length, get_or, sym, ap, subst, inl, inr, arith}
+use Rattle.std.proofs.Common.{◌≡◌, ℕ, ◌<◌, [], length, get_or, arith}
 use Rattle.std.specs.Prelude.{◌⊎◌, ◌↔◌}
 use Rattle.std.proofs.Math.ListN.{set}
 use Rattle.std.proofs.lemmas.List.{get_or_read}
-use Rattle.cellset.specs.Shape.{Extent}
 use Rattle.cellset.specs.Cell.{IsOn}
-use Rattle.cellset.specs.CellSet.{CellsOn, Has}
 use Rattle.cellset.specs.declared.cell.Cell.{Cell}
 use Rattle.cellset.proofs.Truth.{either}
 use Rattle.reach.specs.Bits.{HasBit}
 use Rattle.reach.specs.RowsOf.{InRows}
 use Rattle.reach.proofs.Written.{cell_added}
-use Rattle.reach.proofs.Sets.{rows_written, has_is}
+use Rattle.reach.proofs.Sets.{has_is}
 use Rattle.reach.proofs.rows.RowsOf.insert.Goals as goal
-
-pub invariant_of-self : goal.invariant_of-self
-invariant_of-self g c =
-    let shape = c.self.inside.shape in
-    let items = c.self.inside.rows.items in
-    let cell = c.args.cell in
-    let y = c.row.result in
-    let row = c.insert.new.row in
-    let on : IsOn shape cell = rw (← (ap (λ (v : CellsOn). v.extent) c.self.view_is)) at c.requires in
-    let bottom = on.bottom in
-    let long = c.self.invariant.long in
-    let at = c.row.ensures in
-    let within : y < length items = omega arith in
-    let read : c.index_mut.result.now ≡ get_or items y [] = get_or_read items y _ within c.index_mut.ensures.value [] in
-    let bits : (k : ℕ) → HasBit row k ↔ (HasBit (get_or items y []) k ⊎ (k ≡ cell.column)) =
-    rw (← read, ← c.column.ensures) c.insert.ensures in
-    let told : (p : Cell) → InRows (set items y row) p ↔ (InRows items p ⊎ (p ≡ cell)) = cell_added items y row cell within at bits in
-    rows_written _ shape y row items c.self.invariant (λ p h. either ((told p).0 h) (c.self.invariant.on p) (λ e. rw (← e) at on))
 
 pub returns-clause-members : goal.returns-clause-members
 returns-clause-members g c = λ q.
@@ -41,17 +21,11 @@ returns-clause-members g c = λ q.
     let cell = c.args.cell in
     let y = c.row.result in
     let row = c.insert.new.row in
-    let on : IsOn shape cell = subst (λ (e : Extent). IsOn e cell) (sym (ap (λ (v : CellsOn). v.extent) c.self.view_is)) c.requires in
-    let bottom = on.bottom in
-    let long = c.self.invariant.long in
+    let on : IsOn shape cell = grind arith in
     let at = c.row.ensures in
     let within : y < length items = omega arith in
     let read : c.index_mut.result.now ≡ get_or items y [] = get_or_read items y _ within c.index_mut.ensures.value [] in
     let bits : (k : ℕ) → HasBit row k ↔ (HasBit (get_or items y []) k ⊎ (k ≡ cell.column)) =
     rw (← read, ← c.column.ensures) c.insert.ensures in
     let told : (p : Cell) → InRows (set items y row) p ↔ (InRows items p ⊎ (p ≡ cell)) = cell_added items y row cell within at bits in
-    let is = has_is shape (set items y row) (λ p h. either ((told p).0 h) (c.self.invariant.on p) (λ e. subst (IsOn shape) (sym e) on)) q in
-    let was = subst (λ (v : CellsOn). Has v.members q ↔ InRows items q) c.self.view_is (has_is shape items c.self.invariant.on q) in (
-      (λ h. either ((told q).0 (is.0 h)) (λ old. inl (was.1 old)) (λ e. inr e)),
-      (λ h. is.1 ((told q).1 (either h (λ old. inl (was.0 old)) (λ e. inr e)))),
-    )
+    grind (arith, has_is, either)

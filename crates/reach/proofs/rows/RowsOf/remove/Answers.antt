@@ -1,36 +1,18 @@
 -- The cell is on the grid, so its row is one of the rows. That row loses the cell's bit, and no other row changes, so the bits of all rows
 -- are the old ones without the cell's (`cell_removed` in `Written.antt`). They are still on the grid, which is the invariant of the type.
 -- The members are the cells of the bits (`Sets.antt`), so they are the old ones without the cell.
-use Rattle.std.proofs.Common.{◌≡◌, ℕ, ◌<◌, [], length, get_or, ap, subst, arith}
+use Rattle.std.proofs.Common.{◌≡◌, ℕ, ◌<◌, [], length, get_or, ap, arith}
 use Rattle.std.specs.Prelude.{◌↔◌}
 use Rattle.std.proofs.Math.ListN.{set}
 use Rattle.std.proofs.lemmas.List.{get_or_read}
 use Rattle.cellset.specs.Cell.{IsOn}
-use Rattle.cellset.specs.CellSet.{CellsOn, Has}
+use Rattle.cellset.specs.CellSet.{CellsOn}
 use Rattle.cellset.specs.declared.cell.Cell.{Cell}
 use Rattle.reach.specs.Bits.{HasBit}
 use Rattle.reach.specs.RowsOf.{InRows}
 use Rattle.reach.proofs.Written.{cell_removed}
-use Rattle.reach.proofs.Sets.{rows_written, has_is}
+use Rattle.reach.proofs.Sets.{has_is}
 use Rattle.reach.proofs.rows.RowsOf.remove.Goals as goal
-
-pub invariant_of-self : goal.invariant_of-self
-invariant_of-self g c =
-    let shape = c.self.inside.shape in
-    let items = c.self.inside.rows.items in
-    let cell = c.args.cell in
-    let y = c.row.result in
-    let row = c.remove.new.row in
-    let on : IsOn shape cell = rw (← (ap (λ (v : CellsOn). v.extent) c.self.view_is)) at c.requires in
-    let bottom = on.bottom in
-    let long = c.self.invariant.long in
-    let at = c.row.ensures in
-    let within : y < length items = omega arith in
-    let read : c.index_mut.result.now ≡ get_or items y [] = get_or_read items y _ within c.index_mut.ensures.value [] in
-    let bits : (k : ℕ) → HasBit row k ↔ (HasBit (get_or items y []) k × (k ≡ cell.column → ⊥)) =
-    rw (← read, ← c.column.ensures) c.remove.ensures in
-    let told : (p : Cell) → InRows (set items y row) p ↔ (InRows items p × (p ≡ cell → ⊥)) = cell_removed items y row cell within at bits in
-    rows_written _ shape y row items c.self.invariant (λ p h. c.self.invariant.on p ((told p).0 h).0)
 
 pub returns-clause-members : goal.returns-clause-members
 returns-clause-members g c = λ q.
@@ -40,16 +22,10 @@ returns-clause-members g c = λ q.
     let y = c.row.result in
     let row = c.remove.new.row in
     let on : IsOn shape cell = rw (← (ap (λ (v : CellsOn). v.extent) c.self.view_is)) at c.requires in
-    let bottom = on.bottom in
-    let long = c.self.invariant.long in
     let at = c.row.ensures in
     let within : y < length items = omega arith in
     let read : c.index_mut.result.now ≡ get_or items y [] = get_or_read items y _ within c.index_mut.ensures.value [] in
     let bits : (k : ℕ) → HasBit row k ↔ (HasBit (get_or items y []) k × (k ≡ cell.column → ⊥)) =
     rw (← read, ← c.column.ensures) c.remove.ensures in
     let told : (p : Cell) → InRows (set items y row) p ↔ (InRows items p × (p ≡ cell → ⊥)) = cell_removed items y row cell within at bits in
-    let is = has_is shape (set items y row) (λ p h. c.self.invariant.on p ((told p).0 h).0) q in
-    let was = subst (λ (v : CellsOn). Has v.members q ↔ InRows items q) c.self.view_is (has_is shape items c.self.invariant.on q) in (
-      (λ h. let (old, ne) = (told q).0 (is.0 h) in (was.1 old, ne)),
-      (λ (old, ne). is.1 ((told q).1 (was.0 old, ne))),
-    )
+    grind (arith, has_is)

@@ -8,9 +8,7 @@ use Rattle.reach.specs.Bits.{HasBit}
 use Rattle.reach.specs.Reached.{PullsTo, IsBetween}
 use Rattle.reach.proofs.Lines.{filled_reached, filled_as}
 use Rattle.reach.specs.Grown.{Passes, in_rows}
-use Rattle.cellset.specs.Cell.{neighbor, opposite}
-use Rattle.reach.proofs.Walking.{of_test}
-use Rattle.reach.proofs.Pulling.{beside_by, pulls_end, pulls_enter, pulls_closed, pulls_on}
+use Rattle.reach.proofs.Pulling.{pulls_enter, pulls_closed}
 use Rattle.reach.proofs.step.ByPullStepBy.along.Goals as goal
 
 pub returns-clause-sound : goal.returns-clause-sound
@@ -35,12 +33,3 @@ returns-clause-closed g c = λ j k h step.
     let same = filled_as (HasBit row) (HasBit c.between.result) (IsBetween (HasBit (get_or free y []))) mids in
     (c.fill_over.ensures.filled k).1 ((same k).1 (pulls_closed free y (HasBit row) c.requires.inside j k step
     ((same j).0 ((c.fill_over.ensures.filled j).0 h))))
-
-pub returns-clause-on : goal.returns-clause-on
-returns-clause-on g c = λ shape a b on step. pulls_on shape c.args.free.now a b on step
-
-pub returns-clause-beside : goal.returns-clause-beside
-returns-clause-beside g c = λ a b p. beside_by a b p.dir p.next (c.requires.inside a (of_test c.args.free.now a p.ahead)).0
-
-pub returns-clause-ends : goal.returns-clause-ends
-returns-clause-ends g c = λ a b p. pulls_end c.args.free.now a b p.dir p.next (of_test c.args.free.now (neighbor b (opposite p.dir)) p.behind)

@@ -1,5 +1,4 @@
 use Rattle.std.proofs.Common.{get_or, refl, arith}
-use Rattle.std.specs.Int.{trailing_zeros, w64}
 use Rattle.reach.proofs.Many.{taken}
 use Rattle.reach.proofs.worklist.Worklist.pop.Goals as goal
 
@@ -9,5 +8,4 @@ returns-then-word-ne0 g c =
     let i = c.loop-i.i in
     let word = get_or words i 0 in
     let same = c.loop-i.invariant.same in
-    let bit = trailing_zeros w64 word in
     rw (← same) (taken words i word (omega arith) refl (omega arith) (omega arith))
