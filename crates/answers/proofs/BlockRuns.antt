@@ -2,7 +2,7 @@
 -- its body, the lines up to `end` come to what the body says, and `end` closes the block. So a block adds its entry,
 -- and blocks add theirs in order. What follows whole blocks is then read from there, and the line that the rule names
 -- as the first fault is refused with that fault.
-use Rattle.std.proofs.Common.{◌≡◌, ℕ, ◌+◌, ◌<◌, ◌≤◌, cond, List, [], ◌∷◌, ◌++◌, map, Result, Ok, Err, refl, sym, ap, ◌∙◌, arith, inl, inr, append_assoc}
+use Rattle.std.proofs.Common.{◌≡◌, ℕ, ◌+◌, ◌<◌, ◌≤◌, List, [], ◌∷◌, ◌++◌, map, Result, Ok, Err, refl, sym, ap, ◌∙◌, arith, inl, inr, append_assoc}
 use Rattle.std.specs.Prelude.{codes}
 use Rattle.std.proofs.lemmas.List.{append-nil}
 use Rattle.answers.specs.declared.fault.AnswersFault.{AnswersFault}
@@ -45,17 +45,13 @@ step_kind version levels entries n l {b} h = ap (λ r. on_ok r (λ b. Ok (entrie
 pub run_lines : (version levels : ℕ) (lines : List Line) (entries : List Entry) (n : ℕ) (b : Body) → NoneEnds lines
     → run version levels entries (BodyDue n b) lines ≡ Ok (entries, BodyDue n (after_lines version b lines))
 run_lines version levels [] entries n b h = refl
-run_lines version levels (l ∷ lines) entries n b h =
-    ap (λ c. on_ok {A = List Entry × Stage} (cond c (Ok (entries ++ record { level = n; body = b } ∷ [], LevelDue))
-    (Ok (entries, BodyDue n (extended version b l)))) (λ next. run version levels next.0 next.1 lines))
-    (other_text h.0) ∙ run_lines version levels lines entries n (extended version b l) h.1
+run_lines version levels (l ∷ lines) entries n b h = search (other_text, run_lines version levels lines entries n (extended version b l) h.1)
 
 pub letters_after : (version : ℕ) (lines : List Line) (before : List (List ℕ))
     → after_lines version (LetterLines before) lines ≡ LetterLines (before ++ map (λ l. l.text) lines)
 unfolding extended
 letters_after version [] before = search (append-nil)
-letters_after version (l ∷ lines) before = letters_after version lines (before ++ l.text ∷ [])
-    ∙ ap LetterLines (append_assoc before (l.text ∷ []) (map (λ l. l.text) lines))
+letters_after version (l ∷ lines) before = grind (arith, letters_after version lines (before ++ l.text ∷ []), append_assoc)
 
 -- a kind line and the lines after it come to what the body says
 run_body : (version levels : ℕ) (entries : List Entry) (n : ℕ) (kind : Line) (lines : List Line) {b : Body} → IsBody version kind.text lines b → NoneEnds lines
@@ -89,8 +85,7 @@ run_blocks version levels lines entries [] h rise = grind (arith, append-nil)
 run_blocks version levels lines entries (e ∷ more) h rise =
     let first = run_block entries h.3 rise.0 rise.1 in
     let rest : RiseWithin (last_level (entries ++ e ∷ [])) levels more = rw (last_level-push entries e) rise.2 in
-    ap (run version levels entries LevelDue) h.2 ∙ from_there version levels h.0 h.1 entries LevelDue (entries ++ e ∷ []) LevelDue first
-    ∙ run_blocks version levels h.1 (entries ++ e ∷ []) more h.4 rest ∙ ap (λ x. Ok (x, LevelDue)) (append_assoc entries (e ∷ []) more)
+    grind (arith, from_there, run_blocks version levels h.1 (entries ++ e ∷ []) more h.4 rest, append_assoc)
 
 -- the lines after whole blocks are read from where the blocks led
 after_blocks : (version levels : ℕ) (kept : List Line) (entries : List Entry) (rest : List Line) → BeginsWith version levels kept entries rest

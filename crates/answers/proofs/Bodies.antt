@@ -9,7 +9,7 @@ use Rattle.std.proofs.lemmas.List.{append-nil, map-append, length-map}
 use Rattle.std.proofs.lemmas.Grind.{fold-append}
 use Rattle.answers.specs.declared.record.BadLineWhy.{BadLineWhy}
 use Rattle.answers.specs.declared.record.BadLineWhy.TheVariants.{Syntax, Count}
-use Rattle.answers.specs.Grammar.{Line, line_of_pattern, line_of_zone, IsPattern, IsZone, SpellsPattern, SpellsZone, most_patterns, ArePatternLines, HasOneTooMany, IsCertificate}
+use Rattle.answers.specs.Grammar.{Line, line_of_pattern, line_of_zone, IsPattern, IsZone, SpellsPattern, SpellsZone, most_patterns, ArePatternLines, IsCertificate}
 use Rattle.answers.specs.Body.{PatternLine, ZoneLine, Body, LetterLines, PatternLines, OneZone, FirstBad}
 use Rattle.answers.specs.Reading.{pattern_in, zone_in, with_pattern, with_line, first_zone, extended, after_lines}
 use Rattle.answers.proofs.LineTexts.{pattern_found, pattern_again, no_pattern, zone_found, zone_again, no_zone}
@@ -22,7 +22,7 @@ nothing_before (p ∷ patterns) h e = absurd (omega arith)
 
 Each-append : (xs ys : List PatternLine) → AllByRecursion IsPattern xs → AllByRecursion IsPattern ys → AllByRecursion IsPattern (xs ++ ys)
 Each-append [] ys h k = k
-Each-append (x ∷ xs) ys h k = (h.0, Each-append xs ys h.1 k)
+Each-append (x ∷ xs) ys h k = search (Each-append xs ys h.1 k)
 
 -- no zone line was found
 abbrev LacksZone : ℕ → List PatternLine → Line → Type 0
@@ -66,32 +66,7 @@ pattern_more {body} {patterns} l None e h few zone = inl (record {
     no_patterns body patterns h none = sym (length-map patterns line_of_pattern) ∙ ap length (sym h.spelled) ∙ ap length none
 pattern_more {version} {body} {patterns} l (Some p) e h few zone =
     let line = pattern_found l p e in
-    ⊎_elim
-    (λ full.
-    let all : length patterns ≡ most_patterns = eqb-true (length patterns) most_patterns full in
-    let number : p.line ≡ l.number = ap (λ x. x.number) (sym line.same) in
-    let excess : HasOneTooMany (body ++ l ∷ []) l.number = record {
-      before = body;
-      patterns = patterns;
-      excess = p;
-      after = [];
-      split = ap (λ x. body ++ x ∷ []) line.same;
-      spelled = h;
-      full = all;
-      lawful = line.lawful;
-      number = number;
-    } in
-    rw (ap (λ b. cond b (FirstBad l.number Count) (PatternLines (patterns ++ p ∷ []))) full) excess)
-    (λ room.
-    let not_all : length patterns ≢ most_patterns = eqb-false (length patterns) most_patterns room in
-    let more : ArePatternLines (body ++ l ∷ []) (patterns ++ p ∷ []) = record {
-      spelled = ap (λ x. x ++ l ∷ []) h.spelled ∙ ap (λ x. map line_of_pattern patterns ++ x ∷ []) line.same
-          ∙ sym (map-append line_of_pattern patterns (p ∷ []));
-      each = Each-append patterns (p ∷ []) h.each (line.lawful, tt);
-    } in
-    let said : IsCertificate version (body ++ l ∷ []) (PatternLines (patterns ++ p ∷ [])) = (more, omega (arith, length-append patterns (p ∷ []))) in
-    rw (ap (λ b. cond b (FirstBad l.number Count) (PatternLines (patterns ++ p ∷ []))) room) said)
-    (cases_Bool (eqb (length patterns) most_patterns))
+    grind (arith, eqb-true, eqb-false, map-append, Each-append, cases_Bool, length-append)
 
 patterns_more : (version : ℕ) (body : List Line) (patterns : List PatternLine) (l : Line) → ZoneCase version patterns l
     → ArePatternLines body patterns → length patterns ≤ most_patterns → IsCertificate version (body ++ l ∷ []) (extended version (PatternLines patterns) l)
@@ -99,13 +74,12 @@ unfolding extended
 patterns_more version body patterns l (found z two none read e) h few =
     let line = zone_found read in
     let first : body ++ l ∷ [] ≡ line_of_zone z ∷ [] = ap (λ x. x ++ l ∷ []) (nothing_before patterns h none) ∙ ap (λ x. x ∷ []) line.same in
-    let said : IsCertificate version (body ++ l ∷ []) (OneZone z) = (two, line.lawful, first) in
-    subst (λ o. IsCertificate version (body ++ l ∷ []) (with_line o patterns l)) (sym e) said
+    grind arith
 patterns_more version body patterns l (lacks zone e) h few =
     subst (λ o. IsCertificate version (body ++ l ∷ []) (with_line o patterns l)) (sym e) (pattern_more l (pattern_in l) refl h few zone)
 
 more_after : {body : List Line} (front : List Line) (x l : Line) (after : List Line) → body ≡ front ++ x ∷ after → body ++ l ∷ [] ≡ front ++ x ∷ (after ++ l ∷ [])
-more_after front x l after e = ap (λ b. b ++ l ∷ []) e ∙ append_assoc front (x ∷ after) (l ∷ [])
+more_after front x l after e = grind (arith, append_assoc)
 
 -- a certificate with one line more says what it said, extended by the line
 pub certificate_more : (version : ℕ) (body : List Line) (b : Body) (l : Line) → IsCertificate version body b
@@ -152,8 +126,7 @@ pub certificate_found : (version : ℕ) (lines done : List Line) (b : Body) → 
     → IsCertificate version (done ++ lines) (after_lines version b lines)
 certificate_found version [] done b h = search (append-nil)
 certificate_found version (l ∷ lines) done b h =
-    subst (λ x. IsCertificate version x (after_lines version (extended version b l) lines)) (append_assoc done (l ∷ []) lines)
-    (certificate_found version lines (done ++ l ∷ []) (extended version b l) (certificate_more version done b l h))
+    grind (arith, certificate_more, certificate_found version lines (done ++ l ∷ []) (extended version b l) (certificate_more version done b l h), append_assoc)
 
 after_bad : (version : ℕ) (n : ℕ) (why : BadLineWhy) (lines : List Line) → after_lines version (FirstBad n why) lines ≡ FirstBad n why
 unfolding extended
@@ -176,14 +149,7 @@ after_patterns : (version : ℕ) (patterns before : List PatternLine) → AllByR
     → after_lines version (PatternLines before) (map line_of_pattern patterns) ≡ PatternLines (before ++ patterns)
 after_patterns version [] before h few = search (append-nil)
 after_patterns version (p ∷ patterns) before h few =
-    let one = pattern_at before (line_of_pattern p) (λ _ _. pattern_is_no_zone p) in
-    let read = ap (with_pattern before p.line) (pattern_again h.0) in
-    let room : eqb (length before) most_patterns ≡ false = ne_eqb (length before) most_patterns (λ e. absurd (omega arith)) in
-    let put : with_pattern before p.line (Some p) ≡ PatternLines (before ++ p ∷ []) =
-    ap (λ b. cond b (FirstBad p.line Count) (PatternLines (before ++ p ∷ []))) room in
-    ap (λ b. after_lines version b (map line_of_pattern patterns)) (one ∙ read ∙ put)
-    ∙ after_patterns version patterns (before ++ p ∷ []) h.1 (omega (arith, length-append before (p ∷ [])))
-    ∙ ap PatternLines (append_assoc before (p ∷ []) patterns)
+    grind (arith, pattern_at, pattern_is_no_zone, pattern_again, ne_eqb, after_patterns version patterns (before ++ p ∷ []) h.1 (omega (arith, length-append before (p ∷ []))), length-append, append_assoc)
 
 from_patterns : (version : ℕ) {lines : List Line} {patterns : List PatternLine} → ArePatternLines lines patterns → length patterns ≤ most_patterns
     → after_lines version (PatternLines []) lines ≡ PatternLines patterns
@@ -215,8 +181,7 @@ certificate_again version lines (FirstBad n Syntax) (inl h) =
     let stray : Line = record { number = n; text = h.stray } in
     let zone : LacksZone version h.patterns stray = λ two none. zone_not_read stray (h.no_zone two (nothing_before h.patterns h.spelled none))
     (zone_in stray) refl in
-    let bad : extended version (PatternLines h.patterns) stray ≡ FirstBad n Syntax = pattern_at h.patterns stray zone
-    ∙ ap (with_pattern h.patterns n) (not_read stray h.no_pattern (pattern_in stray) refl) in
+    let bad : extended version (PatternLines h.patterns) stray ≡ FirstBad n Syntax = grind (arith, pattern_at, not_read) in
     after_front version h.before h.after stray lines h.split
     ∙ ap (λ b. after_lines version (extended version b stray) h.after) (from_patterns version h.spelled h.few)
     ∙ ap (λ b. after_lines version b h.after) bad ∙ after_bad version n Syntax h.after
@@ -227,10 +192,7 @@ certificate_again version lines (FirstBad n Syntax) (inr h) =
     ∙ after_bad version n Syntax h.after
 certificate_again version lines (FirstBad n Count) h =
     let x = line_of_pattern h.excess in
-    let bad : extended version (PatternLines h.patterns) x ≡ FirstBad n Count = pattern_at h.patterns x (λ _ _. pattern_is_no_zone h.excess)
-    ∙ ap (with_pattern h.patterns h.excess.line) (pattern_again h.lawful)
-    ∙ ap (λ b. cond b (FirstBad h.excess.line Count) (PatternLines (h.patterns ++ h.excess ∷ []))) (eq-eqb (length h.patterns) most_patterns h.full)
-    ∙ ap (λ k. FirstBad k Count) h.number in
+    let bad : extended version (PatternLines h.patterns) x ≡ FirstBad n Count = grind (arith, pattern_at, pattern_is_no_zone, pattern_again, eq-eqb) in
     after_front version h.before h.after x lines h.split
     ∙ ap (λ b. after_lines version (extended version b x) h.after) (from_patterns version h.spelled (omega arith))
     ∙ ap (λ b. after_lines version b h.after) bad ∙ after_bad version n Count h.after
@@ -271,8 +233,7 @@ module _ (version : ℕ) (patterns : List PatternLine) (l : Line) (rest all : Li
       pattern_or_excess e = read_as read ∙ ap (λ x. cond x (FirstBad l.number Count) (PatternLines (patterns ++ p ∷ []))) e
 
       pub excess_next : length patterns ≡ most_patterns → come_to (FirstBad l.number Count)
-      excess_next full =
-          next_is (pattern_or_excess (eq-eqb (length patterns) most_patterns full)) ∙ after_bad version l.number Count rest
+      excess_next full = next_is (pattern_or_excess (eq-eqb (length patterns) most_patterns full)) ∙ after_bad version l.number Count rest
 
       pub pattern_next : length patterns ≢ most_patterns → come_to (after_lines version (PatternLines (patterns ++ p ∷ [])) rest)
       pattern_next few = next_is (pattern_or_excess (ne_eqb (length patterns) most_patterns few))

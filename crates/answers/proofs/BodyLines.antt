@@ -9,7 +9,7 @@ use Rattle.answers.specs.declared.record_text.Kind.TheVariants.{Solution, Unsolv
 use Rattle.answers.specs.declared.record_text.RecordText.{RecordText}
 use Rattle.answers.specs.Grammar.{IsBody, Line, SpellsEntries}
 use Rattle.answers.specs.Body.{Body, Entry, PatternLines}
-use Rattle.answers.specs.Records.{AreEntriesOf, SaysOfLevel, body_lines, kind_line}
+use Rattle.answers.specs.Records.{AreEntriesOf, SaysOfLevel, kind_line}
 use Rattle.answers.specs.Reading.{after_lines, entry_of, opened}
 use Rattle.answers.proofs.Bodies.{certificate_again, certificate_found}
 use Rattle.answers.proofs.BlockRuns.{letters_after}
@@ -37,7 +37,7 @@ says_one_body r b h = search (one_body)
 
 pub entries_are : (rs : List RecordText) → AreEntriesOf rs (map entry_of rs)
 entries_are [] = tt
-entries_are (r ∷ rs) = (refl, body_says r.version r.kind (body_lines r), entries_are rs)
+entries_are (r ∷ rs) = search (body_says, entries_are rs)
 
 same_entry : (r : RecordText) (e : Entry) → e.level ≡ r.level → SaysOfLevel r e.body → e ≡ entry_of r
 same_entry r e level says =
@@ -50,7 +50,7 @@ pub one_list : (rs : List RecordText) (es : List Entry) → AreEntriesOf rs es �
 one_list [] [] h = refl
 one_list [] (e ∷ es) h = absurd h
 one_list (r ∷ rs) [] h = absurd h
-one_list (r ∷ rs) (e ∷ es) h = ap (λ x. x ∷ es) (same_entry r e h.0 h.1) ∙ ap (λ x. entry_of r ∷ x) (one_list rs es h.2)
+one_list (r ∷ rs) (e ∷ es) h = search (same_entry, one_list rs es h.2)
 
 -- ---- what a call answers
 

@@ -2,7 +2,7 @@
 -- A coordinate is the digits with which the text begins. A cell is a coordinate, a comma and a coordinate. Cells are read one after the other,
 -- as the program does (`TakenCells.antt`), each with at least one byte, so the length of the text is enough steps. What is read is there, and
 -- what is there is read.
-use Rattle.std.proofs.Common.{◌≡◌, ◌≢◌, ℕ, suc, zero, ◌+◌, ◌≤◌, Bool, true, false, ◌&&◌, cond, List, [], ◌∷◌, ◌++◌, length, take, drop, eqb, leb, Option, Some, None, refl, sym, ap, subst, ◌∙◌, arith, ⊎_elim, append_assoc, take-append-drop, length-append}
+use Rattle.std.proofs.Common.{◌≡◌, ◌≢◌, ℕ, suc, zero, ◌+◌, ◌≤◌, Bool, true, false, ◌&&◌, cond, List, [], ◌∷◌, ◌++◌, length, take, drop, eqb, leb, Option, Some, None, refl, sym, ◌∙◌, arith, ⊎_elim, append_assoc, take-append-drop, length-append}
 use Rattle.std.specs.Prelude.{codes, slice_index}
 use Rattle.std.specs.List.{list_all, prefix_len}
 use Rattle.std.specs.Char.{is_ascii_digit}
@@ -13,7 +13,7 @@ use Rattle.std.proofs.lemmas.List.{append-nil, drop_at, nil_from_length, take_at
 use Rattle.std.proofs.lemmas.List.Sums.{prefix_len-le-length, prefix_len_stops}
 use Rattle.std.proofs.lemmas.Slice.Eq.{bytes_eq-Decides}
 use Rattle.answers.specs.declared.pattern.Coord.{Coord}
-use Rattle.answers.specs.Grammar.{IsBefore, IsCellList, cell_text, cells_text, numeral}
+use Rattle.answers.specs.Grammar.{IsBefore, IsCellList, cells_text, numeral}
 use Rattle.answers.specs.Reading.{◌>>=◌, AreCellsBefore, TakesCell, TakesCells, TakesCoordinate, after_blank, after_prefix, all_cells_in, cell_in, cells_from, cells_in, coordinate_in, is_before, is_number, number_in, some_or}
 use Rattle.answers.proofs.Coordinates.{BeginsWithDigits, NoneGoesOn, begins, takes_no_number, takes_number}
 use Rattle.answers.proofs.Numerals.{and_true}
@@ -27,9 +27,7 @@ chained (Some x) e = (x, refl, e)
 -- ---- prefixes
 
 pub prefixed : (prefix text rest : List ℕ) → bytes_eq (take (length prefix) text) prefix ≡ true → rest ≡ drop (length prefix) text → text ≡ prefix ++ rest
-prefixed prefix text rest same is =
-    let n = length prefix in
-    sym (take-append-drop n text) ∙ ap (λ l. l ++ drop n text) ((bytes_eq-Decides (take n text) prefix).0 same) ∙ ap (λ l. prefix ++ l) (sym is)
+prefixed prefix text rest same is = grind (arith, bytes_eq-Decides, take-append-drop)
 
 pub prefix_found : (prefix text rest : List ℕ) → after_prefix prefix text ≡ Some rest → text ≡ prefix ++ rest
 prefix_found prefix text rest e = grind (arith, cond_some, prefixed)
@@ -47,7 +45,7 @@ passes_by p xs n true passes rest = grind arith
 
 front_passes : (p : ℕ → Bool) (xs : List ℕ) → list_all p (take (prefix_len p xs) xs) ≡ true
 front_passes p [] = refl
-front_passes p (x ∷ xs) = passes_by p xs (prefix_len p xs) (p x) refl (front_passes p xs)
+front_passes p (x ∷ xs) = search (passes_by, front_passes p xs)
 
 takes_coordinate : (text : List ℕ) → TakesCoordinate text (coordinate_in text)
 unfolding coordinate_in
@@ -63,10 +61,7 @@ takes_coordinate text =
     let front = and_true (begins digits) both.0 in
     rw yes (takes_number text at number h none front.0 (leb-true number 65535 both.1)))
     (λ no.
-    let other : number ≤ 65535 → begins digits ≡ false = λ small. ⊎_elim
-    (λ yes. absurd (false≢true (sym no ∙ and_from _ _ (and_from _ _ yes (front_passes is_ascii_digit text)) (le-leb number 65535 small))))
-    (λ h. h) (cases_Bool (begins digits)) in
-    rw no (takes_no_number text at number h none other))
+    grind (arith, begins, false≢true, and_from, front_passes, le-leb, cases_Bool, takes_no_number))
     (cases_Bool (is_number digits && leb number 65535))
 
 abbrev with_row : ℕ → List ℕ → Option (Coord × List ℕ)
@@ -75,19 +70,7 @@ with_row column more = coordinate_in more >>= λ row. Some (record { row = row.0
 module _ (text : List ℕ) where
   row_by : {n m : ℕ} {more rest : List ℕ} → TakesCoordinate text (Some (n, 44 ∷ more)) → TakesCoordinate more (Some (m, rest))
       → TakesCell text (Some (record { row = m; column = n }, rest))
-  row_by {n} {m} {more} {rest} column row = record {
-    found = record {
-      spelled = column.found.spelled ∙ ap (λ l. numeral n ++ 44 ∷ l) row.found.spelled ∙ sym (append_assoc (numeral n) (codes ",") (numeral m ++ rest))
-          ∙ sym (append_assoc (numeral n ++ codes ",") (numeral m) rest);
-      lawful = record { column_low = column.found.low; column_high = column.found.high; row_low = row.found.low; row_high = row.found.high };
-    };
-    only = λ cell after there ends.
-        let first = some_pair_parts n cell.column (44 ∷ more) (44 ∷ (numeral cell.row ++ after))
-        (column.only cell.column (44 ∷ (numeral cell.row ++ after)) (column_there text cell after there) refl) in
-        let second = some_pair_parts m cell.row rest after
-        (row.only cell.row after (record { spelled = ap (drop 1) first.1; low = there.lawful.row_low; high = there.lawful.row_high }) ends) in
-        rw (first.0, second.0, second.1) refl;
-  }
+  row_by {n} {m} {more} {rest} column row = grind (arith, some_pair_parts, column_there, append_assoc)
 
   no_row : {n : ℕ} {more : List ℕ} → TakesCoordinate text (Some (n, 44 ∷ more)) → TakesCoordinate more None → TakesCell text None
   no_row {n} {more} column row = record {
@@ -95,8 +78,7 @@ module _ (text : List ℕ) where
     only = λ cell after there ends.
         let first = some_pair_parts n cell.column (44 ∷ more) (44 ∷ (numeral cell.row ++ after))
         (column.only cell.column (44 ∷ (numeral cell.row ++ after)) (column_there text cell after there) refl) in
-        let second = row.only cell.row after (record { spelled = ap (drop 1) first.1; low = there.lawful.row_low; high = there.lawful.row_high }) ends in
-        absurd cc;
+        grind arith;
   }
 
   with_row_by : {n : ℕ} {more : List ℕ} (o : Option (ℕ × List ℕ)) → TakesCoordinate text (Some (n, 44 ∷ more)) → TakesCoordinate more o
@@ -119,8 +101,7 @@ module _ (text : List ℕ) where
         only = λ cell after there ends.
             let row = numeral cell.row ++ after in
             let same = some_pair_parts n cell.column left (44 ∷ row) (t.only cell.column (44 ∷ row) (column_there text cell after there) refl) in
-            let read : after_prefix (codes ",") left ≡ Some row = ap (after_prefix (codes ",")) same.1 ∙ prefix_again (codes ",") row in
-            absurd cc;
+            grind (arith, prefix_again);
       }
       by_comma (Some more) e =
           let is : left ≡ 44 ∷ more = prefix_found (codes ",") left more e in
@@ -159,10 +140,7 @@ module _ (n : ℕ) (text : List ℕ) (front : List Coord) (last : Coord) (left :
   by_next : {cell : Coord} {after : List ℕ} → TakesCell left (Some (cell, after)) → IsBefore last cell → (o : Option (List ℕ)) → after_blank after ≡ o
       → TakesCells text (some_or (front ++ cell ∷ [], after) (λ next. cells_from n (front ++ cell ∷ []) cell next) o)
   by_next t before None e = search (last_cell, no_blank)
-  by_next {cell} {after} t before (Some next) e =
-      let blank = blank_found e in
-      let size = ap length (t.found.spelled ∙ ap (λ l. cell_text cell ++ l) blank.0) ∙ length-append (cell_text cell) (32 ∷ next) in
-      more cell next (omega arith) (one_more text front last left k cell after t before next blank.0 blank.1)
+  by_next {cell} {after} t before (Some next) e = grind (arith, blank_found, one_more, length-append)
 
   by_cell : (o : Option (Coord × List ℕ)) → TakesCell left o → TakesCells text (o >>= λ t. cond (is_before last t.0)
       (some_or (front ++ t.0 ∷ [], t.1) (λ next. cells_from n (front ++ t.0 ∷ []) t.0 next) (after_blank t.1)) None)
@@ -192,9 +170,7 @@ cells_found {text} {cells} e =
     let a = chained (cells_in text) e in
     let b = cond_some (eqb (length a.0.1) 0) a.0.0 cells a.2 in
     let there : AreCellsBefore text a.0.0 a.0.1 = (rw a.1 at (takes_cells text)).found in
-    let none : a.0.1 ≡ [] = nil_from_length a.0.1 (eqb-true (length a.0.1) 0 b.0) in
-    subst (AreCellsText text) b.1
-    (record { spelled = there.spelled ∙ ap (λ l. cells_text a.0.0 ++ l) none ∙ append-nil (cells_text a.0.0); lawful = there.lawful })
+    grind (arith, nil_from_length, eqb-true, append-nil)
 
 pub cells_again : {cells : List Coord} → IsCellList cells → all_cells_in (cells_text cells) ≡ Some cells
 unfolding all_cells_in

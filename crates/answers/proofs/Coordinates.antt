@@ -3,7 +3,7 @@
 -- at the same place: before it the next byte is a digit and the number is at most 6,553, since no coordinate is above 65,535; and after it
 -- a byte would have been read that is no digit. So the number is the coordinate. Conversely a number that doesn't begin with 0 is spelled by
 -- its digits.
-use Rattle.std.proofs.Common.{◌≡◌, ℕ, ◌+◌, ◌-◌, ◌*◌, ◌<◌, ◌≤◌, Bool, true, false, not, ◌&&◌, List, ◌++◌, length, take, drop, get_or, eqb, ltb, Some, None, get_or-take, refl, sym, ap, ◌∙◌, arith, ⊎_elim}
+use Rattle.std.proofs.Common.{◌≡◌, ℕ, ◌+◌, ◌-◌, ◌*◌, ◌<◌, ◌≤◌, Bool, true, false, not, ◌&&◌, List, length, take, drop, get_or, eqb, ltb, Some, None, get_or-take, refl, sym, ap, ◌∙◌, arith, ⊎_elim}
 use Rattle.std.specs.List.{list_all}
 use Rattle.std.specs.Char.{is_ascii_digit}
 use Rattle.std.proofs.lemmas.Bool.{cases_Bool, cases_lt, false≢true}
@@ -49,13 +49,9 @@ module _ (text : List ℕ) (at number n : ℕ) (rest : List ℕ) (h : BeginsWith
       (λ low.
       let within : at < length text = omega (arith, size) in
       let digit : is_ascii_digit (get_or text at 0) ≡ true =
-      ap (λ l. is_ascii_digit (get_or l at 0)) there.spelled ∙ ap is_ascii_digit (get_or_append_left (numeral n) rest 0 at low)
-      ∙ digit_at (numeral n) at (digits-numeral n) low in
+      grind (arith, get_or_append_left, digit_at, digits-numeral) in
       let same : take (at + 1) text ≡ take (at + 1) (numeral n) =
       ap (take (at + 1)) there.spelled ∙ take-append-le (at + 1) (numeral n) rest (omega arith) in
-      let large = none within digit in
-      let high = there.high in
-      let value = h.value in
       absurd (omega (arith, number_in-more text at within, ap number_in same, number_in-take-le (numeral n) (at + 1), number_in-numeral n)))
       (λ h. h) (cases_lt at (length (numeral n)))
 
@@ -63,12 +59,9 @@ module _ (text : List ℕ) (at number n : ℕ) (rest : List ℕ) (h : BeginsWith
   no_later = ⊎_elim
       (λ low.
       let m = length (numeral n) in
-      let within = h.within in
-      let zero : m - m ≡ 0 = omega arith in
       let long : m < length (take at text) = omega (arith, length-take at text) in
       let next : get_or (take at text) m 0 ≡ get_or rest 0 0 =
-      get_or-take at text m 0 low ∙ ap (λ l. get_or l m 0) there.spelled ∙ get_or-append_right (numeral n) rest m m 0 refl (omega arith)
-      ∙ ap (λ k. get_or rest k 0) zero in
+      grind (arith, get_or-append_right, get_or-take) in
       absurd (false≢true (sym ends ∙ ap is_ascii_digit (sym next) ∙ digit_at (take at text) m h.digits long)))
       (λ h. h) (cases_lt (length (numeral n)) at)
 
@@ -89,24 +82,13 @@ pub takes_number : (text : List ℕ) (at number : ℕ) → BeginsWithDigits text
 takes_number text at number h none front small =
     let digits = h.digits in
     let is = numeral-number_in (take at text) (λ j. front j && digits j) in
-    let value = h.value in
-    record {
-      found = record {
-        spelled = sym (take-append-drop at text) ∙ ap (λ l. l ++ drop at text) (sym is.0 ∙ ap numeral (sym value));
-        low = omega arith;
-        high = small;
-      };
-      only = λ n rest there ends. ap (λ k. Some (k, drop at text)) (number_is text at number n rest h none there ends)
-          ∙ ap (λ l. Some (n, l)) (rest_is text at number n rest h none there ends);
-    }
+    grind (arith, take-append-drop, number_is, rest_is)
 
 pub takes_no_number : (text : List ℕ) (at number : ℕ) → BeginsWithDigits text at number → NoneGoesOn text at number
     → (number ≤ 65535 → begins (take at text) ≡ false) → TakesCoordinate text None
 takes_no_number text at number h none bad = record {
   found = tt;
   only = λ n rest there ends.
-      let high = there.high in
-      let low = there.low in
       let small : number ≤ 65535 = omega (arith, number_is text at number n rest h none there ends) in
       let front = and_true (begins (numeral n)) (is_number-numeral n (omega arith)) in
       absurd (false≢true (sym (bad small) ∙ ap begins (digits_are text at number n rest h none there ends) ∙ front.0));

@@ -89,10 +89,7 @@ pub take_level : (last levels : ℕ) (l : Line) (n : ℕ) → IsLevelTaken last 
 unfolding level_after
 take_level last levels l n h =
     let d = level_is h.line in
-    let m = number_in d.0 in
-    let above : leb m last ≡ false = lt-leb m last (omega arith) in
-    let known : ltb levels m ≡ false = le-ltb levels m (omega arith) in
-    ap (level_in last levels l.number) d.1 ∙ rw (above, known) (ap Ok d.2)
+    grind (arith, lt-leb, le-ltb)
 
 pub refuse_level : {last levels : ℕ} {l : Line} {f : AnswersFault} → IsLevelRefused last levels l f → level_after last levels l ≡ Err f
 unfolding level_after
@@ -103,13 +100,10 @@ refuse_level {last} {levels} {l} {f} (no_line none e) = by_digits (level_digits 
     by_digits (Some digits) read = let h = level_found read in absurd (none (number_in digits) (record { low = h.low; spelled = h.text_is }))
 refuse_level {last} {levels} {l} (not_above n line under e) =
     let d = level_is line in
-    let below : leb (number_in d.0) last ≡ true = le-leb (number_in d.0) last (omega arith) in
-    ap (level_in last levels l.number) d.1 ∙ rw below (ap Err (sym e))
+    grind (arith, le-leb)
 refuse_level {last} {levels} {l} (not_known n line over past e) =
     let d = level_is line in
-    let above : leb (number_in d.0) last ≡ false = lt-leb (number_in d.0) last (omega arith) in
-    let beyond : ltb levels (number_in d.0) ≡ true = lt-ltb levels (number_in d.0) (omega arith) in
-    ap (level_in last levels l.number) d.1 ∙ rw (above, beyond) (ap Err (sym e))
+    grind (arith, lt-leb, lt-ltb)
 
 -- what a kind line opens
 pub data Opens (text : List ℕ) (b : Body) : Type 0 where

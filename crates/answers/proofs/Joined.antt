@@ -9,7 +9,7 @@ use Rattle.answers.specs.Canonical.{canonical, ended, header_line, lines_with, r
 
 pub flat_map-flat_map : {X Y Z : Type 0} (f : Y → List Z) (h : X → List Y) (xs : List X) → flat_map f (flat_map h xs) ≡ flat_map (λ x. flat_map f (h x)) xs
 flat_map-flat_map f h [] = refl
-flat_map-flat_map f h (x ∷ xs) = flat_map-append f (h x) (flat_map h xs) ∙ ap (λ l. flat_map f (h x) ++ l) (flat_map-flat_map f h xs)
+flat_map-flat_map f h (x ∷ xs) = search (flat_map-append, flat_map-flat_map f h xs)
 
 -- the canonical text is the header, and then the text of each record
 pub canonical_parts : (records : List MadeRecord) → header_line (some_zone records) ++ flat_map record_text records ≡ canonical records

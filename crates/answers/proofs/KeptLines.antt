@@ -5,15 +5,14 @@
 use Rattle.std.proofs.Common.{◌≡◌, ◌≢◌, ℕ, ◌+◌, ◌-◌, ◌<◌, ◌≤◌, ◌==◌, Bool, true, false, not, cond, List, [], ◌∷◌, ◌++◌, length, take, refl, sym, ap, ◌∙◌, arith, length-append}
 use Rattle.std.specs.Prelude.{codes, filter}
 use Rattle.std.proofs.Math.Seq.{take-append_seam}
-use Rattle.std.proofs.lemmas.Bool.{eq-eqb, false≢true, lt-ltb}
 use Rattle.std.proofs.lemmas.List.{length-map, map-append}
 use Rattle.std.proofs.lemmas.List.Elements.{filter-append}
 use Rattle.bstr.specs.Text.{lines_of, without_terminator}
 use Rattle.bstr.proofs.lemmas.LineLemmas.{lines-nil}
 use Rattle.lines.specs.declared.search.Start.{Start}
 use Rattle.lines.specs.Lines.{IsFirstLine, IsLineCut, lines_in}
-use Rattle.lines.specs.Starts.{AllBeginOutside, BeginsOutside, IsFirstStart}
-use Rattle.lines.proofs.Cuts.{cut_lines, cut_more, cut_none, first_alone, first_lines, first_shorter, lines_in-nil, more_lines, some_lines}
+use Rattle.lines.specs.Starts.{AllBeginOutside, IsFirstStart}
+use Rattle.lines.proofs.Cuts.{cut_lines, cut_more, cut_none, first_alone, first_lines, first_shorter, lines_in-nil, more_lines}
 use Rattle.answers.specs.declared.line.Left.{Left}
 use Rattle.answers.specs.declared.line.NumberedLine.{NumberedLine}
 use Rattle.answers.specs.Grammar.{Line, NoneEnds, is_kept, numbered}
@@ -27,9 +26,7 @@ kept_or_not l rest = cond (is_kept l) (l ∷ rest) rest
 
 pub numbered-append : (n : ℕ) (xs ys : List (List ℕ)) → numbered n (xs ++ ys) ≡ numbered n xs ++ numbered (n + length xs) ys
 numbered-append n [] ys = grind arith
-numbered-append n (x ∷ xs) ys =
-    let e : n + 1 + length xs ≡ n + length (x ∷ xs) = omega arith in
-    ap (λ l. record { number = n; text = x } ∷ l) (numbered-append (n + 1) xs ys ∙ ap (λ k. numbered (n + 1) xs ++ numbered k ys) e)
+numbered-append n (x ∷ xs) ys = grind (arith, numbered-append (n + 1) xs ys)
 
 kept_both : (n : ℕ) {m : ℕ} (all front rest : List ℕ) → lines_of all ≡ lines_of front ++ lines_of rest → m ≡ n + length (lines_of front)
     → kept_after n all ≡ kept_after n front ++ kept_after m rest
@@ -41,20 +38,10 @@ count_both {text} {front} {rest} cut =
 
 -- ---- lines that are skipped
 
-comment_left : (n : ℕ) (text : List ℕ) → BeginsOutside (λ b. not (b == 59)) text → is_kept (record { number = n; text = text }) ≡ false
-comment_left n [] h = refl
-comment_left n (b ∷ text) h = grind (arith, lt-ltb)
-
 -- Comments aren't kept.
 pub comments_left : (n : ℕ) (ls : List (List ℕ)) → AllBeginOutside (λ b. not (b == 59)) ls → filter is_kept (numbered n ls) ≡ []
 comments_left n [] h = refl
-comments_left n (l ∷ ls) h =
-    ap (λ t. cond t (record { number = n; text = l } ∷ filter is_kept (numbered (n + 1) ls)) (filter is_kept (numbered (n + 1) ls))) (comment_left n l h.0)
-    ∙ comments_left (n + 1) ls h.1
-
-no_end : (text : List ℕ) → BeginsOutside (λ b. b == 101) text → text ≢ codes "end"
-no_end [] h = grind arith
-no_end (b ∷ text) h = grind (arith, false≢true, eq-eqb)
+comments_left n (l ∷ ls) h = grind (arith, comments_left (n + 1) ls h.1)
 
 end_or_not : (t : Bool) (l : Line) (rest : List Line) → l.text ≢ codes "end" → NoneEnds rest → NoneEnds (cond t (l ∷ rest) rest)
 end_or_not true l rest other h = (other, h)
@@ -63,18 +50,15 @@ end_or_not false l rest other h = h
 -- Lines that don't begin as `end` does aren't `end`.
 none_ends : (n : ℕ) (ls : List (List ℕ)) → AllBeginOutside (λ b. b == 101) ls → NoneEnds (filter is_kept (numbered n ls))
 none_ends n [] h = tt
-none_ends n (l ∷ ls) h =
-    end_or_not (is_kept (record { number = n; text = l })) (record { number = n; text = l }) (filter is_kept (numbered (n + 1) ls)) (no_end l h.0)
-    (none_ends (n + 1) ls h.1)
+none_ends n (l ∷ ls) h = grind (arith, none_ends (n + 1) ls h.1)
 
 pub NoneEnds-append : (xs ys : List Line) → NoneEnds xs → NoneEnds ys → NoneEnds (xs ++ ys)
 NoneEnds-append [] ys h k = k
-NoneEnds-append (x ∷ xs) ys h k = (h.0, NoneEnds-append xs ys h.1 k)
+NoneEnds-append (x ∷ xs) ys h k = search (NoneEnds-append xs ys h.1 k)
 
 module _ (class : ℕ → Bool) (lines left : Left) (start : Start) (first : IsFirstStart class lines.text.now start) where
   pub start_within : lines.before + start.before ≤ line_count lines
   start_within =
-      let count = first.count in
       omega (arith, count_both first.cut)
 
 module _ (class : ℕ → Bool) (lines left : Left) (s : IsSkipped class lines left) where
@@ -83,10 +67,6 @@ module _ (class : ℕ → Bool) (lines left : Left) (s : IsSkipped class lines l
 
   pub skipped_no_longer : length left.text.now ≤ length lines.text.now
   skipped_no_longer = omega (arith, ap length s.cut.parts, length-append s.front left.text.now)
-
-  -- The line that was found has a number.
-  pub skipped_room : {limit : ℕ} → line_count lines < limit → left.before + 1 < limit
-  skipped_room under = grind (arith, skipped_count, some_lines)
 
 pub comments_skipped : {lines left : Left} → IsSkipped (λ b. not (b == 59)) lines left → kept_in lines ≡ kept_in left
 comments_skipped {lines} {left} s =
@@ -99,7 +79,6 @@ all_comments lines others = search (comments_left)
 module _ (class : ℕ → Bool) (lines found : Left) (line : NumberedLine) (rest : Left) (f : IsFound class lines found line rest) where
   pub found_count : line_count rest ≡ line_count lines
   found_count =
-      let before = f.before in
       omega (arith, ap length (first_lines found.text.now line.text.now rest.text.now f.first), skipped_count class lines found f.skipped)
 
   pub found_shorter : length rest.text.now < length lines.text.now
@@ -174,8 +153,6 @@ module _ (lines left : Left) (h : HasPassed lines left) where
       let front : take (length lines.text.now - length left.text.now) lines.text.now ≡ h.passed =
       ap (λ k. take k lines.text.now) size ∙ ap (take (length h.passed)) h.cut.parts ∙ take-append_seam h.passed left.text.now in
       let kept_end : is_kept (said_line line) ≡ true = ap (λ t. is_kept (record { number = line.number; text = t })) is in
-      let number = h.number in
-      let before = f.before in
       let more = ap length (first_lines left.text.now line.text.now rest.text.now f.first) in
       rw front (record {
         last = said_line line;

@@ -8,7 +8,6 @@ use Rattle.std.specs.Borrow.{Bor}
 use Rattle.std.specs.List.{concat}
 use Rattle.std.proofs.lemmas.Bool.{and_parts, cases_Bool, cases_lt, cond-true, cond-false, eq-eqb, eqb-true, lt-ltb, ltb-true, ne_eqb}
 use Rattle.std.proofs.lemmas.List.{append-nil, take_more}
-use Rattle.std.proofs.lemmas.Grind.{flat_map-append}
 use Rattle.std.proofs.lemmas.List.Elements.{filter-append}
 use Rattle.bstr.specs.Find.{Nowhere, Passes, is_byte}
 use Rattle.bstr.specs.Text.{line_len, lines_of, no_cr, without_terminator}
@@ -43,8 +42,7 @@ less_last c bs e is =
     let size : n + 1 ≡ length bs = omega arith in
     let parts : bs ≡ take n bs ++ slice_index bs n ∷ [] = sym (take_all (length bs) bs (omega arith)) ∙ ap (λ k. take k bs) (sym size)
     ∙ take_more bs n 0 (omega arith) in
-    let gone : unbroken (slice_index bs n ∷ []) ≡ [] = ap (λ b. unbroken (b ∷ [])) last.1 ∙ ap (λ t. cond (not t) (c ∷ []) []) e in
-    sym (ap unbroken parts ∙ unbroken-append (take n bs) (slice_index bs n ∷ []) ∙ ap (λ r. unbroken (take n bs) ++ r) gone ∙ append-nil (unbroken (take n bs)))
+    grind (arith, unbroken-append, append-nil)
 
 less_cr : (bs : List ℕ) → unbroken (no_cr bs) ≡ unbroken bs
 less_cr bs = grind (arith, cond-true, less_last, cond-false, cases_Bool)
@@ -106,9 +104,7 @@ adds_all : (n : ℕ) (ls : List (List ℕ)) → unbroken (concat
     (map (λ (l : Line). l.text) (filter is_kept (numbered n (map without_terminator ls))))) ≡ lines_add ls
 unfolding lines_add
 adds_all n [] = refl
-adds_all n (l ∷ ls) =
-    adds_or_not (text_kept (without_terminator l)) (record { number = n; text = without_terminator l })
-    (filter is_kept (numbered (n + 1) (map without_terminator ls))) ∙ ap (λ r. line_adds l ++ r) (adds_all (n + 1) ls)
+adds_all n (l ∷ ls) = search (adds_or_not, adds_all (n + 1) ls)
 
 pub letters_after : (n : ℕ) (bytes : List ℕ) → unbroken (concat (map (λ (l : Line). l.text) (kept_after n bytes))) ≡ letters_in bytes
 letters_after n bytes = search (adds_all)
@@ -116,7 +112,7 @@ letters_after n bytes = search (adds_all)
 adds-append : (xs ys : List (List ℕ)) → lines_add (xs ++ ys) ≡ lines_add xs ++ lines_add ys
 unfolding lines_add
 adds-append [] ys = refl
-adds-append (x ∷ xs) ys = ap (λ r. line_adds x ++ r) (adds-append xs ys) ∙ sym (append_assoc (line_adds x) (lines_add xs) (lines_add ys))
+adds-append (x ∷ xs) ys = grind (arith, lines_add, adds-append xs ys, append_assoc)
 
 some_kept : (b : ℕ) (text : List ℕ) → text_kept (b ∷ text) ≡ not (b == 59)
 some_kept b text = grind (arith, lt-ltb)
@@ -139,22 +135,8 @@ line_adds_all line bs same other = search (kept_adds, begins_other, begins_throu
 -- if no comment begins in a text, none begins in what follows a line feed of it
 none_later : {k : ℕ} {bs : List ℕ} → 0 < k → (k < length bs → slice_index bs (k - 1) ≡ 10) → NoCommentBelow (length bs) bs
     → NoCommentBelow (length (drop k bs)) (drop k bs)
-none_later {k} {bs} some feed none zero below comment =
-    let within : k + 0 < length bs = omega (arith, length-drop k bs) in
-    let place : k - 1 ≡ k + 0 - 1 = omega arith in
-    none (k + 0) within (record {
-      mark = sym (get_or-drop k bs 0 0) ∙ comment.mark;
-      first = inr (ap (slice_index bs) (sym place) ∙ feed (omega arith));
-    })
-none_later {k} {bs} some feed none (suc j) below comment =
-    let within : k + suc j < length bs = omega (arith, length-drop k bs) in
-    let place : k + suc j - 1 ≡ k + j = omega arith in
-    let last : suc j - 1 ≡ j = omega arith in
-    none (k + suc j) within (record {
-      mark = sym (get_or-drop k bs (suc j) 0) ∙ comment.mark;
-      first = ⊎_elim (λ zero. absurd (omega arith)) (λ after. inr
-          (ap (slice_index bs) place ∙ sym (get_or-drop k bs j 0) ∙ ap (slice_index (drop k bs)) (sym last) ∙ after)) comment.first;
-    })
+none_later {k} {bs} some feed none zero below comment = grind (arith, length-drop, get_or-drop)
+none_later {k} {bs} some feed none (suc j) below comment = grind (arith, length-drop, get_or-drop)
 
 no_comment : (fuel : ℕ) (bs : List ℕ) → length bs ≤ fuel → NoCommentBelow (length bs) bs → lines_add (lines_of bs) ≡ unbroken bs
 no_comment fuel [] fits none = ap lines_add lines-nil ∙ adds_none
@@ -190,11 +172,7 @@ module _ (bs : List ℕ) (at : ℕ) (within : at < length bs) (comment : BeginsC
 
   -- no comment begins in the lines before the first comment
   early : NoCommentBelow (length (take at bs)) (take at bs)
-  early k below c =
-      before k (omega (arith, size)) (record {
-        mark = sym (get_or-take at bs k 0 (omega (arith, size))) ∙ c.mark;
-        first = ⊎_elim (λ e. inl e) (λ e. inr (sym (get_or-take at bs (k - 1) 0 (omega (arith, size))) ∙ e)) c.first;
-      })
+  early k below c = grind (arith, size, get_or-take)
 
   pub letters_before : letters_in bs ≡ unbroken (take at bs) ++ letters_in (drop at bs)
   letters_before =
@@ -241,23 +219,11 @@ found_mark bs from next within here =
     sym (ap (λ l. slice_index l next) (take_all (length bs - from) (drop from bs) (omega (arith, length-drop from bs))) ∙ get_or-drop from bs next 0)
     ∙ eqb-true _ _ here
 
-pub found_within : (bs : List ℕ) {from next : ℕ} → from ≤ length bs → next < length (take (length bs - from) (drop from bs)) → from + next < length bs
-found_within bs {from} within high = omega (arith, length-drop from bs, length-take-le (length bs - from) (drop from bs) (omega (arith, length-drop from bs)))
-
 -- no comment begins at a `;` that isn't first in its line
 pub looked_past : (bs : List ℕ) (at : ℕ) → NoCommentBelow at bs → at ≢ 0 → slice_index bs (at - 1) ≢ 10 → NoCommentBelow (at + 1) bs
 looked_past bs at before some other k below comment = grind (arith, early, cases_lt)
 
 -- ---- pieces, one after the other
-
--- one more piece adds its letters to the letters of the pieces so far
-pub piece_added : (pieces : List (Bor (List ℕ))) (piece : Bor (List ℕ)) (before rest all : List ℕ) → letters_in before ≡ unbroken piece.now ++ letters_in rest
-    → unbroken (joined pieces) ++ letters_in before ≡ all → unbroken (joined (pieces ++ piece ∷ [])) ++ letters_in rest ≡ all
-piece_added pieces piece before rest all cut so_far =
-    let letters = unbroken (joined pieces) in
-    let more = flat_map-append (λ (p : Bor (List ℕ)). p.now) pieces (piece ∷ []) ∙ ap (λ l. joined pieces ++ l) (append-nil piece.now) in
-    ap (λ l. unbroken l ++ letters_in rest) more ∙ ap (λ l. l ++ letters_in rest) (unbroken-append (joined pieces) piece.now)
-    ∙ append_assoc letters (unbroken piece.now) (letters_in rest) ∙ ap (λ l. letters ++ l) (sym cut) ∙ so_far
 
 -- if no line is left, the pieces have all letters
 pub pieces_all : (pieces : List (Bor (List ℕ))) (left all : List ℕ) → unbroken (joined pieces) ++ letters_in left ≡ all → length left ≡ 0

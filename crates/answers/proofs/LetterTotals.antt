@@ -66,16 +66,12 @@ len_text text = grind (arith, len_map, len_from)
 len_numbered : (n : ℕ) (ls : List (List ℕ)) → len_lines (numbered n ls) ≡ len_all ls
 unfolding len_lines len_all
 len_numbered n [] = refl
-len_numbered n (l ∷ ls) = ap (λ k. length l + k) (len_numbered (n + 1) ls)
-
-len_either : (c : Bool) (xs ys : List Line) {n : ℕ} → len_lines xs ≤ n → len_lines ys ≤ n → len_lines (cond c xs ys) ≤ n
-len_either true xs ys h k = h
-len_either false xs ys h k = k
+len_numbered n (l ∷ ls) = search (len_numbered (n + 1) ls)
 
 len_filter : (ls : List Line) → len_lines (filter is_kept ls) ≤ len_lines ls
 unfolding len_lines
 len_filter [] = omega arith
-len_filter (l ∷ ls) = len_either (is_kept l) (l ∷ filter is_kept ls) (filter is_kept ls) (omega (arith, len_filter ls)) (omega (arith, len_filter ls))
+len_filter (l ∷ ls) = grind (arith, len_filter ls)
 
 len_less_first : (ls : List Line) → len_lines (drop 1 ls) ≤ len_lines ls
 unfolding len_lines
@@ -102,7 +98,7 @@ len_append (x ∷ xs) ys = omega (arith, len_append xs ys)
 len_texts : (ls : List Line) → len_all (map (λ l. l.text) ls) ≡ len_lines ls
 unfolding len_all len_lines
 len_texts [] = refl
-len_texts (l ∷ ls) = ap (λ k. length l.text + k) (len_texts ls)
+len_texts (l ∷ ls) = search (len_texts ls)
 
 certificate_len : (version : ℕ) (lines : List Line) (b : Body) → IsCertificate version lines b → len_body b ≤ len_lines lines
 unfolding len_body
@@ -121,8 +117,7 @@ body_len version lines {b} (inr h) = certificate_len version lines b h.1
 
 block_len : {version : ℕ} {block : List Line} {e : Entry} → IsBlock version block e → len_body e.body ≤ len_lines block
 unfolding len_lines
-block_len {version} h =
-    omega (arith, ap len_lines h.split, len_append h.lines (h.last ∷ []), body_len version h.lines h.says)
+block_len {version} h = omega (arith, ap len_lines h.split, len_append h.lines (h.last ∷ []), body_len version h.lines h.says)
 
 blocks_len : (version : ℕ) (lines : List Line) (entries : List Entry) {most : ℕ} → AreBlocks version lines entries → len_lines lines ≤ most
     → AllByRecursion (λ (e : Entry). len_body e.body ≤ most) entries
@@ -136,7 +131,7 @@ blocks_len version lines (e ∷ entries) h fits =
 len_sum : (lines : List (Bor (List ℕ))) → sum_by (λ line. length line.now) lines ≡ len_all (map (λ l. l.now) lines)
 unfolding len_all
 len_sum [] = refl
-len_sum (l ∷ lines) = sum_by-cons (λ line. length line.now) l lines ∙ ap (λ k. length l.now + k) (len_sum lines)
+len_sum (l ∷ lines) = search (sum_by-cons, len_sum lines)
 
 within_one : (r : Record) {most : ℕ} → len_body (said_body r) ≤ most → HasLettersWithin most r
 unfolding len_body
@@ -148,7 +143,7 @@ within_one (record_is.BadLine line why) h = tt
 within_each : (records : List (ℕ × Record)) (most : ℕ) → AllByRecursion (λ (e : Entry). len_body e.body ≤ most) (map said_record records)
     → AllByRecursion (λ (r : ℕ × Record). HasLettersWithin most r.1) records
 within_each [] most h = tt
-within_each (r ∷ records) most h = (within_one r.1 h.0, within_each records most h.1)
+within_each (r ∷ records) most h = search (within_one, within_each records most h.1)
 
 pub letters_within : (text : List ℕ) (levels : ℕ) (r : Result Answers AnswersFault) → IfOk r (λ a. SpellsEntries text levels (said_answers a))
     → IfOk r (λ a. All (λ (x : ℕ × Record). HasLettersWithin (length text) x.1) a.records.items)

@@ -1,7 +1,7 @@
 -- Pattern lines, zone lines and level lines: what is read is spelled that way, and what is spelled that way is read.
 -- A pattern line is read from its front: the boxes end where ` @ ` follows, and the rest spells the seeds. If nothing is read, nothing spells
 -- the line, because it would have been read.
-use Rattle.std.proofs.Common.{◌≡◌, ℕ, ◌≤◌, false, true, cond, List, [], ◌++◌, take, drop, Option, Some, None, refl, sym, ap, subst, ◌∙◌, arith, ⊎_elim, append_assoc}
+use Rattle.std.proofs.Common.{◌≡◌, ℕ, ◌≤◌, false, true, cond, List, [], ◌++◌, take, drop, Option, Some, None, refl, sym, ap, ◌∙◌, arith, ⊎_elim, append_assoc}
 use Rattle.std.specs.Prelude.{option_map, codes}
 use Rattle.std.specs.Str.{bytes_eq}
 use Rattle.std.proofs.lemmas.Bool.{cases_Bool, false≢true}
@@ -9,7 +9,7 @@ use Rattle.std.proofs.lemmas.Option.{cond_some, same_Some}
 use Rattle.std.proofs.lemmas.List.{append-nil}
 use Rattle.std.proofs.lemmas.Slice.Eq.{bytes_eq-Decides}
 use Rattle.answers.specs.declared.pattern.Coord.{Coord}
-use Rattle.answers.specs.Grammar.{Line, numeral, level_text, cells_text, seeds_text, pattern_text, zone_text, line_of_pattern, line_of_zone, AreSeeds, IsCellList, IsPattern, IsZone, SpellsPattern, SpellsZone}
+use Rattle.answers.specs.Grammar.{Line, numeral, level_text, cells_text, seeds_text, pattern_text, line_of_pattern, line_of_zone, AreSeeds, IsCellList, IsPattern, IsZone, SpellsPattern, SpellsZone}
 use Rattle.answers.specs.Body.{PatternLine, ZoneLine}
 use Rattle.answers.specs.Reading.{AreCellsBefore, TakesCells, ◌>>=◌, is_number, number_in, cells_in, all_cells_in, after_prefix, seeds_in, pattern_in, zone_in, level_digits}
 use Rattle.answers.proofs.Numerals.{is_number-numeral, numeral-number_in}
@@ -30,8 +30,7 @@ seeds_found : {text : List ℕ} {seeds : Option (List Coord)} → seeds_in text 
 unfolding seeds_in
 seeds_found {text} {seeds} e = ⊎_elim
     (λ yes.
-    let star : Some None ≡ Some seeds = rw yes at e in
-    rw (← (same_Some None seeds star)) (record { spelled = (bytes_eq-Decides text (codes "*")).0 yes; lawful = tt }))
+    grind (arith, same_Some, bytes_eq-Decides))
     (λ no.
     let listed : option_map Some (all_cells_in text) ≡ Some seeds = rw no at e in
     let m = mapped_some (all_cells_in text) listed in
@@ -56,7 +55,7 @@ seeds_again (Some cells) h = search (no_star, cells_again)
 
 -- the text of a pattern line after its front
 after_front : (boxes seeds : List ℕ) → codes "pattern " ++ boxes ++ codes " @ " ++ seeds ≡ codes "pattern " ++ (boxes ++ (codes " @ " ++ seeds))
-after_front boxes seeds = append_assoc (codes "pattern " ++ boxes) (codes " @ ") seeds ∙ append_assoc (codes "pattern ") boxes (codes " @ " ++ seeds)
+after_front boxes seeds = grind (arith, append_assoc)
 
 -- a text that goes on with boxes, ` @ ` and seeds
 boxes_before : (boxes : List Coord) (seeds : List ℕ) → IsCellList boxes
@@ -82,13 +81,7 @@ pattern_found l p e =
     let d = chained (seeds_in c.0) c.2 in
     let boxes : AreCellsBefore a.0 b.0.0 b.0.1 = (rw b.1 at (takes_cells a.0)).found in
     let seeds = seeds_found d.1 in
-    let rest : b.0.1 ≡ codes " @ " ++ seeds_text d.0 = prefix_found (codes " @ ") b.0.1 c.0 c.1 ∙ ap (λ x. codes " @ " ++ x) seeds.spelled in
-    let text : l.text ≡ pattern_text (line_with l b.0.0 d.0) = prefix_found (codes "pattern ") l.text a.0 a.1
-    ∙ ap (λ x. codes "pattern " ++ x) (boxes.spelled ∙ ap (λ x. cells_text b.0.0 ++ x) rest) ∙ sym (after_front (cells_text b.0.0) (seeds_text d.0)) in
-    subst (IsLineOf l) (same_Some (line_with l b.0.0 d.0) p d.2) (record {
-      same = ap (λ x. let line : Line = record { number = l.number; text = x } in line) text;
-      lawful = record { boxes = boxes.lawful; seeds = seeds.lawful };
-    })
+    grind (arith, prefix_found, after_front, same_Some)
 
 -- with boxes, the pattern is that of the seeds after ` @ `
 seeds_after : (l : Line) {boxes : List Coord} (seeds : List ℕ) → l.text ≡ codes "pattern " ++ (cells_text boxes ++ (codes " @ " ++ seeds)) → IsCellList boxes
@@ -153,12 +146,7 @@ zone_found {l} {z} e =
     let a = chained (after_prefix (codes "zone ") l.text) {f = (λ rest. all_cells_in rest >>= λ cells. Some (record { line = l.number; cells = cells }))} {y = z} e in
     let b = chained (all_cells_in a.0) a.2 in
     let cells = cells_found b.1 in
-    let made : ZoneLine = record { line = l.number; cells = b.0 } in
-    let text : l.text ≡ zone_text made = prefix_found (codes "zone ") l.text a.0 a.1 ∙ ap (λ x. codes "zone " ++ x) cells.spelled in
-    subst (IsLineOfZone l) (same_Some made z b.2) (record {
-      same = ap (λ x. let line : Line = record { number = l.number; text = x } in line) text;
-      lawful = cells.lawful;
-    })
+    grind (arith, prefix_found, same_Some)
 
 pub zone_again : {z : ZoneLine} → IsZone z → zone_in (line_of_zone z) ≡ Some z
 unfolding zone_in
@@ -183,10 +171,7 @@ level_found {text} {digits} e =
     let a = chained (after_prefix (codes "level ") text) {f = (λ digits. cond (is_number digits) (Some digits) None)} {y = digits} e in
     let b = cond_some (is_number a.0) a.0 digits a.2 in
     let n = numeral-number_in a.0 b.0 in
-    subst (IsLevelOf text) b.1 (record {
-      text_is = prefix_found (codes "level ") text a.0 a.1 ∙ ap (λ x. codes "level " ++ x) (sym n.0);
-      low = omega arith;
-    })
+    grind (arith, prefix_found)
 
 pub level_again : {n : ℕ} → 1 ≤ n → level_digits (level_text n) ≡ Some (numeral n)
 unfolding level_digits

@@ -50,10 +50,6 @@ module _ (version levels last : ℕ) (entries : List Entry) (after : last_level 
       → kept ≡ level ∷ more → level_after last levels level ≡ Err f → comes_to count kept ≡ Err f
   level_refused count kept level more f is e = search (level_line)
 
-  pub kind_missing : (count : ℕ) (kept : List Line) (level : Line) (n : ℕ)
-      → kept ≡ level ∷ [] → level_after last levels level ≡ Ok n → comes_to count kept ≡ Err (Unclosed (count + 1))
-  kind_missing count kept level n is at_level = search (level_taken)
-
   pub kind_refused : (count : ℕ) (kept : List Line) (level kind : Line) (more : List Line) (n : ℕ) (f : AnswersFault)
       → kept ≡ level ∷ kind ∷ more → level_after last levels level ≡ Ok n → body_after kind ≡ Err f → comes_to count kept ≡ Err f
   kind_refused count kept level kind more n f is at_level e = search (level_taken)

@@ -10,7 +10,7 @@ use Rattle.std.specs.Int.Digits.{digits_of, number_from_digits, number_from_digi
 use Rattle.std.proofs.lemmas.Int.Digits.{digits_of_step, number_digits_of, all_below_base_digits_of, first_digits_of, number_push, number_more, number_after_append, number_after_ge, length-digits_of_step, length-digits_of-le}
 use Rattle.std.proofs.lemmas.Nat.{div-mul-add, mod-mul-add}
 use Rattle.std.proofs.lemmas.List.{map-append, append-nil, append_assoc, length-map, take-map}
-use Rattle.std.proofs.lemmas.Bool.{and_from, both_ways, eq-eqb, false≢true, le-leb, leb-true, lt-ltb, ne_eqb, not_from_true}
+use Rattle.std.proofs.lemmas.Bool.{both_ways, eq-eqb, false≢true, leb-true, lt-ltb, ne_eqb, not_from_true}
 use Rattle.answers.specs.Grammar.{numeral}
 use Rattle.answers.specs.Reading.{is_number, number_in}
 
@@ -34,9 +34,7 @@ not_48 b h = search (both_ways, not_from_true, eq-eqb)
 
 less_48 : (ds : List ℕ) → map (λ b. b - 48) (map (λ d. 48 + d) ds) ≡ ds
 less_48 [] = refl
-less_48 (d ∷ ds) =
-    let e : 48 + d - 48 ≡ d = omega arith in
-    ap (λ k. k ∷ map (λ b. b - 48) (map (λ d. 48 + d) ds)) e ∙ ap (λ l. d ∷ l) (less_48 ds)
+less_48 (d ∷ ds) = grind (arith, less_48 ds)
 
 -- a numeral holds its number
 pub number_in-numeral : (n : ℕ) → number_in (numeral n) ≡ n
@@ -45,12 +43,9 @@ number_in-numeral n = grind (arith, less_48, number_digits_of)
 pub digit_from_test : (b : ℕ) → is_ascii_digit b ≡ true → (48 ≤ b) × (b ≤ 57)
 digit_from_test b h = grind (arith, and_true, leb-true)
 
-is_digit : (b : ℕ) → 48 ≤ b → b ≤ 57 → is_ascii_digit b ≡ true
-is_digit b low high = search (and_from, le-leb)
-
 are_digits : (ds : List ℕ) → AllBelowBase 10 ds → list_all is_ascii_digit (map (λ d. 48 + d) ds) ≡ true
 are_digits [] h = refl
-are_digits (d ∷ ds) h = rw (is_digit (48 + d) (omega arith) (omega arith), are_digits ds h.1) refl
+are_digits (d ∷ ds) h = grind (arith, are_digits ds h.1)
 
 -- a numeral consists of digits
 pub digits-numeral : (n : ℕ) → list_all is_ascii_digit (numeral n) ≡ true
@@ -68,11 +63,7 @@ some_digits some = search (length_numeral, length-map)
 
 -- a numeral of a number above 0 doesn't begin with 0
 pub is_number-numeral : (n : ℕ) → 0 < n → is_number (numeral n) ≡ true
-is_number-numeral n some =
-    let more = some_digits some in
-    let first : slice_index (numeral n) 0 ≢ 48 =
-    λ e. absurd (omega (arith, first_more (digits_of 10 n) (length_numeral some), first_digits_of 10 n (omega arith) some)) in
-    rw (lt-ltb 0 (length (numeral n)) more, ne_eqb (slice_index (numeral n) 0) 48 first, digits-numeral n) refl
+is_number-numeral n some = grind (arith, some_digits, first_more, length_numeral, first_digits_of, lt-ltb, ne_eqb, digits-numeral)
 
 -- the digits are the numeral of the number in them, which isn't 0
 record IsNumeralText (ds : List ℕ) : Type 0 where
@@ -94,14 +85,7 @@ numeral-number_in [] h = absurd cc
 numeral-number_in (b ∷ ds) h =
     let parts = and_true (ltb 0 (length (b ∷ ds)) && not (eqb b 48)) {b = (list_all is_ascii_digit (b ∷ ds))} h in
     let both = and_true (is_ascii_digit b) {b = (list_all is_ascii_digit ds)} parts.1 in
-    let d = digit_from_test b both.0 in
-    let first : b ≢ 48 = not_48 b (and_true (ltb 0 (length (b ∷ ds))) {b = (not (eqb b 48))} parts.0).1 in
-    let e : 48 + (b - 48) ≡ b = omega arith in
-    let only : number_in (b ∷ []) ≡ b - 48 = omega arith in
-    let one : IsNumeralText (b ∷ []) = record {
-      same = ap numeral only ∙ small_numeral (b - 48) (omega arith) (omega arith) ∙ ap (λ k. k ∷ []) e;
-      some = omega arith;
-    } in
+    let one : IsNumeralText (b ∷ []) = grind (arith, small_numeral) in
     let all = more_digits ds {front = (b ∷ [])} one both.1 in
     (all.same, all.some)
 

@@ -1,7 +1,7 @@
 -- A plain line has a byte, and each of its bytes is above 13 and no semicolon. So it has no line feed and no carriage
 -- return and is neither empty nor a comment, and a text of such lines, each with a line feed, has just these lines.
 -- Numbers, cells, patterns and zones are spelled in plain bytes: words, digits, commas and blanks.
-use Rattle.std.proofs.Common.{◌≡◌, ◌≢◌, ℕ, zero, suc, ◌+◌, ◌-◌, ◌<◌, Bool, true, false, not, ◌&&◌, cond, ◌==◌, nat_lt, List, [], ◌∷◌, ◌++◌, length, map, get_or, refl, sym, ap, subst, ◌∙◌, arith, inr, length-append}
+use Rattle.std.proofs.Common.{◌≡◌, ◌≢◌, ℕ, zero, suc, ◌+◌, ◌-◌, ◌<◌, Bool, true, false, not, ◌&&◌, ◌==◌, nat_lt, List, [], ◌∷◌, ◌++◌, length, map, get_or, refl, sym, ap, subst, arith, length-append}
 use Rattle.std.specs.Prelude.{slice_index, filter, Option, Some, None}
 use Rattle.std.specs.List.{AllByRecursion, flat_map, list_all}
 use Rattle.std.proofs.lemmas.Bool.{and_right, cond-true, cond-false, ne_eqb, lt-ltb, eq-eqb}
@@ -15,7 +15,7 @@ use Rattle.bstr.proofs.lemmas.LineLemmas.{lines-append, lines-nil, lines-one}
 use Rattle.lines.specs.Lines.{lines_in}
 use Rattle.answers.specs.declared.pattern.Coord.{Coord}
 use Rattle.answers.specs.Canonical.{ended}
-use Rattle.answers.specs.Grammar.{Line, cell_text, cells_text, header_text, is_kept, level_text, numbered, numeral, pattern_text, seeds_text, zone_text}
+use Rattle.answers.specs.Grammar.{cell_text, cells_text, header_text, is_kept, level_text, numbered, numeral, pattern_text, seeds_text, zone_text}
 use Rattle.answers.specs.Body.{PatternLine, ZoneLine}
 use Rattle.answers.proofs.Numerals.{and_true}
 
@@ -36,12 +36,9 @@ plain-append xs ys p q = grind (arith, list_all-append)
 
 -- ---- what is made of plain bytes
 
-plain_digit : {d : ℕ} → d < 10 → is_plain (48 + d) ≡ true
-plain_digit small = grind (arith, nat_tests)
-
 plain_digits : (ds : List ℕ) → AllByRecursion (λ d. d < 10) ds → ArePlain (map (λ d. 48 + d) ds)
 plain_digits [] h = refl
-plain_digits (d ∷ ds) h = ap (λ b. b && list_all is_plain (map (λ d. 48 + d) ds)) (plain_digit h.0) ∙ plain_digits ds h.1
+plain_digits (d ∷ ds) h = grind (arith, plain_digits ds h.1)
 
 pub plain_numeral : (n : ℕ) → ArePlain (numeral n)
 plain_numeral n = grind (arith, plain_digits, all_below_base_digits_of)
@@ -52,7 +49,7 @@ plain_cell c = search (plain-append, plain_numeral)
 pub plain_cells : (cells : List Coord) → ArePlain (cells_text cells)
 plain_cells [] = refl
 plain_cells (c ∷ []) = plain_cell c
-plain_cells (c ∷ d ∷ cells) = plain-append (cell_text c) (32 ∷ cells_text (d ∷ cells)) (plain_cell c) (plain_cells (d ∷ cells))
+plain_cells (c ∷ d ∷ cells) = search (plain-append, plain_cell, plain_cells (d ∷ cells))
 
 plain_seeds : (seeds : Option (List Coord)) → ArePlain (seeds_text seeds)
 plain_seeds None = refl
@@ -104,33 +101,21 @@ within {line} h k below =
     subst (λ b. b ≢ 10) (sym (get_or_append_left line (10 ∷ []) 0 k here)) (no_feed (plain_at line here h.plain))
 
 one_line : (line : List ℕ) → IsPlainLine line → lines_of (ended line) ≡ ended line ∷ []
-one_line line h = lines-one (ended line) (omega (arith, length-append line (10 ∷ []))) (within h)
+one_line line h = grind (arith, lines-one, within, length-append)
 
 no_return_at_end : {line : List ℕ} → IsPlainLine line → no_cr line ≡ line
 no_return_at_end {line} h =
     let last = slice_index line (length line - 1) in
     let other : last ≢ 13 = no_return (plain_at line {i = (length line - 1)} (omega arith) h.plain) in
-    let test : (nat_lt 0 (length line) && last == 13) ≡ false = ap (λ b. nat_lt 0 (length line) && b) (ne_eqb last 13 other)
-    ∙ and_right (nat_lt 0 (length line)) false refl in
-    cond-false _ _ _ test
+    grind (arith, ne_eqb, and_right, cond-false)
 
 taken_off : {line : List ℕ} → IsPlainLine line → without_terminator (ended line) ≡ line
-taken_off {line} h =
-    let long : 0 < length (ended line) = omega (arith, length-append line (10 ∷ [])) in
-    let some : nat_lt 0 (length (ended line)) ≡ true = lt-ltb 0 (length (ended line)) long in
-    let feed : (slice_index (ended line) (length (ended line) - 1) == 10) ≡ true = eq-eqb _ 10 (ends_at line) in
-    let test : (nat_lt 0 (length (ended line)) && slice_index (ended line) (length (ended line) - 1) == 10) ≡ true =
-    ap (λ b. b && slice_index (ended line) (length (ended line) - 1) == 10) some ∙ feed in
-    cond-true _ _ _ test ∙ ap no_cr (take_at line (10 ∷ []) (length (ended line) - 1) (sym (last_is line))) ∙ no_return_at_end h
+taken_off {line} h = grind (arith, lt-ltb, eq-eqb, ends_at, cond-true, take_at, last_is, no_return_at_end)
 
 -- a text of plain lines has just these lines
 pub lines_again : (lines : List (List ℕ)) → AllByRecursion IsPlainLine lines → lines_in (flat_map ended lines) ≡ lines
 lines_again [] h = ap (map without_terminator) lines-nil
-lines_again (line ∷ lines) h =
-    let first : lines_of (ended line ++ flat_map ended lines) ≡ lines_of (ended line) ++ lines_of (flat_map ended lines) =
-    lines-append (length (ended line)) (ended line) (flat_map ended lines) (omega arith) (inr (ends_at line)) in
-    ap (map without_terminator) (first ∙ ap (λ l. l ++ lines_of (flat_map ended lines)) (one_line line h.0))
-    ∙ ap (λ l. l ∷ lines_in (flat_map ended lines)) (taken_off h.0) ∙ ap (λ l. line ∷ l) (lines_again lines h.1)
+lines_again (line ∷ lines) h = grind (arith, lines-append, ends_at, one_line, taken_off, lines_again lines h.1)
 
 -- a plain line is kept
 kept_line : (n : ℕ) {line : List ℕ} → IsPlainLine line → is_kept (record { number = n; text = line }) ≡ true
@@ -138,7 +123,4 @@ kept_line n h = search (lt-ltb, no_comment, plain_at)
 
 pub all_kept : (n : ℕ) (lines : List (List ℕ)) → AllByRecursion IsPlainLine lines → filter is_kept (numbered n lines) ≡ numbered n lines
 all_kept n [] h = refl
-all_kept n (line ∷ lines) h =
-    let this : Line = record { number = n; text = line } in
-    ap (λ b. cond b (this ∷ filter is_kept (numbered (n + 1) lines)) (filter is_kept (numbered (n + 1) lines))) (kept_line n h.0)
-    ∙ ap (λ l. this ∷ l) (all_kept (n + 1) lines h.1)
+all_kept n (line ∷ lines) h = search (kept_line, all_kept (n + 1) lines h.1)

@@ -21,13 +21,7 @@ use Rattle.answers.proofs.KeptLines.{NoneEnds-append}
 AreBlocks-push : {version : ℕ} (front : List Line) (entries : List Entry) {block : List Line} {e : Entry} → AreBlocks version front entries
     → IsBlock version block e → AreBlocks version (front ++ block) (entries ++ e ∷ [])
 AreBlocks-push front [] h last = grind (arith, append-nil)
-AreBlocks-push front (d ∷ entries) {block} h last = (
-  h.0,
-  h.1 ++ block,
-  ap (λ l. l ++ block) h.2 ∙ append_assoc h.0 h.1 block,
-  h.3,
-  AreBlocks-push h.1 entries h.4 last,
-)
+AreBlocks-push front (d ∷ entries) {block} h last = grind (arith, AreBlocks-push h.1 entries h.4 last, append_assoc)
 
 -- the level of the last entry, or `low` if there is no entry
 last_after : ℕ → List Entry → ℕ
@@ -56,14 +50,14 @@ rise_more : (low : ℕ) {high : ℕ} (es : List Entry) (e : Entry) → RiseWithi
     → RiseWithin low high (es ++ e ∷ [])
 unfolding last_after
 rise_more low [] e h over within = (over, within, tt)
-rise_more low (d ∷ es) e h over within = (h.0, h.1, rise_more d.level es e h.2 over within)
+rise_more low (d ∷ es) e h over within = search (rise_more d.level es e h.2 over within)
 
 RiseWithin-push : {high : ℕ} (es : List Entry) (e : Entry) → RiseWithin 0 high es → last_level es < e.level → e.level ≤ high → RiseWithin 0 high (es ++ e ∷ [])
 RiseWithin-push es e h over within = grind (arith, rise_more, last_level_is)
 
 texts-push : (lines : List Line) (l : Line) → map (λ l. l.text) (lines ++ l ∷ []) ≡ map (λ l. l.text) lines ++ l.text ∷ []
 texts-push [] l = refl
-texts-push (x ∷ lines) l = ap (λ r. x.text ∷ r) (texts-push lines l)
+texts-push (x ∷ lines) l = search (texts-push lines l)
 
 -- what a body says, and one line more
 body_more : (version : ℕ) {kind : List ℕ} (lines : List Line) {b : Body} (l : Line) → IsBody version kind lines b
@@ -84,12 +78,7 @@ Reached version levels entries (BodyDue n b) done = (level kind : Line) × (line
 -- lines that begin with whole blocks still do with more lines at their end
 begins_more : {version levels : ℕ} {done : List Line} {entries : List Entry} {rest : List Line} (more : List Line) → BeginsWith version levels done entries rest
     → BeginsWith version levels (done ++ more) entries (rest ++ more)
-begins_more {rest} more h = record {
-  front = h.front;
-  split = ap (λ l. l ++ more) h.split ∙ append_assoc h.front rest more;
-  blocks = h.blocks;
-  rise = h.rise;
-}
+begins_more {rest} more h = grind (arith, append_assoc)
 
 opened : (version : ℕ) (text : List ℕ) (b : Body) → Opens text b → IsBody version text [] b
 opened version text b (solution kind said) = inl (kind, said)
@@ -101,17 +90,7 @@ ended version levels done entries n b l is h =
     let front = h.3.front in
     let block = h.0 ∷ h.1 ∷ (h.2 ++ l ∷ []) in
     let e : Entry = record { level = n; body = b } in
-    let whole : IsBlock version block e = record {
-      level = h.0;
-      kind = h.1;
-      lines = h.2;
-      last = l;
-      split = refl;
-      number = h.4.line.spelled;
-      says = h.5;
-      goes_on = h.6;
-      ends = is;
-    } in
+    let whole : IsBlock version block e = grind arith in
     record {
       front = front ++ block;
       split = ap (λ x. x ++ l ∷ []) h.3.split ∙ append_assoc front (h.0 ∷ h.1 ∷ h.2) (l ∷ []) ∙ sym (append-nil (front ++ block));
@@ -177,8 +156,7 @@ pub run_found : (version levels : ℕ) (lines done : List Line) (entries : List 
 run_found version levels [] done entries stage h e = grind (arith, same_Ok, append-nil)
 run_found version levels (l ∷ lines) done entries stage {next} h e =
     let a = went_on (step version levels entries stage l) e in
-    subst (Reached version levels next.0 next.1) (append_assoc done (l ∷ []) lines)
-    (run_found version levels lines (done ++ l ∷ []) a.0.0 a.0.1 (step_found version levels done entries stage l h a.1) a.2)
+    grind (arith, step_found, run_found version levels lines (done ++ l ∷ []) a.0.0 a.0.1 (step_found version levels done entries stage l h a.1) a.2, append_assoc)
 
 -- ---- where reading stops
 
@@ -211,8 +189,7 @@ pub run_fault : (version levels count : ℕ) (lines done : List Line) (entries :
 run_fault version levels count [] done entries stage h e = search (ok_no_err)
 run_fault version levels count (l ∷ lines) done entries stage {f} h e = ⊎_elim
     (λ bad. step_fault version levels count done entries stage l lines h bad)
-    (λ good. subst (λ x. IsLineFault version levels x count f) (append_assoc done (l ∷ []) lines)
-    (run_fault version levels count lines (done ++ l ∷ []) good.0.0 good.0.1 (step_found version levels done entries stage l h good.1) good.2))
+    (λ good. grind (arith, step_found, run_fault version levels count lines (done ++ l ∷ []) good.0.0 good.0.1 (step_found version levels done entries stage l h good.1) good.2, append_assoc))
     (went_wrong (step version levels entries stage l) e)
 
 kind_known : (version : ℕ) (text : List ℕ) (lines : List Line) (b : Body) → IsBody version text lines b → IsKind text

@@ -1,26 +1,18 @@
 -- The lines of the letters of a solution: joined they are the letters, and each is plain and isn't `end`. A line is
 -- begun only if letters are left, so it isn't empty. Its bytes are letters, and no letter is a control byte, a
 -- semicolon or the first byte of `end`.
-use Rattle.std.proofs.Common.{◌≡◌, ◌≢◌, ℕ, zero, suc, ◌+◌, ◌*◌, ◌<◌, ◌≤◌, Bool, true, ◌&&◌, List, [], ◌∷◌, ◌++◌, length, take, drop, refl, sym, ap, ◌∙◌, arith, codes, take-append-drop}
-use Rattle.std.specs.List.{AllByRecursion, concat, list_all}
+use Rattle.std.proofs.Common.{◌≡◌, ◌≢◌, ℕ, zero, suc, ◌+◌, ◌*◌, ◌<◌, ◌≤◌, List, [], ◌∷◌, ◌++◌, length, take, drop, refl, sym, ap, ◌∙◌, arith, codes, take-append-drop}
+use Rattle.std.specs.List.{AllByRecursion, concat}
 use Rattle.std.proofs.lemmas.List.{length-drop, length-take}
 use Rattle.answers.specs.Canonical.{letter_lines, lines_of_70}
 use Rattle.answers.specs.RoundTrip.{IsLetter}
-use Rattle.answers.proofs.PlainLines.{ArePlain, IsPlainLine, is_plain, passes_at}
+use Rattle.answers.proofs.PlainLines.{ArePlain, IsPlainLine}
 
 -- ---- letters
 
-letter_by : (p : ℕ → Bool) → list_all p (codes "lurdLURD") ≡ true → (b : ℕ) → IsLetter b → p b ≡ true
-letter_by p all b (k, below, is) = grind (arith, passes_at)
-
 plain_letters : (letters : List ℕ) → AllByRecursion IsLetter letters → ArePlain letters
 plain_letters [] h = refl
-plain_letters (b ∷ letters) h = ap (λ t. t && list_all is_plain letters) (letter_by is_plain refl b h.0) ∙ plain_letters letters h.1
-
--- a line of letters isn't `end`
-not_end : (line : List ℕ) → AllByRecursion IsLetter line → line ≢ codes "end"
-not_end [] h e = absurd cc
-not_end (b ∷ line) h e = grind (arith, letter_by)
+plain_letters (b ∷ letters) h = grind (arith, plain_letters letters h.1)
 
 -- ---- lines
 
@@ -46,7 +38,7 @@ lines_plain (suc count) letters begun h =
 
 lines_go_on : (count : ℕ) (letters : List ℕ) → AllByRecursion IsLetter letters → AllByRecursion (λ l. l ≢ codes "end") (lines_of_70 count letters)
 lines_go_on zero letters h = tt
-lines_go_on (suc count) letters h = (not_end (take 70 letters) (letters_front 70 letters h), lines_go_on count (drop 70 letters) (letters_rest 70 letters h))
+lines_go_on (suc count) letters h = grind (arith, lines_go_on count (drop 70 letters) (letters_rest 70 letters h))
 
 lines_join : (count : ℕ) {letters : List ℕ} → length letters ≤ 70 * count → concat (lines_of_70 count letters) ≡ letters
 lines_join zero {letters} few = sym (none letters (omega arith))

@@ -2,15 +2,14 @@
 -- kept. The lines of a record are a block of the entry that says what the record says, with its line numbers. Blocks follow one
 -- another, and their levels rise because the levels of the records do. A text with a zone has version 2, because the header has that
 -- version if some record holds a zone.
-use Rattle.std.proofs.Common.{◌≡◌, ◌≢◌, ℕ, suc, ◌+◌, ◌⊎◌, Bool, true, false, ◌||◌, if◌then◌else◌, List, [], ◌∷◌, ◌++◌, length, map, refl, ap, ◌∙◌, arith, inl, inr, codes, lit<}
-use Rattle.std.specs.Prelude.{filter, drop}
+use Rattle.std.proofs.Common.{◌≡◌, ◌≢◌, ℕ, ◌+◌, ◌⊎◌, Bool, true, false, ◌||◌, if◌then◌else◌, List, [], ◌∷◌, ◌++◌, length, map, refl, arith, inl, inr, codes, lit<}
 use Rattle.std.specs.List.{AllByRecursion, flat_map, list_any}
 use Rattle.answers.specs.declared.pattern.Pattern.{Pattern}
 use Rattle.answers.specs.declared.record.MadeBody.{MadeBody}
 use Rattle.answers.specs.declared.record.MadeBody.TheVariants as made_is
 use Rattle.answers.specs.declared.record.MadeRecord.{MadeRecord}
 use Rattle.answers.specs.Canonical.{made_lines, canonical, canonical_lines, holds_zone, letter_lines, line_of_made, record_lines, version_of}
-use Rattle.answers.specs.Grammar.{AreBlocks, IsBlock, IsBody, IsPattern, NoneEnds, RiseWithin, SpellsEntries, is_kept, kept_lines, level_text, line_of_pattern, numbered, pattern_text, said_pattern, said_seeds, said_zone, zone_text}
+use Rattle.answers.specs.Grammar.{AreBlocks, IsBlock, IsBody, IsPattern, NoneEnds, RiseWithin, SpellsEntries, kept_lines, level_text, line_of_pattern, numbered, said_pattern, said_seeds, said_zone, zone_text}
 use Rattle.answers.specs.Body.{Body, Entry, LetterLines, OneZone, PatternLine, PatternLines, ZoneLine}
 use Rattle.answers.specs.RoundTrip.{AreLawfulRecords, IsLawfulBody, SaysBody, SaysSame, boxes_and_seeds}
 use Rattle.answers.proofs.KeptLines.{numbered-append}
@@ -39,7 +38,7 @@ entries_from n (r ∷ rs) = record { level = r.level; body = body_from (n + 1 + 
 
 patterns_same : (n : ℕ) (ps : List Pattern) → map boxes_and_seeds (patterns_from n ps) ≡ map (λ p. boxes_and_seeds (said_pattern p)) ps
 patterns_same n [] = refl
-patterns_same n (p ∷ ps) = ap (λ l. boxes_and_seeds (said_pattern p) ∷ l) (patterns_same (n + 1) ps)
+patterns_same n (p ∷ ps) = search (patterns_same (n + 1) ps)
 
 body_same : (n : ℕ) (b : MadeBody) → SaysBody b (body_from n b)
 body_same n (made_is.Letters letters) = letter_lines-join letters.now
@@ -48,50 +47,47 @@ body_same n (made_is.Zone zone) = refl
 
 pub entries_same : (n : ℕ) (rs : List MadeRecord) → SaysSame rs (entries_from n rs)
 entries_same n [] = tt
-entries_same n (r ∷ rs) = (refl, body_same (n + 1 + 1) r.body, entries_same (n + length (record_lines r)) rs)
+entries_same n (r ∷ rs) = search (body_same, entries_same (n + length (record_lines r)) rs)
 
 -- the levels of the entries rise because the levels of the records do
 pub entries_rise : (n low high : ℕ) (rs : List MadeRecord) → AreLawfulRecords low high rs → RiseWithin low high (entries_from n rs)
 entries_rise n low high [] h = tt
-entries_rise n low high (r ∷ rs) h = (h.0, h.1, entries_rise (n + length (record_lines r)) r.level high rs h.3)
+entries_rise n low high (r ∷ rs) h = search (entries_rise (n + length (record_lines r)) r.level high rs h.3)
 
 -- ---- numbered lines
 
 texts_of : (n : ℕ) (xs : List (List ℕ)) → map (λ l. l.text) (numbered n xs) ≡ xs
 texts_of n [] = refl
-texts_of n (x ∷ xs) = ap (λ l. x ∷ l) (texts_of (n + 1) xs)
+texts_of n (x ∷ xs) = search (texts_of (n + 1) xs)
 
 none_ends : (n : ℕ) (xs : List (List ℕ)) → AllByRecursion (λ x. x ≢ codes "end") xs → NoneEnds (numbered n xs)
 none_ends n [] h = tt
-none_ends n (x ∷ xs) h = (h.0, none_ends (n + 1) xs h.1)
+none_ends n (x ∷ xs) h = search (none_ends (n + 1) xs h.1)
 
 -- ---- the lines of a certificate
-
-pattern_is_no_end : (p : PatternLine) → pattern_text p ≢ codes "end"
-pattern_is_no_end p e = grind arith
 
 zone_is_no_end : (z : ZoneLine) → zone_text z ≢ codes "end"
 zone_is_no_end z e = grind arith
 
 patterns_go_on : (ps : List Pattern) → AllByRecursion (λ x. x ≢ codes "end") (map line_of_made ps)
 patterns_go_on [] = tt
-patterns_go_on (p ∷ ps) = (pattern_is_no_end (said_pattern p), patterns_go_on ps)
+patterns_go_on (p ∷ ps) = grind (arith, patterns_go_on ps)
 
 patterns_plain : (ps : List Pattern) → AllByRecursion IsPlainLine (map line_of_made ps)
 patterns_plain [] = tt
-patterns_plain (p ∷ ps) = (plain_pattern (said_pattern p), patterns_plain ps)
+patterns_plain (p ∷ ps) = search (plain_pattern, patterns_plain ps)
 
 patterns_spelled : (n : ℕ) (ps : List Pattern) → numbered n (map line_of_made ps) ≡ map line_of_pattern (patterns_from n ps)
 patterns_spelled n [] = refl
-patterns_spelled n (p ∷ ps) = ap (λ l. record { number = n; text = line_of_made p } ∷ l) (patterns_spelled (n + 1) ps)
+patterns_spelled n (p ∷ ps) = search (patterns_spelled (n + 1) ps)
 
 patterns_lawful : (n : ℕ) (ps : List Pattern) → AllByRecursion (λ p. IsPattern (said_pattern p)) ps → AllByRecursion IsPattern (patterns_from n ps)
 patterns_lawful n [] h = tt
-patterns_lawful n (p ∷ ps) h = (record { boxes = h.0.boxes; seeds = h.0.seeds }, patterns_lawful (n + 1) ps h.1)
+patterns_lawful n (p ∷ ps) h = search (patterns_lawful (n + 1) ps h.1)
 
 patterns_count : (n : ℕ) (ps : List Pattern) → length (patterns_from n ps) ≡ length ps
 patterns_count n [] = refl
-patterns_count n (p ∷ ps) = ap suc (patterns_count (n + 1) ps)
+patterns_count n (p ∷ ps) = search (patterns_count (n + 1) ps)
 
 -- ---- blocks
 
@@ -137,7 +133,7 @@ suits : {version : ℕ} (rs : List MadeRecord) → (list_any (λ r. holds_zone r
 suits [] h = tt
 suits (r ∷ rs) h =
     let some = list_any (λ r. holds_zone r.body) rs in
-    (λ (e : holds_zone r.body ≡ true). h (any_head (holds_zone r.body) some e), suits rs (λ (e : some ≡ true). h (any_tail (holds_zone r.body) e)))
+    grind (arith, any_head, any_tail, suits rs (λ (e : some ≡ true). h (any_tail (holds_zone r.body) e)))
 
 version_two : (rs : List MadeRecord) → list_any (λ r. holds_zone r.body) rs ≡ true → version_of rs ≡ 2
 version_two rs e = search
@@ -150,7 +146,7 @@ version_known false = inl refl
 
 plain_all : (xs ys : List (List ℕ)) → AllByRecursion IsPlainLine xs → AllByRecursion IsPlainLine ys → AllByRecursion IsPlainLine (xs ++ ys)
 plain_all [] ys h k = k
-plain_all (x ∷ xs) ys h k = (h.0, plain_all xs ys h.1 k)
+plain_all (x ∷ xs) ys h k = search (plain_all xs ys h.1 k)
 
 body_plain : (b : MadeBody) → IsLawfulBody b → AllByRecursion IsPlainLine (made_lines b)
 body_plain (made_is.Letters letters) h = grind (arith, letter_lines-plain)
@@ -168,8 +164,7 @@ pub canonical_spells : (rs : List MadeRecord) {levels : ℕ} → AreLawfulRecord
 canonical_spells rs {levels} h =
     let plain = records_plain 0 levels rs h in
     let lines = lines_again (canonical_lines rs) (plain_header (version_of rs), plain) in
-    let kept : kept_lines (canonical rs) ≡ numbered 2 (flat_map record_lines rs) = ap (λ l. filter is_kept (drop 1 (numbered 1 l))) lines
-    ∙ all_kept 2 (flat_map record_lines rs) plain in
+    let kept : kept_lines (canonical rs) ≡ numbered 2 (flat_map record_lines rs) = grind (arith, all_kept) in
     record {
       version = version_of rs;
       header = record { known = version_known (list_any (λ r. holds_zone r.body) rs); others = flat_map record_lines rs; first = lines };

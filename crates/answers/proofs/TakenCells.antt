@@ -4,7 +4,7 @@
 -- a blank follows with another cell, or that was the last one. If the text has cells, no step of this fails. So what was taken is there, and
 -- what is there was taken.
 use Rattle.std.proofs.Common.{◌≡◌, ◌≢◌, ℕ, ◌<◌, true, List, [], ◌∷◌, ◌++◌, length, drop, get_or, Option, Some, None, refl, sym, ap, ◌∙◌, arith, inl, inr, append_assoc}
-use Rattle.std.specs.Prelude.{codes, slice_index}
+use Rattle.std.specs.Prelude.{slice_index}
 use Rattle.std.specs.List.{AllByRecursion}
 use Rattle.std.specs.Char.{is_ascii_digit}
 use Rattle.std.proofs.lemmas.Bool.{cases_Bool, eq-eqb, eqb-true, false≢true, lt-ltb, ltb-true}
@@ -28,12 +28,7 @@ test_from_before (inr same) = search (eq-eqb, lt-ltb, or-true)
 
 module _ (text : List ℕ) (cell : Coord) (rest : List ℕ) (there : IsCellBefore text cell rest) where
   pub column_there : IsCoordinateBefore text cell.column (44 ∷ (numeral cell.row ++ rest))
-  column_there = record {
-    spelled = there.spelled ∙ append_assoc (numeral cell.column ++ codes ",") (numeral cell.row) rest
-        ∙ append_assoc (numeral cell.column) (codes ",") (numeral cell.row ++ rest);
-    low = there.lawful.column_low;
-    high = there.lawful.column_high;
-  }
+  column_there = grind (arith, append_assoc)
 
   begins_with_digit : is_ascii_digit (slice_index text 0) ≡ true
   begins_with_digit =
@@ -88,12 +83,7 @@ first_of (c ∷ d ∷ cells) {rest} h =
 joined : (last c : Coord) (left next : List ℕ) (more : List Coord) (rest : List ℕ) → IsCellBefore left c (32 ∷ next) → IsBefore last c
     → GoOnAfter c next more rest → GoOnAfter last left (c ∷ more) rest
 joined last c left next [] rest here before h = grind arith
-joined last c left next (d ∷ more) rest here before h = record {
-  spelled = here.spelled ∙ ap (λ l. cell_text c ++ 32 ∷ l) h.spelled ∙ sym (append_assoc (cell_text c) (32 ∷ cells_text (d ∷ more)) rest);
-  some = omega arith;
-  each = (here.lawful, h.each);
-  order = (before, h.order);
-}
+joined last c left next (d ∷ more) rest here before h = grind (arith, append_assoc)
 
 -- A text that goes on with cells begins with a digit, and so not with `@`.
 digit_first : {last : Coord} {left : List ℕ} {more : List Coord} {rest : List ℕ} → HasFirst last left more rest → is_ascii_digit (slice_index left 0) ≡ true
@@ -136,15 +126,14 @@ module _ (text : List ℕ) (front : List Coord) (last : Coord) (left : List ℕ)
       taken_first t ends (first_of w.0 w.2)
 
   pub no_cell : TakesCell left None → TakesCells text None
-  no_cell t = record { found = tt; only = λ cells rest there ends. let first = taken_there t cells rest there ends in let e = first.is in absurd cc }
+  no_cell t = record { found = tt; only = λ cells rest there ends. let first = taken_there t cells rest there ends in absurd cc }
 
   pub not_after : {cell : Coord} {after : List ℕ} → TakesCell left (Some (cell, after)) → (IsBefore last cell → ⊥) → TakesCells text None
   not_after {cell} {after} t bad = record {
     found = tt;
     only = λ cells rest there ends.
         let first = taken_there t cells rest there ends in
-        let same = some_pair_parts cell first.cell after first.after first.is in
-        absurd (bad (rw same.0 first.before));
+        grind (arith, some_pair_parts);
   }
 
   module _ (cell : Coord) (after : List ℕ) (t : TakesCell left (Some (cell, after))) (before : IsBefore last cell) where

@@ -4,7 +4,7 @@ use Rattle.std.specs.Prelude.{codes}
 use Rattle.std.specs.Str.{bytes_eq}
 use Rattle.std.proofs.lemmas.Slice.Eq.{bytes_eq-Decides}
 use Rattle.answers.proofs.DueLines.{differs}
-use Rattle.answers.proofs.KeptLines.{cut_here, line_passed, passed_count, passed_no_longer, passed_none, passed_out, skipped_passed}
+use Rattle.answers.proofs.KeptLines.{cut_here, line_passed, passed_count, passed_none, passed_out, skipped_passed}
 use Rattle.answers.proofs.line.cut_at_end.Goals as goal
 
 pub loop-found-init : goal.loop-found-init
@@ -12,9 +12,6 @@ loop-found-init c = passed_none c.args.lines
 
 pub find_line-requires : goal.find_line-requires
 find_line-requires c = grind (arith, passed_count)
-
-pub overflow_sub-size : goal.overflow_sub-size
-overflow_sub-size c = passed_no_longer _ _ (skipped_passed _ _ c.loop-found.invariant c.in-Some.ensures.some.skipped)
 
 pub returns-then-eq-clause-some : goal.returns-then-eq-clause-some
 returns-then-eq-clause-some c =

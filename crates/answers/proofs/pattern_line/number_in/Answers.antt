@@ -1,5 +1,4 @@
-use Rattle.std.proofs.Common.{◌+◌, take_all, arith, ap}
-use Rattle.answers.specs.Reading.{number_in}
+use Rattle.std.proofs.Common.{◌+◌, arith}
 use Rattle.answers.proofs.Numerals.{number_in-more, number_in-take-le}
 use Rattle.answers.proofs.pattern_line.number_in.Goals as goal
 
@@ -20,8 +19,3 @@ returns-in_err-number c =
 
 pub loop-digit-preserved : goal.loop-digit-preserved
 loop-digit-preserved c = grind (arith, number_in-more)
-
-pub returns : goal.returns
-returns c =
-    let all = ap number_in (take_all c.loop-digit.digit-index c.args.digits.now (omega arith)) in
-    (omega arith, omega arith)

@@ -3,25 +3,12 @@
 -- reading such lines comes to, whatever entries were read before. Each call keeps the count of lines, so the number of the line after the
 -- last one is that of the fault, and no number overflows. No call adds bytes and some take bytes off, so the rest is shorter.
 use Rattle.std.proofs.Common.{◌∷◌, ap, ◌∙◌, sym, arith}
-use Rattle.std.proofs.lemmas.Result.{err_from_is_err_and}
 use Rattle.answers.specs.Held.{kept_in, said_line}
-use Rattle.answers.proofs.NextRecords.{end_missing, kind_missing, kind_refused, level_refused, record_taken}
+use Rattle.answers.proofs.NextRecords.{end_missing, record_taken}
 use Rattle.answers.proofs.splitting.next_record.Goals as goal
-
-pub returns-in_err-level : goal.returns-in_err-level
-returns-in_err-level c = grind (arith, err_from_is_err_and, level_refused)
-
-pub returns-in_default-next_kept : goal.returns-in_default-next_kept
-returns-in_default-next_kept c = grind (arith, kind_missing)
-
-pub returns-in_err-kind : goal.returns-in_err-kind
-returns-in_err-kind c = grind (arith, err_from_is_err_and, kind_refused)
 
 pub returns-in_default-cut_at_end : goal.returns-in_default-cut_at_end
 returns-in_default-cut_at_end c = grind (arith, end_missing)
-
-pub returns-in_default : goal.returns-in_default
-returns-in_default c = grind arith
 
 pub returns : goal.returns
 returns c =
@@ -39,21 +26,3 @@ returns c =
       shorter = omega (arith, c.in-Some.ensures.shorter, c.in-Some-next_kept.ensures.shorter, cut.shorter);
       fault = tt;
     }
-
-pub next_kept-requires-2 : goal.next_kept-requires-2
-next_kept-requires-2 c = omega (arith, c.in-Some.ensures.count)
-
-pub unclosed-requires : goal.unclosed-requires
-unclosed-requires c = omega (arith, c.in-Some.ensures.count)
-
-pub after_comments-from-requires : goal.after_comments-from-requires
-after_comments-from-requires c = omega (arith, c.in-Some.ensures.count, c.in-Some-next_kept.ensures.count)
-
-pub cut_at_end-requires : goal.cut_at_end-requires
-cut_at_end-requires c = omega (arith, c.in-Some.ensures.count, c.in-Some-next_kept.ensures.count)
-
-pub unclosed-requires-in_default-cut_at_end : goal.unclosed-requires-in_default-cut_at_end
-unclosed-requires-in_default-cut_at_end c = omega (arith, c.in-Some.ensures.count, c.in-Some-next_kept.ensures.count)
-
-pub invariant_of-found-clause-in_range : goal.invariant_of-found-clause-in_range
-invariant_of-found-clause-in_range c = grind arith

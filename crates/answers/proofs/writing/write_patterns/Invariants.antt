@@ -6,5 +6,4 @@ use Rattle.devices.proofs.WrittenTexts.{Whole}
 use Rattle.answers.proofs.writing.write_patterns.Given as goal
 
 abbrev pub invariant-loop-pattern : goal.invariant-loop-pattern
-invariant-loop-pattern g l =
-    Whole g.W.Sink l.fn.sink l.sink (flat_map (λ p. ended (line_of_made p)) (take l.pattern-index l.patterns)) tt
+invariant-loop-pattern g l = Whole g.W.Sink l.fn.sink l.sink (flat_map (λ p. ended (line_of_made p)) (take l.pattern-index l.patterns)) tt

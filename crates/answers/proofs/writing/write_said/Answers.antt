@@ -26,5 +26,4 @@ returns-in-Patterns g c =
     ap text (sym c.in-Patterns.is)) c.write_patterns.ensures
 
 pub returns-in-Zone : goal.returns-in-Zone
-returns-in-Zone g c =
-    handed_as _ _ _ _ _ (sym (append-nil (ended (zone_text (said_zone c.in-Zone.zone)))) ∙ ap text (sym c.in-Zone.is)) c.write_zone.ensures
+returns-in-Zone g c = handed_as _ _ _ _ _ (sym (append-nil (ended (zone_text (said_zone c.in-Zone.zone)))) ∙ ap text (sym c.in-Zone.is)) c.write_zone.ensures

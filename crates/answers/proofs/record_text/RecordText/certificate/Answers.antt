@@ -6,8 +6,7 @@ use Rattle.answers.proofs.BodyLines.{body_says}
 use Rattle.answers.proofs.record_text.RecordText.certificate.Goals as goal
 
 pub returns-in-Solution-clause-none : goal.returns-in-Solution-clause-none
-returns-in-Solution-clause-none c =
-    (map (λ (l : Line). l.text) (body_lines c.args.self.now), inl (ap kind_line c.in-Solution.is, refl))
+returns-in-Solution-clause-none c = (map (λ (l : Line). l.text) (body_lines c.args.self.now), inl (ap kind_line c.in-Solution.is, refl))
 
 pub returns-in-Unsolvable-clause-some : goal.returns-in-Unsolvable-clause-some
 returns-in-Unsolvable-clause-some c =
