@@ -1,8 +1,8 @@
 -- The parts of a board, from the sets that its rows show.
 -- A cell whose character is not a space lies on the grid of the rows, since there are only spaces off the rows. The characters of
 -- players and boxes are no wall's, and none is both a player's and a box's. So whatever the rows are, the player and the boxes are
--- on floor, and not in one cell. If the rows have one player, the set of players has one member, and the flood from it, which only
--- walls bar, is the room. Two levels with the parts of the same rows are equal, since sets with the same members are.
+-- on floor, and not in one cell. If the rows have one player, the set of players has one member, and what walks over the floor reach
+-- from it is the room. Two levels with the parts of the same rows are equal, since sets with the same members are.
 use Rattle.std.proofs.Common.{◌≡◌, ◌≢◌, ℕ, zero, suc, ◌-◌, ◌≤◌, true, false, cond, ◌||◌, ◌==◌, List, [], ◌∷◌, length, Option, Some, None, refl, sym, ◌∙◌}
 use Rattle.std.proofs.Common.{ap, ⊎_elim, arith}
 use Rattle.std.specs.Prelude.{◌↔◌, All, MatchOption}
@@ -17,8 +17,9 @@ use Rattle.cellset.specs.declared.cell.Cell.{Cell}
 use Rattle.cellset.proofs.Members.{cells_total, same_cells, has_or_lacks, same, same_itself, same_or_other, inserted, kept_by_remove, has_empty, has_only}
 use Rattle.cellset.proofs.Members.{lacks_only}
 use Rattle.cellset.proofs.ReadingOrder.{none_past}
-use Rattle.reach.specs.Region.{Joined, at_seed, beside, IsFree, IsRegion}
-use Rattle.reach.proofs.Instances.{joined_map}
+use Rattle.reach.specs.Reached.{Reached, WalksTo}
+use Rattle.reach.specs.Region.{Joined, at_seed, beside}
+use Rattle.reach.proofs.Instances.{joined_is, walked_more}
 use Rattle.cellset.proofs.Truth.{or_cases}
 use Rattle.board.specs.Game.{Level, IsFloor}
 use Rattle.board.specs.Board.{IsWellFormed}
@@ -120,42 +121,50 @@ joined_free : (F S : Cell → Type 0) (c : Cell) → Joined F S c → F c
 joined_free F S c (at_seed seed free) = free
 joined_free F S c (beside d before free) = free
 
-room_is : (level : Level) (players : Cells) → players ≡ only level.player → IsRegion level.shape level.walls set.empty players level.room → (c : Cell)
-    → Has level.room c ↔ Joined (IsFloor level) (λ seed. seed ≡ level.player) c
-room_is level players one region c = (
-  λ has. joined_map (IsFree level.shape level.walls set.empty) (IsFloor level) (Has players) (λ seed. seed ≡ level.player)
-      (λ q free. (free.on, free.no_wall)) (λ q seed. has_only level.player q (rw one at seed)) c ((region c).0 has),
-  λ chain. (region c).1 (joined_map (IsFloor level) (IsFree level.shape level.walls set.empty) (λ seed. seed ≡ level.player) (Has players)
-      (λ q free. record { on = free.0; no_wall = free.1; no_bar = contains-empty cell_cmp q })
-      (λ q here. rw (one, here) (inserted set.empty level.player)) c chain),
-)
+-- the room is what walks over the floor reach from the player
+pub record IsWalked (level : Level) : Type 0 where
+  pub floor : Cells
+  pub start : Cells
+  pub floor_is : (c : Cell) → Has floor c ↔ IsFloor level c
+  pub start_is : (c : Cell) → Has start c ↔ (c ≡ level.player)
+  pub reached : (c : Cell) → Has level.room c ↔ Reached (WalksTo (Has floor)) (Has start) c
+
+room_is : (level : Level) → IsFloor level level.player → IsWalked level → (c : Cell) → Has level.room c ↔ Joined (IsFloor level) (λ seed. seed ≡ level.player) c
+room_is level on w c =
+    let joined = joined_is (IsFloor level) (λ seed. seed ≡ level.player) c in (
+      (λ has. joined.1 (walked_more _ _ _ _ (λ q. (w.floor_is q).0) (λ q h. let here = (w.start_is q).0 h in (here, rw here on)) c ((w.reached c).0 has))),
+      (λ chain. (w.reached c).1 (walked_more _ _ _ _ (λ q. (w.floor_is q).1) (λ q seed. (w.start_is q).1 seed.0) c (joined.0 chain))),
+    )
+
+floor_from : (rows : List (List ℕ)) (level : Level) → Draws rows level → (c : Cell) → IsApart (character_at rows c) → IsFloor level c
+floor_from rows level p c apart = (rw p.shape (on_grid rows c apart.no_floor), p.walls c ∙ apart.no_wall)
+
+player_on : (rows : List (List ℕ)) (level : Level) → Draws rows level → IsFloor level level.player
+player_on rows level p = floor_from rows level p level.player (player_apart _ ((p.player level.player).1 refl))
 
 -- ---- the parts, and what holds of them
 pub parts : (rows : List (List ℕ)) (level : Level) (players : Cells) → level.shape ≡ extent_of rows → ShowsKind is_wall rows level.walls
     → ShowsKind is_goal rows level.goals → ShowsKind is_box rows level.boxes → ShowsKind is_player rows players → players ≡ only level.player
-    → IsRegion level.shape level.walls set.empty players level.room → ArePartsOf rows level
-parts rows level players shape walls goals boxes shown one region = record {
-  drawn = record {
-    shape = shape;
-    walls = walls;
-    goals = goals;
-    boxes = boxes;
-    player = λ c. (
-      (λ is. has_only level.player c (rw one at (shown c ∙ is))),
-      (λ here. sym (shown c) ∙ rw (one, here) (inserted set.empty level.player)),
-    );
-  };
-  room = room_is level players one region;
-}
-
-floor_from : (rows : List (List ℕ)) (level : Level) → Draws rows level → (c : Cell) → IsApart (character_at rows c) → IsFloor level c
-floor_from rows level p c apart = (rw p.shape (on_grid rows c apart.no_floor), p.walls c ∙ apart.no_wall)
+    → IsWalked level → ArePartsOf rows level
+parts rows level players shape walls goals boxes shown one walked = record { drawn = drawn; room = room_is level (player_on rows level drawn) walked }
+  where
+    drawn : Draws rows level
+    drawn = record {
+      shape = shape;
+      walls = walls;
+      goals = goals;
+      boxes = boxes;
+      player = λ c. (
+        (λ is. has_only level.player c (rw one at (shown c ∙ is))),
+        (λ here. sym (shown c) ∙ rw (one, here) (inserted set.empty level.player)),
+      );
+    }
 
 pub formed : (rows : List (List ℕ)) (level : Level) → HasSides level.shape.width level.shape.height → ArePartsOf rows level → IsWellFormed level
 formed rows level sides p =
     let drawn = p.drawn in
     let player_is : is_player (character_at rows level.player) ≡ true = (drawn.player level.player).1 refl in
-    let player_floor = floor_from rows level drawn level.player (player_apart (character_at rows level.player) player_is) in
+    let player_floor = player_on rows level drawn in
     record {
       sides = sides;
       boxes = λ c has. floor_from rows level drawn c (box_apart (character_at rows c) (sym (drawn.boxes c) ∙ has));

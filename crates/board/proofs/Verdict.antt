@@ -7,16 +7,15 @@ use Rattle.std.specs.FinSet as set
 use Rattle.cellset.specs.Shape.{Extent, HasSides}
 use Rattle.cellset.specs.CellSet.{Cells, only}
 use Rattle.cellset.specs.declared.cell.Cell.{Cell}
-use Rattle.reach.specs.Region.{IsRegion}
 use Rattle.board.specs.Board.{IsWellFormed, level_of}
 use Rattle.board.specs.Levels.{IsRun}
 use Rattle.board.specs.Characters.{is_wall, is_player, is_box, is_goal}
 use Rattle.board.specs.Rows.{width_of}
 use Rattle.board.specs.Legal.{FitsGrid, HasOnePlayer, HasBox, HasEnoughGoals, ArePartsOf}
 use Rattle.board.specs.Sketch.{IsDrawn, IsLegalUnlessOpen, extent_of}
-use Rattle.board.proofs.Parts.{parts, formed, run_sides}
+use Rattle.board.proofs.Parts.{IsWalked, parts, formed, run_sides}
 
--- the sets are drawn from the rows and pass all tests but the last, and the room is the region of the player
+-- the sets are drawn from the rows and pass all tests but the last, and walks from the player reach the room
 pub record PassesTests (rows : List (List ℕ)) (shape : Extent) (walls goals boxes players room : Cells) (player : Cell) : Type 0 where
   pub sides : HasSides shape.width shape.height
   pub shape_is : shape ≡ extent_of rows
@@ -28,7 +27,7 @@ pub record PassesTests (rows : List (List ℕ)) (shape : Extent) (walls goals bo
   pub is_player : players ≡ only player
   pub some : set.len boxes ≢ 0
   pub enough : set.len boxes ≤ set.len goals
-  pub region : IsRegion shape walls set.empty players room
+  pub walked : IsWalked (level_of shape walls goals boxes player room)
 
 -- if no grid has the sides of a run, the run doesn't fit a grid
 pub too_large : (rows : List (List ℕ)) (width height : ℕ) → IsRun rows → width ≡ width_of rows → height ≡ length rows → (HasSides width height → ⊥)
@@ -46,12 +45,6 @@ too_large rows width height run wide high none fits =
 pub sides_of : (width height : ℕ) (shape : Extent) → HasSides width height → shape ≡ record { width = width; height = height }
     → HasSides shape.width shape.height
 sides_of width height shape sides e = subst (λ x. HasSides x.width x.height) (sym e) sides
-
--- the region of the one player is the region of the set of players
-pub region_of : (shape extent : Extent) (walls players room : Cells) (player : Cell) → extent ≡ shape → players ≡ only player
-    → IsRegion extent walls set.empty (only player) room → IsRegion shape walls set.empty players room
-region_of shape extent walls players room player same one region =
-    rw one (rw same at region)
 
 module _ (rows : List (List ℕ)) (shape : Extent) (walls goals boxes players room : Cells) (player : Cell)
     (r : PassesTests rows shape walls goals boxes players room player) where
@@ -72,7 +65,7 @@ module _ (rows : List (List ℕ)) (shape : Extent) (walls goals boxes players ro
   parts_of =
       parts rows
       (level_of shape walls goals boxes player room) players r.shape_is r.walls_drawn.shows r.goals_drawn.shows r.boxes_drawn.shows r.players_drawn.shows
-      r.is_player r.region
+      r.is_player r.walked
 
   pub formed_of : IsWellFormed (level_of shape walls goals boxes player room)
   formed_of = formed rows (level_of shape walls goals boxes player room) r.sides parts_of

@@ -52,12 +52,16 @@ pub record IsSketchOf {S : Type 0} (rows : List (List ℕ)) (members : S → Cel
   pub box : IsDrawn is_box rows (members s.boxes)
   pub player : IsDrawn is_player rows (members s.room)
 
--- the four sets of a sketch are on its shape
-pub record IsOfOneShape {S : Type 0} (extent : S → Extent) (s : Sketch S) : Type 0 where
+-- everything of a sketch is on its shape, and its rows are its floor and these cells
+pub record HasRows {S : Type 0} (extent : S → Extent) (members : S → Cells) (s : Sketch S) (cells : Cells) : Type 0 where
   pub wall : extent s.walls ≡ s.shape
   pub goal : extent s.goals ≡ s.shape
   pub box : extent s.boxes ≡ s.shape
   pub player : extent s.room ≡ s.shape
+  pub floor_extent : s.floor.extent ≡ s.shape
+  pub floor : (c : Cell) → Has s.floor.members c ↔ (IsOn s.shape c × Lacks (members s.walls) c)
+  pub region_extent : s.region.extent ≡ s.shape
+  pub region : s.region.members ≡ cells
 
 -- the shape of rows
 abbrev pub extent_of : List (List ℕ) → Extent
@@ -66,14 +70,6 @@ extent_of rows = record { width = width_of rows; height = length rows }
 -- the level that a sketch shows once it has the room, by the player's cell
 abbrev pub level_in : {S : Type 0} → (S → Cells) → Sketch S → Cell → Level
 level_in members s player = level_of s.shape (members s.walls) (members s.goals) (members s.boxes) player (members s.room)
-
--- the rows of a sketch are its floor and its room, and everything is on its shape
-pub record HasRoom {S : Type 0} (extent : S → Extent) (members : S → Cells) (s : Sketch S) : Type 0 where
-  pub sets : IsOfOneShape extent s
-  pub floor_extent : s.flooded.free.extent ≡ s.shape
-  pub floor : (c : Cell) → Has s.flooded.free.members c ↔ (IsOn s.shape c × Lacks (members s.walls) c)
-  pub room_extent : s.flooded.region.extent ≡ s.shape
-  pub room : s.flooded.region.members ≡ members s.room
 
 -- the level is the board of these rows, and legal unless its room is open
 pub record IsLegalUnlessOpen (rows : List (List ℕ)) (level : Level) : Type 0 where

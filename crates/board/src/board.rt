@@ -22,7 +22,7 @@ pub struct Board<S: CellSet> {
 impl<S: CellSet> Model for Board<S> {
     ghost use Rattle.board.specs.Game.{Level};
     ghost use Rattle.board.specs.Board.{coded_level, IsWellFormed};
-    ghost use Rattle.board.specs.Sketch.{HasRoom, level_in};
+    ghost use Rattle.board.specs.Sketch.{HasRows, level_in};
 
     ghost Value = { Level };
 
@@ -30,7 +30,7 @@ impl<S: CellSet> Model for Board<S> {
 
     ghost view = { λ b. level_in S.members b.sketch.value b.player };
 
-    ghost invariant = { λ b. HasRoom S.extent S.members b.sketch.value × IsWellFormed (level_in S.members b.sketch.value b.player) };
+    ghost invariant = { λ b. HasRows S.extent S.members b.sketch.value (S.members b.sketch.value.room) × IsWellFormed (level_in S.members b.sketch.value b.player) };
 }
 
 impl<S: CellSet> Board<S> {
@@ -87,7 +87,7 @@ impl<S: CellSet> Board<S> {
         ensures members { result.now.members ≡ self.now.room }
         ensures extent { result.now.extent ≡ self.now.shape }
     {
-        &self.sketch.flooded.region
+        &self.sketch.region
     }
 
     /// Returns the floor as rows of bits.
@@ -95,6 +95,6 @@ impl<S: CellSet> Board<S> {
         ensures members { (c : GridCell) → Has result.now.members c ↔ IsFloor self.now c }
         ensures extent { result.now.extent ≡ self.now.shape }
     {
-        &self.sketch.flooded.free
+        &self.sketch.floor
     }
 }

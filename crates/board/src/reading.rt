@@ -7,12 +7,13 @@ ghost use Rattle.cellset.specs.Shape.{HasSides};
 ghost use Rattle.board.specs.Board.{IsWellFormed};
 ghost use Rattle.board.specs.Legal.{IsBoardOf, IsRefusal};
 ghost use Rattle.board.specs.Lines.{lines_in};
-ghost use Rattle.board.specs.Sketch.{HasRoom, IsLegalUnlessOpen, IsOfOneShape, IsSketchOf, extent_of, level_in};
+ghost use Rattle.board.specs.Sketch.{HasRows, IsLegalUnlessOpen, IsSketchOf, extent_of, level_in};
 
 use crate::board::Board;
 use crate::collection::LevelText;
 use crate::sketch::{Sketch, blank, draw};
 use cellset::{Cell, CellSet, Shape};
+use reach::step::ByWalk;
 use std::alloc::{AllocError, Global};
 use thiserror::Error;
 
@@ -71,23 +72,23 @@ pub fn read_next_board<S: CellSet>(
         return Err(BoardFault::Size);
     };
     let mut sketch = blank(alloc, shape, last)?;
-    let player = fill(alloc, &mut sketch, text.text)?;
-    if sketch.flooded.region.is_at_edge() {
+    let player = fill(&mut sketch, text.text)?;
+    if sketch.region.is_at_edge() {
         return Err(BoardFault::Open);
     }
     Ok(Board { player, sketch })
 }
 
 // Draws the rows of a text on a sketch that has no cells, and finds the room. Returns the player's cell, or the first fault but `Open`.
-fn fill<S: CellSet>(alloc: Global, sketch: &mut Sketch<S>, text: &[u8]) -> Result<Cell, BoardFault>
+fn fill<S: CellSet>(sketch: &mut Sketch<S>, text: &[u8]) -> Result<Cell, BoardFault>
     requires shape { sketch.old.shape ≡ extent_of (lines_in text.now) }
     requires sides { HasSides sketch.old.shape.width sketch.old.shape.height }
-    requires extent { IsOfOneShape S.extent sketch.old }
+    requires rows { HasRows S.extent S.members sketch.old set.empty }
     requires blank { IsSketchOf [] S.members sketch.old }
     ensures legal { IfOk result (λ player. IsLegalUnlessOpen (lines_in text.now) (level_in S.members sketch.new player)) }
     ensures formed { IfOk result (λ player. IsWellFormed (level_in S.members sketch.new player)) }
-    ensures room { OnOk result (HasRoom S.extent S.members sketch.new) }
-    ensures err { IfErr result (λ why. (why ≡ BoardFault.Memory) ⊎ IsRefusal (lines_in text.now) why) }
+    ensures rows { OnOk result (HasRows S.extent S.members sketch.new (S.members sketch.new.room)) }
+    ensures err { IfErr result (IsRefusal (lines_in text.now)) }
 {
     draw(sketch, text);
     let Some(player) = only_member(&sketch.room) else {
@@ -101,10 +102,11 @@ fn fill<S: CellSet>(alloc: Global, sketch: &mut Sketch<S>, text: &[u8]) -> Resul
         return Err(BoardFault::Goals);
     }
     // Boxes don't bar the way.
-    sketch.flooded.flood(alloc, &sketch.walls, player)?;
+    sketch.region.insert(player);
+    sketch.region.grow::<ByWalk>(&sketch.floor);
     // The set of the one player has memory for the room.
     sketch.room.clear();
-    sketch.flooded.region.store(&mut sketch.room);
+    sketch.region.store(&mut sketch.room);
     Ok(player)
 }
 

@@ -3,15 +3,16 @@
 //! They take the memory of the last board. With new memory for each board, an audit of 10,000 small levels takes 4 % more instructions. A
 //! single level gains nothing.
 ghost use Rattle.std.specs.Prelude.{◌≡◌, ◌+◌, ◌≤◌, ℕ, List, [], ◌∷◌, ◌++◌, length, take, IfOk, OnOk, All};
+ghost use Rattle.std.specs.FinSet as set;
 ghost use Rattle.cellset.specs.Shape.{HasSides};
 ghost use Rattle.board.specs.Lines.{lines_in};
-ghost use Rattle.board.specs.Sketch.{IsSketchOf, IsOfOneShape};
+ghost use Rattle.board.specs.Sketch.{HasRows, IsSketchOf};
 
 use crate::board::Board;
 use crate::row::columns_of;
 use cellset::{CellSet, Shape};
 use lines::first_line;
-use reach::Flooded;
+use reach::Rows;
 use std::alloc::{AllocError, Global};
 
 /// The cells of each kind that the rows so far show, with memory for the room.
@@ -24,18 +25,19 @@ pub(crate) struct Sketch<S: CellSet> {
     // The cells of players, and the room once the player is known.
     pub(crate) room: S,
     // The cells that aren't walls, and the room again, as rows of bits.
-    pub(crate) flooded: Flooded,
+    pub(crate) floor: Rows,
+    pub(crate) region: Rows,
 }
 
 /// Adds the cells of each kind in the rows of a text to a sketch that has none, on a shape that holds them.
 pub(crate) fn draw<S: CellSet>(sketch: &mut Sketch<S>, text: &[u8])
     requires sides { HasSides sketch.old.shape.width sketch.old.shape.height }
-    requires extent { IsOfOneShape S.extent sketch.old }
+    requires rows { HasRows S.extent S.members sketch.old set.empty }
     requires blank { IsSketchOf [] S.members sketch.old }
     requires high { length (lines_in text.now) ≤ sketch.old.shape.height }
     requires wide { All (λ row. length row ≤ sketch.old.shape.width) (lines_in text.now) }
     ensures shape { sketch.new.shape ≡ sketch.old.shape }
-    ensures extent { IsOfOneShape S.extent sketch.new }
+    ensures rows { HasRows S.extent S.members sketch.new set.empty }
     ensures drawn { IsSketchOf (lines_in text.now) S.members sketch.new }
 {
     let mut rest = text;
@@ -55,15 +57,11 @@ pub(crate) fn blank<S: CellSet>(
     last: Option<Board<S>>,
 ) -> Result<Box<Sketch<S>>, AllocError>
     ensures shape { IfOk result (λ s. s.value.shape ≡ shape) }
-    ensures extent { IfOk result (λ s. IsOfOneShape S.extent s.value) }
+    ensures rows { IfOk result (λ s. HasRows S.extent S.members s.value set.empty) }
     ensures drawn { IfOk result (λ s. IsSketchOf [] S.members s.value) }
 {
-    match last {
-        Some(board) => {
-            let mut sketch = board.sketch;
-            renew(alloc, shape, &mut sketch)?;
-            Ok(sketch)
-        }
+    let mut sketch = match last {
+        Some(board) => board.sketch,
         None => {
             let sketch = Sketch {
                 shape,
@@ -71,36 +69,42 @@ pub(crate) fn blank<S: CellSet>(
                 goals: S::new(alloc, shape)?,
                 boxes: S::new(alloc, shape)?,
                 room: S::new(alloc, shape)?,
-                flooded: Flooded::new(alloc, shape)?,
+                floor: Rows::new(alloc, shape)?,
+                region: Rows::new(alloc, shape)?,
             };
-            Ok(Box::new(alloc, sketch)?)
+            Box::new(alloc, sketch)?
         }
-    }
+    };
+    renew(alloc, shape, &mut sketch)?;
+    Ok(sketch)
 }
 
 // Removes all cells of a sketch and gives it another shape.
 fn renew<S: CellSet>(alloc: Global, shape: Shape, sketch: &mut Sketch<S>) -> Result<(), AllocError>
     ensures shape { OnOk result (sketch.new.shape ≡ shape) }
-    ensures extent { OnOk result (IsOfOneShape S.extent sketch.new) }
+    ensures rows { OnOk result (HasRows S.extent S.members sketch.new set.empty) }
     ensures drawn { OnOk result (IsSketchOf [] S.members sketch.new) }
 {
     sketch.walls.renew(alloc, shape)?;
     sketch.goals.renew(alloc, shape)?;
     sketch.boxes.renew(alloc, shape)?;
     sketch.room.renew(alloc, shape)?;
+    sketch.floor.renew(alloc, shape)?;
+    sketch.floor.complement();
+    sketch.region.renew(alloc, shape)?;
     sketch.shape = shape;
     Ok(())
 }
 
 // Adds the cells of a row, which is the first `len` bytes of a text. Rows count from 1.
 fn draw_row<S: CellSet>(sketch: &mut Sketch<S>, row: u8, text: &[u8], len: usize)
-    requires extent { IsOfOneShape S.extent sketch.old }
+    requires rows { HasRows S.extent S.members sketch.old set.empty }
     requires sides { HasSides sketch.old.shape.width sketch.old.shape.height }
     requires high { (1 ≤ row) × (row ≤ sketch.old.shape.height) }
     requires within { len ≤ length text.now }
     requires wide { len ≤ sketch.old.shape.width }
     ensures shape { sketch.new.shape ≡ sketch.old.shape }
-    ensures extent { IsOfOneShape S.extent sketch.new }
+    ensures rows { HasRows S.extent S.members sketch.new set.empty }
     ensures drawn { (done : List (List ℕ)) → length done + 1 ≡ row
         → IsSketchOf done S.members sketch.old
         → IsSketchOf (done ++ take len text.now ∷ []) S.members sketch.new }
@@ -109,6 +113,7 @@ fn draw_row<S: CellSet>(sketch: &mut Sketch<S>, row: u8, text: &[u8], len: usize
         let columns = columns_of(text, len, part);
         let part = part as u8;
         sketch.walls.insert_row(row, part, columns.walls);
+        sketch.floor.remove_row(row, part, columns.walls);
         sketch.goals.insert_row(row, part, columns.goals);
         sketch.boxes.insert_row(row, part, columns.boxes);
         sketch.room.insert_row(row, part, columns.players);

@@ -1,5 +1,5 @@
 -- Filling a row over clear columns, seen as steps along it: each step leads to the column before or after, if that is clear.
-use Rattle.std.proofs.Common.{◌≡◌, ℕ, ◌+◌, ◌-◌, ◌*◌, ◌/◌, ◌%◌, ◌^◌, ◌<◌, List, length, get_or, refl, ap, inl, inr, arith}
+use Rattle.std.proofs.Common.{◌≡◌, ℕ, ◌+◌, ◌-◌, ◌*◌, ◌/◌, ◌%◌, ◌^◌, ◌<◌, List, length, get_or, refl, inl, inr, arith}
 use Rattle.std.specs.Prelude.{◌⊎◌, ◌↔◌, bit_and, bit_or}
 use Rattle.std.specs.Int.{bit_not, w64}
 use Rattle.std.proofs.Math.ListN.{set, replicate}
@@ -9,8 +9,8 @@ use Rattle.cellset.specs.Cell.{cell_at}
 use Rattle.cellset.specs.declared.cell.Cell.{Cell}
 use Rattle.cellset.proofs.Truth.{either}
 use Rattle.reach.specs.Bits.{Bit, HasBit, IsFilled}
-use Rattle.reach.proofs.Words.{bit_and_l, bit_and_r, bit_and_from, bit_or_cases, bit_or_l, bit_or_r, bit_below, bit_cases, no_bit_zero, bit_cleared}
-use Rattle.reach.proofs.Words.{bit_not_cleared, bit_not_from, bit_not_l}
+use Rattle.reach.proofs.Words.{bit_and_l, bit_and_r, bit_and_from, bit_or_cases, bit_or_l, bit_or_r, bit_below, bit_cases, no_bit_zero}
+use Rattle.reach.proofs.Words.{bit_not_from, bit_not_l}
 use Rattle.reach.proofs.Many.{wrote_same, wrote_other, wrote_cases, moved}
 use Rattle.reach.proofs.Carries.{to_word, of_word}
 use Rattle.reach.proofs.Runs.{filled_left, filled_right, filled_along}
@@ -57,21 +57,15 @@ filled_beside S Open j k (inr e) clear filled = grind (arith, filled_left)
 pub none_in_zeros : (n k : ℕ) → HasBit (replicate {A = ℕ} n 0) k → ⊥
 none_in_zeros n k h = grind (arith, no_bit_zero, replicate, cases_lt, get_or-replicate, get_or_past, length-replicate)
 
-pub cleared : (words : List ℕ) (place : ℕ) → place / 64 < length words
-    → (k : ℕ) → HasBit (set words (place / 64) (bit_and (get_or words (place / 64) 0) (bit_not w64 (1 * 2 ^ (place % 64) % 2 ^ 64)))) k ↔
-    (HasBit words k × (k ≡ place → ⊥))
-cleared words place within k = (there, back)
-  where
-    word : ℕ
-    word = bit_and (get_or words (place / 64) 0) (bit_not w64 (1 * 2 ^ (place % 64) % 2 ^ 64))
-
-    there : HasBit (set words (place / 64) word) k → HasBit words k × (k ≡ place → ⊥)
-    there h = wrote_cases words (place / 64) word (k / 64) (k % 64) within h
-        (λ e b. grind (arith, moved, bit_and_l, bit_cleared))
-        (λ ne old. (old, λ same. ne (ap (λ n. n / 64) same)))
-
-    back : HasBit words k × (k ≡ place → ⊥) → HasBit (set words (place / 64) word) k
-    back (h, ne) = grind (arith, cases_eq, wrote_same, bit_not_cleared, moved, wrote_other)
+-- a word without the bits of another one, in its place
+pub cleared : (words : List ℕ) (part bits : ℕ) → part < length words → bits < 2 ^ 64
+    → (k : ℕ) → HasBit (set words part (bit_and (get_or words part 0) (bit_not w64 bits))) k ↔ (HasBit words k × (k / 64 ≡ part → Bit bits (k % 64) → ⊥))
+cleared words part bits within fits k = (
+  (λ h. wrote_cases words part _ (k / 64) (k % 64) within h
+      (λ e b. (grind (arith, moved, bit_and_l), λ _. bit_not_l bits (k % 64) fits (bit_and_r (get_or words part 0) _ (k % 64) b)))
+      (λ ne old. (old, λ e. absurd (ne e)))),
+  (λ (h, gone). grind (arith, cases_eq, wrote_same, bit_and_from, bit_cases, bit_not_from, moved, wrote_other)),
+)
 
 -- two tests that clear the same places fill the same places
 pub filled_as : (S F G : ℕ → Type 0) → ((k : ℕ) → F k ↔ G k) → (k : ℕ) → IsFilled (λ j. S j ⊎ F j) S k ↔ IsFilled (λ j. S j ⊎ G j) S k

@@ -1,7 +1,7 @@
 //! Operations on the columns of one row or two: tests, union, intersection, difference, shifts by one column, fills.
-ghost use Rattle.std.specs.Prelude.{◌≡◌, ◌*◌, ◌/◌, ◌+◌, ◌-◌, ◌<◌, ◌≤◌, ◌↔◌, ◌⊎◌, ℕ, IsTrue, false, slice_index, true};
+ghost use Rattle.std.specs.Prelude.{◌≡◌, ◌*◌, ◌/◌, ◌%◌, ◌+◌, ◌-◌, ◌<◌, ◌≤◌, ◌↔◌, ◌⊎◌, ℕ, IsTrue, false, slice_index, true};
 ghost use Rattle.cellset.specs.Cell.{cell_at};
-ghost use Rattle.reach.specs.Bits.{HasBit, IsFilled, room_left};
+ghost use Rattle.reach.specs.Bits.{Bit, HasBit, IsFilled, room_left};
 ghost use Rattle.reach.specs.RowsOf.{InRows};
 ghost use Rattle.reach.specs.Reached.{IsBetween, IsMoved};
 
@@ -122,12 +122,12 @@ pub(crate) fn row_at<const N: usize>(rows: &[[u64; N]], y: usize) -> [u64; N]
     if y < rows.len() { rows[y] } else { [0; N] }
 }
 
-// Removes a column from a row.
-pub(crate) fn remove<const N: usize>(row: &mut [u64; N], k: usize)
-    requires { k / 64 < N }
-    ensures { (j : ℕ) → HasBit row.new j ↔ (HasBit row.old j × (j ≡ k → ⊥)) }
+// Removes the columns of a part of a row whose bits are set.
+pub(crate) fn remove<const N: usize>(row: &mut [u64; N], part: usize, bits: u64)
+    requires { part < N }
+    ensures { (k : ℕ) → HasBit row.new k ↔ (HasBit row.old k × (k / 64 ≡ part → Bit bits (k % 64) → ⊥)) }
 {
-    row[k / 64] &= !(1 << (k % 64));
+    row[part] &= !bits;
 }
 
 // Adds to a row every column to which a box on one of its columns can be pushed along the row.

@@ -23,6 +23,6 @@ mod width;
 mod worklist;
 
 pub use pushes::{Push, Pushes};
-pub use region::{Flooded, Flooder, flood};
+pub use region::{Flooder, flood};
 pub use rings::Ring;
 pub use width::Rows;

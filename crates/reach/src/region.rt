@@ -1,10 +1,10 @@
 //! Regions: the cells joined to a seed.
 //!
 //! A region is what walks over free cells reach from the free seeds. It is found by rows of bits, which are reserved once.
-ghost use Rattle.std.specs.Prelude.{◌≡◌, ◌↔◌, IfOk, OnOk};
+ghost use Rattle.std.specs.Prelude.{◌≡◌, IfOk};
 ghost use Rattle.std.specs.FinSet as set;
 ghost use Rattle.cellset.specs.Cell.{IsOn};
-ghost use Rattle.cellset.specs.CellSet.{Has, Lacks, only};
+ghost use Rattle.cellset.specs.CellSet.{Has};
 ghost use Rattle.cellset.specs.declared.cell.Cell.{Cell as GridCell};
 ghost use Rattle.reach.specs.Region.{IsRegion};
 
@@ -36,51 +36,11 @@ pub fn flood<S: CellSet>(
     Ok(region)
 }
 
-/// The cells that walls leave free, and the region of one seed among them.
-#[derive(Drop)]
-pub struct Flooded {
-    pub free: Rows,
-    pub region: Rows,
-}
-
-impl Flooded {
-    /// Returns no cells of a grid.
-    pub fn new(alloc: Global, shape: Shape) -> Result<Flooded, AllocError>
-        ensures free { IfOk result (λ f. (f.free.extent ≡ shape) × (f.free.members ≡ set.empty)) }
-        ensures region { IfOk result (λ f. (f.region.extent ≡ shape) × (f.region.members ≡ set.empty)) }
-    {
-        let free = Rows::new(alloc, shape)?;
-        let region = Rows::new(alloc, shape)?;
-        Ok(Flooded { free, region })
-    }
-
-    /// Finds the cells that walls leave free and the region of one seed among them. The grid may be another one than before. After an error
-    /// the cells may be any.
-    pub fn flood<S: CellSet>(
-        &mut self,
-        alloc: Global,
-        walls: &S,
-        seed: Cell,
-    ) -> Result<(), AllocError>
-        requires { IsOn (S.extent walls.now) seed }
-        ensures extent { OnOk result ((self.new.free.extent ≡ S.extent walls.now) × (self.new.region.extent ≡ S.extent walls.now)) }
-        ensures free { OnOk result ((c : GridCell) → Has self.new.free.members c ↔ (IsOn (S.extent walls.now) c × Lacks (S.members walls.now) c)) }
-        ensures exact { OnOk result (IsRegion (S.extent walls.now) (S.members walls.now) set.empty (only seed) self.new.region.members) }
-    {
-        let shape = walls.shape();
-        self.free.renew(alloc, shape)?;
-        self.region.renew(alloc, shape)?;
-        self.free.load(walls);
-        self.region.insert(seed);
-        find_region(&mut self.region, &mut self.free);
-        Ok(())
-    }
-}
-
 /// Finds one region after another on one shape, with rows that are reserved once.
 #[derive(Drop)]
 pub struct Flooder {
-    flooded: Flooded,
+    free: Rows,
+    region: Rows,
 }
 
 impl Model for Flooder {
@@ -89,9 +49,9 @@ impl Model for Flooder {
 
     ghost Value = { Extent };
 
-    ghost view = { λ f. f.flooded.free.extent };
+    ghost view = { λ f. f.free.extent };
 
-    ghost invariant = { λ f. f.flooded.region.extent ≡ f.flooded.free.extent };
+    ghost invariant = { λ f. f.region.extent ≡ f.free.extent };
 }
 
 impl Flooder {
@@ -99,8 +59,9 @@ impl Flooder {
     pub fn new(alloc: Global, shape: Shape) -> Result<Flooder, AllocError>
         ensures { IfOk result (λ f. f ≡ shape) }
     {
-        let flooded = Flooded::new(alloc, shape)?;
-        Ok(Flooder { flooded })
+        let free = Rows::new(alloc, shape)?;
+        let region = Rows::new(alloc, shape)?;
+        Ok(Flooder { free, region })
     }
 
     /// Replaces the cells of `region` by the region of the seeds, which is that of `flood`. Allocates nothing.
@@ -119,12 +80,11 @@ impl Flooder {
         // `region` holds walls and barrier at first, so that both are read as one set.
         region.copy_from(walls);
         region.union_with(barrier);
-        let flooded = &mut self.flooded;
-        flooded.free.load(region);
-        flooded.region.load(seeds);
-        find_region(&mut flooded.region, &mut flooded.free);
+        self.free.load(region);
+        self.region.load(seeds);
+        find_region(&mut self.region, &mut self.free);
         region.clear();
-        flooded.region.store(region);
+        self.region.store(region);
     }
 }
 
@@ -132,9 +92,7 @@ impl Flooder {
 fn find_region(seeds: &mut Rows, barred: &mut Rows)
     requires extent { seeds.old.extent ≡ barred.old.extent }
     requires on { (c : GridCell) → Has seeds.old.members c → IsOn seeds.old.extent c }
-    ensures extent { seeds.new.extent ≡ seeds.old.extent }
-    ensures free { (barred.new.extent ≡ barred.old.extent)
-        × ((c : GridCell) → Has barred.new.members c ↔ (IsOn barred.old.extent c × Lacks barred.old.members c)) }
+    ensures extent { (seeds.new.extent ≡ seeds.old.extent) × (barred.new.extent ≡ barred.old.extent) }
     ensures exact { IsRegion seeds.old.extent barred.old.members set.empty seeds.old.members seeds.new.members }
 {
     seeds.subtract(barred);

@@ -2,8 +2,8 @@
 ghost use Rattle.std.specs.Prelude.{◌≡◌, ◌*◌, ◌+◌, ◌<◌, ◌≤◌, ◌↔◌, ◌⊎◌, ℕ, IfOk, OnOk, OnErr, IsTrue, MatchBool, length, true, false};
 ghost use Rattle.std.specs.FinSet as set;
 ghost use Rattle.cellset.specs.Cell.{IsOn, cell_at};
-ghost use Rattle.cellset.specs.CellSet.{Has};
-ghost use Rattle.cellset.specs.RowBits.{IsRowOf};
+ghost use Rattle.cellset.specs.CellSet.{Has, Lacks};
+ghost use Rattle.cellset.specs.RowBits.{IsRowOf, cells_of_row};
 ghost use Rattle.cellset.specs.declared.cell.Cell.{Cell as GridCell};
 ghost use Rattle.reach.specs.Bits.{HasBit};
 ghost use Rattle.reach.specs.RowsOf.{InRows};
@@ -121,13 +121,13 @@ impl<const N: usize> RowsOf<N> {
         insert(&mut self.rows[cell.row() as usize], cell.column() as usize);
     }
 
-    /// Removes a cell of the grid.
-    pub fn remove(&mut self, cell: Cell)
-        requires { IsOn self.old.extent cell }
+    /// Removes the cells of a row of the grid whose bits are set, numbered as in `CellSet::row`.
+    pub fn remove_row(&mut self, row: u8, part: u8, bits: u64)
+        requires { (row ≤ self.old.extent.height) × (64 * part ≤ self.old.extent.width) }
         ensures extent { self.new.extent ≡ self.old.extent }
-        ensures members { (c : GridCell) → Has self.new.members c ↔ (Has self.old.members c × (c ≡ cell → ⊥)) }
+        ensures members { (c : GridCell) → Has self.new.members c ↔ (Has self.old.members c × Lacks (cells_of_row row part bits) c) }
     {
-        remove(&mut self.rows[cell.row() as usize], cell.column() as usize);
+        remove(&mut self.rows[row as usize], part as usize, bits);
     }
 
     /// Replaces the cells by the cells of other rows.

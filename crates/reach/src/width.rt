@@ -6,7 +6,7 @@ ghost use Rattle.std.specs.Prelude.{◌≡◌, ◌↔◌, ◌⊎◌, ◌*◌, �
 ghost use Rattle.std.specs.FinSet as set;
 ghost use Rattle.cellset.specs.Cell.{IsOn};
 ghost use Rattle.cellset.specs.CellSet.{Has, Lacks};
-ghost use Rattle.cellset.specs.RowBits.{IsRowOf};
+ghost use Rattle.cellset.specs.RowBits.{IsRowOf, cells_of_row};
 ghost use Rattle.cellset.specs.declared.cell.Cell.{Cell as GridCell};
 ghost use Rattle.reach.specs.Reached.{Reached, IsClosedUnder};
 ghost use Rattle.reach.specs.Region.{IsAtEdge};
@@ -176,7 +176,16 @@ impl Rows {
         ensures extent { self.new.extent ≡ self.old.extent }
         ensures members { (c : GridCell) → Has self.new.members c ↔ (Has self.old.members c × (c ≡ cell → ⊥)) }
     {
-        by_width!(&mut self.rows, rows => rows.remove(cell));
+        self.remove_row(cell.row(), cell.column() / 64, 1 << (cell.column() % 64));
+    }
+
+    /// Removes the cells of a row of the grid whose bits are set, numbered as in `CellSet::row`.
+    pub fn remove_row(&mut self, row: u8, part: u8, bits: u64)
+        requires { (row ≤ self.old.extent.height) × (64 * part ≤ self.old.extent.width) }
+        ensures extent { self.new.extent ≡ self.old.extent }
+        ensures members { (c : GridCell) → Has self.new.members c ↔ (Has self.old.members c × Lacks (cells_of_row row part bits) c) }
+    {
+        by_width!(&mut self.rows, rows => rows.remove_row(row, part, bits));
     }
 
     /// Removes every cell.

@@ -1,16 +1,17 @@
 -- A sketch has one cell for each character of a kind, so the tests of sizes are tests of the rows. The one member of the set of players is
--- the player, and the flood from its cell, which only the walls bar, is the room. `PassesTests` of `Verdict.antt` says this of the sets. Then
+-- the player, and what walks over the floor reach from its cell is the room. `PassesTests` of `Verdict.antt` says this of the sets. Then
 -- the level of these parts is legal unless its room is open (`legal_of`). The room is kept in the set of players, once that is cleared.
-use Rattle.std.proofs.Common.{◌≡◌, ◌≤◌, length, ◌∙◌, ap, arith}
+use Rattle.std.proofs.Common.{◌≡◌, ◌≤◌, length, ◌∙◌, ap, inr, arith}
 use Rattle.std.specs.FinSet as set
 use Rattle.std.proofs.lemmas.List.Elements.{All-weaker}
 use Rattle.cellset.specs.CellSet.{Cells}
-use Rattle.cellset.proofs.Members.{same_members}
+use Rattle.cellset.proofs.Members.{has_empty, same_members}
+use Rattle.cellset.proofs.Truth.{either}
 use Rattle.reach.proofs.Sets.{stored_is}
 use Rattle.board.specs.Lines.{lines_in}
 use Rattle.board.specs.Rows.{width_of}
 use Rattle.board.proofs.Parts.{all_within_width}
-use Rattle.board.proofs.Verdict.{PassesTests, region_of, formed_of, legal_of}
+use Rattle.board.proofs.Verdict.{PassesTests, formed_of, legal_of}
 use Rattle.board.proofs.reading.fill.Given as given
 use Rattle.board.proofs.reading.fill.Goals as goal
 
@@ -29,6 +30,7 @@ passed : (g : given.Over) (c : goal.After-store g) → let members = g.S.CellSet
     (members c.store.new.into) c.in-Some.player
 passed g c =
     let drawn = c.draw.ensures.drawn in
+    let rows = c.draw.ensures.rows in
     let same = room_of _ _ _ c.clear.ensures.members c.store.ensures.members in
     record {
       sides = rw c.draw.ensures.shape c.requires.sides;
@@ -41,7 +43,14 @@ passed g c =
       is_player = c.in-Some.ensures.1;
       some = λ none. c.if-boxes-eq0.false (c.len-boxes.ensures ∙ none);
       enough = omega arith;
-      region = region_of _ _ _ _ _ _ c.draw.ensures.extent.wall c.in-Some.ensures.1 (rw same at c.in_ok-flood.ensures.exact);
+      walked = record {
+        floor = c.draw.new.sketch.floor.members;
+        start = c.insert.new.self.members;
+        floor_is = rows.floor;
+        start_is = λ q. let added = rw rows.region at (c.insert.ensures.members q) in
+            ((λ h. either (added.0 h) (λ none. has_empty q none) (λ here. here)), (λ here. added.1 (inr here)));
+        reached = rw same at c.grow.ensures.exact;
+      };
     }
 
 pub returns-clause-legal : goal.returns-clause-legal
@@ -50,14 +59,16 @@ returns-clause-legal g c = legal_of _ _ _ _ _ _ _ _ (passed g c)
 pub returns-clause-formed : goal.returns-clause-formed
 returns-clause-formed g c = formed_of _ _ _ _ _ _ _ _ (passed g c)
 
-pub returns-clause-room : goal.returns-clause-room
-returns-clause-room g c =
-    let on = c.draw.ensures.extent in
-    let walls = g.S.CellSet.members c.draw.new.sketch.walls in
+pub returns-clause-rows : goal.returns-clause-rows
+returns-clause-rows g c =
+    let was = c.draw.ensures.rows in
     record {
-      sets = record { wall = on.wall; goal = on.goal; box = on.box; player = c.store.ensures.extent ∙ c.clear.ensures.extent ∙ on.player };
-      floor_extent = c.in_ok-flood.ensures.extent.0 ∙ on.wall;
-      floor = rw on.wall at c.in_ok-flood.ensures.free;
-      room_extent = c.in_ok-flood.ensures.extent.1 ∙ on.wall;
-      room = room_of _ _ _ c.clear.ensures.members c.store.ensures.members;
+      wall = was.wall;
+      goal = was.goal;
+      box = was.box;
+      player = c.store.ensures.extent ∙ c.clear.ensures.extent ∙ was.player;
+      floor_extent = was.floor_extent;
+      floor = was.floor;
+      region_extent = c.grow.ensures.extent ∙ c.insert.ensures.extent ∙ was.region_extent;
+      region = room_of _ _ _ c.clear.ensures.members c.store.ensures.members;
     }

@@ -44,7 +44,7 @@ rows-preserved g c =
       left = sym next.2;
       within = omega arith;
       shape = c.draw_row.ensures.shape ∙ was.shape;
-      extent = c.draw_row.ensures.extent;
+      rows = c.draw_row.ensures.rows;
       drawn = rw next.1 (c.draw_row.ensures.drawn (take c.rows.row rows)
           (let long = length-take-le c.rows.row rows was.within in omega arith) was.drawn);
     }

@@ -1,6 +1,7 @@
 use Rattle.std.proofs.Common.{◌≡◌, take}
 use Rattle.board.specs.Characters.{is_wall, is_player, is_box, is_goal}
-use Rattle.board.specs.Sketch.{IsOfOneShape}
+use Rattle.std.specs.FinSet as set
+use Rattle.board.specs.Sketch.{HasRows}
 use Rattle.board.proofs.Drawing.{IsRowDrawn}
 use Rattle.board.proofs.sketch.draw_row.Given as goal
 
@@ -9,7 +10,7 @@ invariant-loop-part g l =
     let members = g.S.CellSet.members in
     record {
       shape : l.sketch.shape ≡ l.fn.sketch.shape;
-      extent : IsOfOneShape g.S.CellSet.extent l.sketch;
+      rows : HasRows g.S.CellSet.extent members l.sketch set.empty;
       wall : IsRowDrawn is_wall (take l.len l.text) l.row l.part (members l.fn.sketch.walls) (members l.sketch.walls);
       goal : IsRowDrawn is_goal (take l.len l.text) l.row l.part (members l.fn.sketch.goals) (members l.sketch.goals);
       box : IsRowDrawn is_box (take l.len l.text) l.row l.part (members l.fn.sketch.boxes) (members l.sketch.boxes);
