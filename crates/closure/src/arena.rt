@@ -1,14 +1,17 @@
 //! The lines of a list in two vectors of cells.
-ghost use Rattle.std.specs.Prelude.{◌≡◌, length};
+//!
+//! A place in them takes four bytes, which saves a quarter of the memory of a long list.
+ghost use Rattle.std.specs.Prelude.{◌≡◌, IfOk, length};
 ghost use Rattle.closure.specs.Spans.{AreWithin, IsWithin, part as part_of};
 
 use cellset::Cell;
+use std::alloc::AllocError;
 
 // Cells next to each other in a vector: the number of the first one, and of the one after the last.
 #[derive(Clone, Copy)]
 pub(crate) struct Span {
-    pub(crate) from: usize,
-    pub(crate) to: usize,
+    pub(crate) from: u32,
+    pub(crate) to: u32,
 }
 
 // A pattern line in an arena: its number in the text, its boxes, and its seeds. It has no seeds if it says `*`.
@@ -33,5 +36,16 @@ pub(crate) fn part(cells: &[Cell], span: Span) -> &[Cell]
     requires { IsWithin (length cells.now) span }
     ensures { result.now ≡ part_of cells.now span }
 {
-    &cells[span.from..span.to]
+    &cells[span.from as usize..span.to as usize]
+}
+
+// Returns a number in four bytes. One that doesn't fit is past all limits of texts, and takes more memory than there is.
+#[inline(always)]
+pub(crate) fn to_u32(number: usize) -> Result<u32, AllocError>
+    ensures { IfOk result (λ n. n ≡ number) }
+{
+    match u32::try_from(number) {
+        Ok(number) => Ok(number),
+        Err(_) => Err(AllocError),
+    }
 }

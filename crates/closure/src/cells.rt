@@ -8,7 +8,7 @@ ghost use Rattle.cellset.specs.declared.cell.Cell.{Cell as GridCell};
 ghost use Rattle.closure.specs.Pattern.{cell_of, cells_of};
 ghost use Rattle.closure.specs.Sides.{cell_no, cells_in};
 
-use crate::arena::Span;
+use crate::arena::{Span, to_u32};
 use answers::Coord;
 use cellset::{Cell, CellSet, Shape};
 use std::alloc::{AllocError, Global};
@@ -54,8 +54,8 @@ pub(crate) fn add_cells(
         cells.push(cell)?;
     }
     Ok(Some(Span {
-        from,
-        to: cells.len(),
+        from: to_u32(from)?,
+        to: to_u32(cells.len())?,
     }))
 }
 

@@ -163,7 +163,7 @@ fn check_pushes<S: CellSet>(
         → IsFirstPatternFault tables.now.board.now (lines_in tables.now.groups.arena) fault) }
 {
     for line in 0..tables.groups.arena.lines.len() {
-        if covered[tables.groups.of[line]] {
+        if covered[tables.groups.of[line] as usize] {
             continue;
         }
         if let Some(push) = trial.first_push(tables, line, lookup) {

@@ -72,7 +72,7 @@ pub(crate) fn find_regions<S: CellSet>(
         }
         flood.take_out(room, boxes);
         let whole = flood.find_region(groups, group);
-        flood.note_sides(boxes, groups.spans[group].from, &mut sides);
+        flood.note_sides(boxes, groups.spans[group].from as usize, &mut sides);
         let has_root = flood.region.has(board.player());
         of.push_reserved(Region { has_root, whole });
     }
@@ -205,13 +205,13 @@ fn seed(groups: &Groups, group: usize, free: &Rows, region: &mut Rows) -> bool
         (HasSeedsFrom (Has free.now.members) (Has region.new.members) groups.now group 0)
         (HasStar groups.now group) }
 {
-    let mut at = groups.chains.first[group];
+    let mut at = groups.chains.first[group] as usize;
     while at > 0 {
         let Some(seeds) = groups.arena.pattern(at - 1).seeds else {
             return false;
         };
         add_seeds(seeds, free, region);
-        at = groups.chains.next[at - 1];
+        at = groups.chains.next[at - 1] as usize;
     }
     true
 }

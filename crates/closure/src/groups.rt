@@ -3,7 +3,7 @@ ghost use Rattle.std.specs.Prelude.{◌≡◌, ◌<◌, ◌⊎◌, ◌++◌, ◌
 ghost use Rattle.closure.specs.Spans.{AreSpans, IsWithin, part as part_of, span_at};
 ghost use Rattle.closure.specs.Groups.{IsGrouped, boxes_of};
 
-use crate::arena::{Arena, Span, part};
+use crate::arena::{Arena, Span, part, to_u32};
 use crate::chains::{Chains, chain};
 use crate::hints::{Hints, TRIES, hash_of};
 use cellset::Cell;
@@ -14,7 +14,7 @@ use std::alloc::{AllocError, Global};
 pub(crate) struct Groups {
     pub(crate) arena: Arena,
     // By line, its group.
-    pub(crate) of: Vec<usize>,
+    pub(crate) of: Vec<u32>,
     // By group, the boxes of its first line.
     pub(crate) spans: Vec<Span>,
     // The lines of each group.
@@ -33,7 +33,8 @@ pub(crate) fn group(alloc: Global, arena: Arena) -> Result<Groups, AllocError>
     let mut spans = Vec::new(alloc);
     let mut hints = Hints::new(alloc, arena.lines.len())?;
     for line in &arena.lines {
-        of.push_reserved(group_of(&arena.boxes, line.boxes, &mut spans, &mut hints)?);
+        let group = group_of(&arena.boxes, line.boxes, &mut spans, &mut hints)?;
+        of.push_reserved(to_u32(group)?);
     }
     let chains = chain(alloc, &of, spans.len())?;
     Ok(Groups {

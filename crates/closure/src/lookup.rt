@@ -197,13 +197,13 @@ fn find_in_bucket<S: CellSet>(
         ((g : ℕ) → slice_index tables.now.buckets.keys.items g ≡ index_of cell → GroupCovers tables.now.board.now tables.now.groups g (record { player = query.now.player; boxes = S.members query.now.boxes.now }) → ⊥)
         (λ g. GroupCovers tables.now.board.now tables.now.groups g (record { player = query.now.player; boxes = S.members query.now.boxes.now })) }
 {
-    let mut at = tables.buckets.chains.first[index_of(cell)];
+    let mut at = tables.buckets.chains.first[index_of(cell)] as usize;
     while at > 0 {
         let group = at - 1;
         if is_covering(tables, group, query, scratch) {
             return Some(group);
         }
-        at = tables.buckets.chains.next[group];
+        at = tables.buckets.chains.next[group] as usize;
     }
     None
 }

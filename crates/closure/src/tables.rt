@@ -13,7 +13,7 @@ ghost use Rattle.closure.specs.CellIndex.{index_of};
 ghost use Rattle.closure.specs.Groups.{IsGrouped, boxes_of, list_of, position_at};
 ghost use Rattle.closure.specs.Tables.{AreFilled, AreTables};
 
-use crate::arena::Arena;
+use crate::arena::{Arena, to_u32};
 use crate::chains::{Chains, chain};
 use crate::group_regions::{Regions, find_regions};
 use crate::groups::{Groups, group};
@@ -29,7 +29,7 @@ use std::alloc::{AllocError, Global};
 #[derive(Drop)]
 pub(crate) struct Buckets {
     // By group, the index of its bucket.
-    pub(crate) keys: Vec<usize>,
+    pub(crate) keys: Vec<u32>,
     pub(crate) chains: Chains,
 }
 
@@ -154,7 +154,7 @@ impl<'a, S: CellSet> Tables<'a, S> {
         ensures { IsAround (InPatternRegion self.now.board.now (position_at self.now.board.now self.now.groups group))
             (cell_no (boxes_of self.now.groups group) number) result }
     {
-        self.regions.sides[self.groups.spans[group].from + number]
+        self.regions.sides[self.groups.spans[group].from as usize + number]
     }
 
     // Returns whether the region of a group has the root of the tree.
@@ -191,7 +191,7 @@ fn fill_buckets<S: CellSet>(
     let cells = 256 * (usize::from(board.shape().height()) + 1);
     let mut keys = Vec::with_capacity(alloc, groups.spans.len())?;
     for group in 0..groups.spans.len() {
-        keys.push_reserved(first_of(groups.boxes(group)));
+        keys.push_reserved(to_u32(first_of(groups.boxes(group)))?);
     }
     let chains = chain(alloc, &keys, cells)?;
     Ok(Buckets { keys, chains })

@@ -45,10 +45,10 @@ loop-item-preserved c =
     let pushed = c.push_reserved.ensures.items in
     let read = read_first keys first next c.args.count item far low inv.firsts inv.nexts inv.lasts c.index.result.now c.index.ensures in
     record {
-      firsts = firsts_more keys first next c.args.count item far low inv.firsts inv.nexts inv.lasts;
+      firsts = rw c.in_ok-first-2.ensures (firsts_more keys first next c.args.count item far low inv.firsts inv.nexts inv.lasts);
       nexts = nexts_more keys first next c.args.count item far low inv.firsts inv.nexts inv.lasts c.index.result.now c.push_reserved.new.self.items pushed;
       roomy = rw c.push_reserved.ensures.capacity inv.roomy;
-      lasts = lasts_more keys first next c.args.count item far low inv.firsts inv.nexts inv.lasts;
+      lasts = rw c.in_ok-first-2.ensures (lasts_more keys first next c.args.count item far low inv.firsts inv.nexts inv.lasts);
       before = before_more keys first next c.args.count item far low inv.firsts inv.nexts inv.lasts c.push_reserved.new.self.items (pushed ∙
           ap (λ k. next ++ k ∷ []) read) inv.before;
     }

@@ -16,9 +16,9 @@ pattern-requires c = grind arith
 pub loop-at-init : goal.loop-at-init
 loop-at-init c =
     let of = c.args.groups.now.of.items in
-    let at = c.index-at.result.now in
+    let at = c.index.result.now in
     let chains = c.requires.groups.chained in
-    let read = c.index-at.ensures ∙ at_any c.args.groups.now.chains.first.items c.args.group at 0 (omega arith) in
+    let read = c.index.ensures ∙ at_any c.args.groups.now.chains.first.items c.args.group at 0 (omega arith) in
     let last = rw (← read) at (chains.lasts c.args.group c.requires.group) in
     let long = c.requires.groups.all.long in
     record {

@@ -31,7 +31,7 @@ loop-at-init g c =
     let at = c.index_of.ensures in
     let long = all.long in
     let last = begun tables.buckets.keys.items tables.buckets.chains.first.items tables.buckets.chains.next.items _ (index_of c.args.cell) all.chained
-    c.index-at.result.now (omega arith) (c.index-at.ensures ∙ ap (λ k. get_or tables.buckets.chains.first.items k c.index-at.result.now) at) in
+    c.index.result.now (omega arith) (c.index.ensures ∙ ap (λ k. get_or tables.buckets.chains.first.items k c.index.result.now) at) in
     let within = last.within in
     record {
       within = omega arith;
@@ -42,8 +42,8 @@ loop-at-init g c =
       scratch = c.requires.scratch;
     }
 
-pub index-at-requires-in-loop-at : goal.index-at-requires-in-loop-at
-index-at-requires-in-loop-at g c = grind arith
+pub index-requires-in-loop-at : goal.index-requires-in-loop-at
+index-requires-in-loop-at g c = grind arith
 
 pub loop-at-preserved : goal.loop-at-preserved
 loop-at-preserved g c =
@@ -59,13 +59,13 @@ loop-at-preserved g c =
           g.S.CellSet.members c.args.query.now.boxes.now;
     }) in
     let last = led_on tables.buckets.keys.items tables.buckets.chains.first.items tables.buckets.chains.next.items _ (index_of c.args.cell) all.chained
-    c.loop-at.at c.index-at-in-loop-at.result.now test (omega arith) c.index-at-in-loop-at.ensures (inv.key test) in
+    c.loop-at.at c.index-in-loop-at.result.now test (omega arith) c.index-in-loop-at.ensures (inv.key test) in
     let before = last.within in
     record {
       within = omega arith;
       key = last.has_key;
       passed = none_more tables.buckets.keys.items tables.buckets.chains.first.items tables.buckets.chains.next.items _ (index_of c.args.cell) all.chained
-          Covers c.loop-at.at c.index-at-in-loop-at.result.now
+          Covers c.loop-at.at c.index-in-loop-at.result.now
           test last (λ covers. false≢true (sym c.if-is_covering.false ∙ c.is_covering.ensures.exact.1 covers.1)) inv.passed;
       scratch = c.is_covering.ensures.scratch;
     }
