@@ -16,7 +16,7 @@ use Rattle.play.specs.declared.fault.ReplayFault.{ReplayFault}
 use Rattle.play.specs.declared.tally.Tally.{Tally}
 use Rattle.answers.specs.Body.{Body, FirstBad, LetterLines, OneZone, PatternLines}
 use Rattle.answers.specs.Reading.{entry_of}
-use Rattle.answers.specs.Records.{SaysOfLevel, body_lines}
+use Rattle.answers.specs.Records.{SaysOfLevel}
 use Rattle.answers.specs.declared.record_text.RecordText.{RecordText}
 use Rattle.answers.proofs.BodyLines.{body_says, says_one_body}
 use Rattle.closure.specs.Closed.{Closed}
@@ -38,7 +38,7 @@ use Rattle.report.specs.declared.status.Refusal.TheVariants.{BadLine, Board, Pat
 pub with_board : {E : Type 0} (r : Result Status E) (rows : List (List ℕ)) (level : Level) → IsBoardOf rows level
     → IfOk r (λ status. is_unsolvable status ≡ true → Solvable level → ⊥)
     → IfOk r (λ status. is_unsolvable status ≡ true → (board : Level) × IsBoardOf rows board × (Solvable board → ⊥))
-with_board (Ok status) rows level is h = λ e. (level, is, h e)
+with_board (Ok status) rows level is h = search
 with_board (Err e) rows level is h = tt
 
 drawn : (rows : List (List ℕ)) → (level : Level) × IsBoardOf rows level × (Solvable level → ⊥) → IsUnsolvable rows
@@ -46,17 +46,16 @@ drawn rows (level, is, none) = (level, is.parts.drawn, none)
 
 -- each status that the rows and the answer say means something true
 pub means : (rows : List (List ℕ)) (answer : Option Body) (status : Status)
-    → (is_unsolvable status ≡ true → (level : Level) × IsBoardOf rows level × (Solvable level → ⊥))
-    → Says rows answer status → Means rows answer status
+    → (is_unsolvable status ≡ true → (level : Level) × IsBoardOf rows level × (Solvable level → ⊥)) → Says rows answer status → Means rows answer status
 means rows answer status lost (illegal refusal) = refusal
 means rows answer status lost (missing {level = level} is) = (refl, level, is)
 means rows answer status lost (bad_line {level = level} is) = (level, is, refl)
-means rows answer status lost (solved {level = level} {lines = lines} is solves) = (level, is.parts.drawn, lines, refl, solves)
-means rows answer status lost (not_solved {level = level} {lines = lines} is first) = (level, is, lines, refl, first)
+means rows answer status lost (solved {level = level} {lines = lines} is solves) = search
+means rows answer status lost (not_solved {level = level} {lines = lines} is first) = search
 means rows answer status lost (closed is list) = drawn rows (lost refl)
-means rows answer status lost (not_closed {level = level} {patterns = patterns} is first) = (level, is, patterns, refl, first)
+means rows answer status lost (not_closed {level = level} {patterns = patterns} is first) = search
 means rows answer status lost (refuting is zone) = drawn rows (lost refl)
-means rows answer status lost (not_refuting {level = level} {zone = zone} is first) = (level, is, zone, refl, first)
+means rows answer status lost (not_refuting {level = level} {zone = zone} is first) = search
 
 -- ---- the cases by the answer
 -- what the answer says on a board: one status, or a status by what holds of the board
@@ -90,11 +89,11 @@ of_rows (not_refuting {level = level} {fault = fault} is first) = inr (level, is
 
 pub says_by : (rows : List (List ℕ)) (r : RecordText) (status : Status) → Says rows (Some (entry_of r).body) status → (body : Body) → SaysOfLevel r body
     → Says rows (Some body) status
-says_by rows r status says body reads = subst (λ (b : Body). Says rows (Some b) status) (sym (says_one_body r body reads)) says
+says_by rows r status says body reads = subst (λ b. Says rows (Some b) status) (sym (says_one_body r body reads)) says
 
 pub says_said : (rows : List (List ℕ)) (answer : Option (Bor RecordText)) (status : Status) → SaysBy rows answer status → Says rows (said_answer answer) status
 says_said rows None status says = says
-says_said rows (Some r) status says = says (entry_of r.now).body (body_says r.now.version r.now.kind (body_lines r.now))
+says_said rows (Some r) status says = search (body_says)
 
 pub illegal_by : (rows : List (List ℕ)) (answer : Option (Bor RecordText)) (why : BoardFault) → IsRefusal rows why → SaysBy rows answer (Refused (Board why))
 illegal_by rows None why refusal = illegal refusal
@@ -103,5 +102,5 @@ illegal_by rows (Some r) why refusal = λ body reads. illegal refusal
 pub said_by : {E : Type 0} (judged : Result Status E) (rows : List (List ℕ)) (level : Level) (answer : Option (Bor RecordText)) → IsBoardOf rows level
     → IfOk judged (λ status. (rows : List (List ℕ)) → IsBoardOf rows level → Says rows (said_answer answer) status) → IfOk judged (SaysBy rows answer)
 said_by (Ok status) rows level None board says = says rows board
-said_by (Ok status) rows level (Some r) board says = says_by rows r.now status (says rows board)
+said_by (Ok status) rows level (Some r) board says = search (says_by)
 said_by (Err e) rows level answer board says = tt

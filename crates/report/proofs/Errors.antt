@@ -3,10 +3,10 @@
 -- texts. It comes after both reads, and a text that was read whole is not too long.
 -- A first error is of one of four kinds. No two of them can hold together, and each kind allows one error: the levels of a
 -- text are one list, and an answers text has one first fault for a number of levels.
-use Rattle.std.proofs.Common.{◌≡◌, ◌⊎◌, ℕ, ◌<◌, ◌≤◌, List, length, inl, inr, refl, sym, ap, ◌∙◌, subst, arith}
+use Rattle.std.proofs.Common.{◌≡◌, ◌⊎◌, ℕ, ◌<◌, ◌≤◌, List, length, inl, inr, refl, sym, ap, ◌∙◌, arith}
 use Rattle.std.specs.Prelude.{Result, Ok, Err, IfOk, IfErr, MatchResult}
 use Rattle.board.specs.Lines.{lines_in, without_mark}
-use Rattle.board.specs.Levels.{AreLevelsOf, most_levels}
+use Rattle.board.specs.Levels.{AreLevelsOf}
 use Rattle.answers.specs.FirstFault.{IsFirstAnswersFault}
 use Rattle.answers.specs.declared.fault.AnswersFault.{AnswersFault}
 use Rattle.answers.specs.declared.fault.AnswersFault.TheVariants as fault
@@ -31,7 +31,7 @@ module _ (lt at : List ℕ) where
   first_due Memory error = tt
 
   pub error_due : (e : AuditError) → (e ≡ Memory) ⊎ IsFirstError lt at e → IsDue lt at e
-  error_due e (inl none) = subst (IsDue lt at) (sym none) tt
+  error_due e (inl none) = grind arith
   error_due e (inr error) = first_due e error
 
 -- ---- one error
@@ -74,36 +74,33 @@ module _ (one_list : (levels others : List (List (List ℕ))) (lines : List (Lis
   one_answers_error : (line other : ℕ) (w v : Why) → IsTextError lt at (Answers line w) → IsTextError lt at (Answers other v) → Answers line w ≡ Answers other v
   one_answers_error line other w v (levels, are, few, first) (others, they, less, again) =
       let same = one_list levels others (lines_in (without_mark lt)) are they in
-      let there = subst (λ (ls : List (List (List ℕ))). IsFirstAnswersFault at (length ls) (answers_fault_of line w)) same first in
+      let there = rw same at first in
       sym (error_again line w) ∙ ap error_of (one_fault at (length others) (answers_fault_of line w) (answers_fault_of other v) there again)
       ∙ error_again other v
 
   not_both : (line : ℕ) (w : Why) → HasTooManyLevels lt → IsTextError lt at (Answers line w) → ⊥
-  not_both line w (levels, are, above) (others, they, few, _) =
-      let same = one_list levels others (lines_in (without_mark lt)) are they in
-      let fits = subst (λ (ls : List (List (List ℕ))). length ls ≤ most_levels) (sym same) few in
-      omega (arith, fits, above)
+  not_both line w (levels, are, above) (others, they, few, _) = grind arith
 
   one_kind : (a b : AuditError) → FirstKind lt at a → FirstKind lt at b → a ≡ b
   one_kind a b (long_levels h) (long_levels k) = refl
-  one_kind a b (long_levels h) (long_answers fits k) = absurd (omega (arith, h, fits))
-  one_kind a b (long_levels h) (many short k) = let fits = short.levels in absurd (omega (arith, h, fits))
-  one_kind a b (long_levels h) (faulty short k) = let fits = short.levels in absurd (omega (arith, h, fits))
-  one_kind a b (long_answers fits h) (long_levels k) = absurd (omega (arith, k, fits))
+  one_kind a b (long_levels h) (long_answers fits k) = grind arith
+  one_kind a b (long_levels h) (many short k) = grind arith
+  one_kind a b (long_levels h) (faulty short k) = grind arith
+  one_kind a b (long_answers fits h) (long_levels k) = grind arith
   one_kind a b (long_answers fits h) (long_answers _ k) = refl
-  one_kind a b (long_answers fits h) (many short k) = let short_too = short.answers in absurd (omega (arith, h, short_too))
-  one_kind a b (long_answers fits h) (faulty short k) = let short_too = short.answers in absurd (omega (arith, h, short_too))
-  one_kind a b (many short h) (long_levels k) = let fits = short.levels in absurd (omega (arith, k, fits))
-  one_kind a b (many short h) (long_answers _ k) = let fits = short.answers in absurd (omega (arith, k, fits))
+  one_kind a b (long_answers fits h) (many short k) = grind arith
+  one_kind a b (long_answers fits h) (faulty short k) = grind arith
+  one_kind a b (many short h) (long_levels k) = grind arith
+  one_kind a b (many short h) (long_answers _ k) = grind arith
   one_kind a b (many short h) (many _ k) = refl
   one_kind a b (many short h) (faulty {line = line} {w = w} _ k) = absurd (not_both line w h k)
-  one_kind a b (faulty short h) (long_levels k) = let fits = short.levels in absurd (omega (arith, k, fits))
-  one_kind a b (faulty short h) (long_answers _ k) = let fits = short.answers in absurd (omega (arith, k, fits))
+  one_kind a b (faulty short h) (long_levels k) = grind arith
+  one_kind a b (faulty short h) (long_answers _ k) = grind arith
   one_kind a b (faulty {line = line} {w = w} short h) (many _ k) = absurd (not_both line w k h)
   one_kind a b (faulty {line = line} {w = w} short h) (faulty {line = other} {w = v} _ k) = one_answers_error line other w v h k
 
   pub one_error : (a b : AuditError) → IsFirstError lt at a → IsFirstError lt at b → a ≡ b
-  one_error a b h k = one_kind a b (first_kind lt at a h) (first_kind lt at b k)
+  one_error a b h k = search (one_kind, first_kind)
 
 -- if a call returns a report or a first error, and the two texts have an error, then it returns that error
 module _ {A : Type 0} (lt at : List ℕ) (Is : A → Type 0)

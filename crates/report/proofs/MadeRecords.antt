@@ -31,7 +31,7 @@ pub found_some : {E : Type 0} (rows : List (List ℕ)) (level : Level) (r : Resu
     → IfOk r (λ o. IfSome o (IsFoundFor rows))
 found_some rows level (Err e) legal is accepted lawful = tt
 found_some rows level (Ok None) legal is accepted lawful = tt
-found_some rows level (Ok (Some found)) legal is accepted lawful = record { level = level; legal = legal; is = is; accepted = accepted; lawful = lawful }
+found_some rows level (Ok (Some found)) legal is accepted lawful = search
 
 -- if nothing is found for a board, nothing is made for its rows
 pub found_none : {E : Type 0} (rows : List (List ℕ)) (level : Level) (r : Result (Option Found) E) → IsBoardOf rows level
@@ -63,24 +63,18 @@ pub record_more : (levels : List (List (List ℕ))) (k : ℕ) (rows : List (List
     → AreMadeUpTo k levels so_far → AreMadeUpTo (k + 1) levels (so_far ++ r ∷ [])
 record_more levels k rows r so_far next number made before rest after =
     let P : ℕ → Type 0 = λ n. AreMade (k + 1) (rows ∷ drop (k + 1) levels) (record { level = n; body = r.body } ∷ rest) in
-    subst (AreMade 1 levels) (sym (append_assoc so_far (r ∷ []) rest))
-    (before (r ∷ rest) (subst (λ (ls : List (List (List ℕ))). AreMade (k + 1) ls (r ∷ rest)) (sym next) (subst P (sym number) (with_record made after))))
+    subst (AreMade 1 levels) (sym (append_assoc so_far (r ∷ []) rest)) (before (r ∷ rest) (rw next (rw number (with_record made after))))
 
 -- the records so far stay the same if nothing is made for the next level
 pub none_more : (levels : List (List (List ℕ))) (k : ℕ) (rows : List (List ℕ)) (so_far : List MadeRecord)
-    → drop k levels ≡ rows ∷ drop (k + 1) levels → IsRefused rows ⊎ HasNothingMade rows
-    → AreMadeUpTo k levels so_far → AreMadeUpTo (k + 1) levels so_far
+    → drop k levels ≡ rows ∷ drop (k + 1) levels → IsRefused rows ⊎ HasNothingMade rows → AreMadeUpTo k levels so_far → AreMadeUpTo (k + 1) levels so_far
 none_more levels k rows so_far next none before rest after =
-    before rest (subst (λ (ls : List (List (List ℕ))). AreMade (k + 1) ls rest) (sym next) (without none after))
+    before rest (rw next (without none after))
 
 -- if no level is left, the records so far are all records
 pub made_all : (levels : List (List (List ℕ))) (k : ℕ) (so_far : List MadeRecord) → drop k levels ≡ [] → AreMadeUpTo k levels so_far → AreMade 1 levels so_far
 made_all levels k so_far end before =
-    subst (AreMade 1 levels) (append-nil so_far) (before [] (subst (λ (ls : List (List (List ℕ))). AreMade (k + 1) ls []) (sym end) none_left))
-
--- ---- the drafts
-pub no_drafts : (drafts : List Draft) → drafts ≡ [] → AreDraftsOf [] drafts
-no_drafts drafts none = subst (AreDraftsOf []) (sym none) (record { texts = refl; zones = refl; count = refl })
+    subst (AreMade 1 levels) (append-nil so_far) (before [] (rw end none_left))
 
 pub drafts_more : (records : List MadeRecord) (one : MadeRecord) (drafts : List Draft) (draft : Draft) → AreDraftsOf records drafts → IsDraftOf one draft
     → AreDraftsOf (records ++ one ∷ []) (drafts ++ draft ∷ [])
@@ -88,10 +82,9 @@ drafts_more records one drafts draft h is = record {
   texts = flat_map-append draft_text drafts (draft ∷ [])
       ∙ (ap (λ t. t ++ (draft_text draft ++ [])) h.texts ∙ ap (λ t. flat_map record_text records ++ (t ++ [])) is.text)
       ∙ sym (flat_map-append record_text records (one ∷ []));
-  zones = list_any-append is_zone drafts (draft ∷ [])
-      ∙ (ap (λ b. b || (is_zone draft || false)) h.zones ∙ ap (λ b. some_zone records || (b || false)) is.zone)
+  zones = list_any-append is_zone drafts (draft ∷ []) ∙ (ap (λ b. b || (is_zone draft || false)) h.zones ∙ ap (λ b. some_zone records || (b || false)) is.zone)
       ∙ sym (list_any-append (λ r. holds_zone r.body) records (one ∷ []));
-  count = omega (arith, h.count, length-append records (one ∷ []), length-append drafts (draft ∷ []));
+  count = omega (arith, length-append records (one ∷ []), length-append drafts (draft ∷ []));
 }
 
 -- the text of the drafts of all records is the made answers of a levels text

@@ -17,7 +17,7 @@ length-row_text level dead row zero = refl
 length-row_text level dead row (suc n) =
     let all = length-append (row_text level dead row n) (character_of level dead (cell_at (suc n) row) ∷ []) in
     let before = length-row_text level dead row n in
-    omega (arith, all, before)
+    omega arith
 
 row_text-more : (level : Level) (dead : Cells) (row n : ℕ) → row_text level dead row (n + 1) ≡ row_text level dead row n
     ++ character_of level dead (cell_at (n + 1) row) ∷ []
@@ -36,15 +36,14 @@ row_more level dead row n old text new cell byte is at byte_is more =
     let next = character_of level dead (cell_at (n + 1) row) in
     let same : byte ≡ next = byte_is ∙ ap (character_of level dead) at in
     more ∙ ap₂ (λ (t : List ℕ) (b : ℕ). t ++ b ∷ []) is same ∙ append_assoc old (row_text level dead row n) (next ∷ [])
-    ∙ ap (λ (line : List ℕ). old ++ line) (sym (row_text-more level dead row n))
+    ∙ ap (λ line. old ++ line) (sym (row_text-more level dead row n))
 
 -- the text of a whole row and LF are the line of the row
-pub row_end : (level : Level) (dead : Cells) (row n : ℕ) (old text new : List ℕ)
-    → text ≡ old ++ row_text level dead row n → n ≡ level.shape.width
+pub row_end : (level : Level) (dead : Cells) (row n : ℕ) (old text new : List ℕ) → text ≡ old ++ row_text level dead row n → n ≡ level.shape.width
     → new ≡ text ++ 10 ∷ [] → new ≡ old ++ (row_text level dead row level.shape.width ++ 10 ∷ [])
 row_end level dead row n old text new is wide more =
-    let all : text ≡ old ++ row_text level dead row level.shape.width = is ∙ ap (λ (k : ℕ). old ++ row_text level dead row k) wide in
-    more ∙ ap (λ (t : List ℕ). t ++ 10 ∷ []) all ∙ append_assoc old (row_text level dead row level.shape.width) (10 ∷ [])
+    let all : text ≡ old ++ row_text level dead row level.shape.width = is ∙ ap (λ k. old ++ row_text level dead row k) wide in
+    more ∙ ap (λ t. t ++ 10 ∷ []) all ∙ append_assoc old (row_text level dead row level.shape.width) (10 ∷ [])
 
 -- ---- the rows
 
@@ -57,22 +56,14 @@ length-rows_text level dead (suc n) =
     let last = length-append row (10 ∷ []) in
     let wide = length-row_text level dead (suc n) level.shape.width in
     let before = length-rows_text level dead n in
-    omega (arith, all, last, wide, before)
+    omega arith
 
 -- the text grows by the line of the next row
 pub rows_more : (level : Level) (dead : Cells) (n : ℕ) (text new : List ℕ)
-    → text ≡ rows_text level dead n → new ≡ text ++ (row_text level dead (n + 1) level.shape.width ++ 10 ∷ [])
-    → new ≡ rows_text level dead (n + 1)
-rows_more level dead n text new is more =
-    let line = row_text level dead (n + 1) level.shape.width ++ 10 ∷ [] in
-    let next : rows_text level dead (n + 1) ≡ rows_text level dead n ++ line = rw add-one refl in
-    more ∙ ap (λ (t : List ℕ). t ++ line) is ∙ sym next
+    → text ≡ rows_text level dead n → new ≡ text ++ (row_text level dead (n + 1) level.shape.width ++ 10 ∷ []) → new ≡ rows_text level dead (n + 1)
+rows_more level dead n text new is more = grind arith
 
 -- the room for all lines has room for the next one
 pub room_for_row : (level : Level) (dead : Cells) (n room : ℕ) (text : List ℕ) → text ≡ rows_text level dead n → n < level.shape.height
     → (level.shape.width + 1) * level.shape.height ≤ room → length text + (level.shape.width + 1) ≤ room
-room_for_row level dead n room text is above fits =
-    let long = ap length is ∙ length-rows_text level dead n in
-    let next : n + 1 ≤ level.shape.height = omega (arith, above) in
-    let most = mul-le-mul_left (level.shape.width + 1) next in
-    omega (arith, long, most, fits)
+room_for_row level dead n room text is above fits = grind (arith, length-rows_text, mul-le-mul_left)

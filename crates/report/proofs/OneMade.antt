@@ -1,7 +1,7 @@
 -- No level both has a made record and lacks one, and a level has one map.
 -- A certificate is made only if a box is on a dead square, a frozen box is off the goals, or a zone refutes the level.
 -- Nothing is made only if none of these holds. The dead squares of a level are one set, and its map follows from them.
-use Rattle.std.proofs.Common.{◌≡◌, ◌⊎◌, ℕ, List, Some, inl, inr, sym, ◌∙◌, ap, subst}
+use Rattle.std.proofs.Common.{◌≡◌, ◌⊎◌, ℕ, List, Some, inl, inr, sym, ◌∙◌, ap}
 use Rattle.std.proofs.lemmas.Bool.{false≢true}
 use Rattle.board.specs.Game.{Level}
 use Rattle.board.specs.Legal.{IsBoardOf, IsRefusal}
@@ -34,12 +34,12 @@ module _ (one_board : (rows : List (List ℕ)) (level other : Level) → IsBoard
       → (rows : List (List ℕ)) (body : MadeBody) → IsMadeBody rows body → IsRefused rows ⊎ HasNothingMade rows → ⊥
   made_or_not not_refused rows body made (inl (why, refusal)) = not_refused rows made.level why made.legal refusal
   made_or_not not_refused rows body made (inr (level, is, nothing)) =
-      not_both made.level made.made made.is made.accepted (subst IsNothingMade (one_board rows level made.level is made.legal) nothing)
+      not_both made.level made.made made.is made.accepted (rw (one_board rows level made.level is made.legal) at nothing)
 
   pub one_map : ((levels others : List (List (List ℕ))) (lines : List (List ℕ)) → AreLevelsOf levels lines → AreLevelsOf others lines → levels ≡ others)
       → (lt : List ℕ) (n : ℕ) (text other : List ℕ) → IsMapOf lt n text → IsMapOf lt n other → text ≡ other
   one_map one_list lt n text other a b =
       let levels = one_list a.levels b.levels _ a.collection.levels_are b.collection.levels_are in
       let rows = some_same a.rows b.rows (sym a.level_is ∙ ap (λ ls. level_at ls n) levels ∙ b.level_is) in
-      let level = one_board b.rows a.level b.level (subst (λ (r : List (List ℕ)). IsBoardOf r a.level) rows a.legal) b.legal in
-      one_text b.level text other (subst (λ (l : Level). IsMap l text) level a.map) b.map
+      let level = one_board b.rows a.level b.level (rw rows at a.legal) b.legal in
+      one_text b.level text other (rw level at a.map) b.map

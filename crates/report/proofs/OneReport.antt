@@ -3,7 +3,7 @@
 -- solve it have one first fault. The same holds of lists and zones, by the laws of the checks. The levels of a text are one
 -- list, and so are the records of the answers. So each level has one status, and the text and its numbers follow. What a
 -- line of a report says of its level is that one status.
-use Rattle.std.proofs.Common.{◌≡◌, ◌+◌, ℕ, List, [], ◌∷◌, length, Option, Some, None, refl, sym, ◌∙◌, ap, ap₂, subst, inl, inr, arith}
+use Rattle.std.proofs.Common.{◌≡◌, ◌+◌, ℕ, List, [], ◌∷◌, length, Option, Some, None, refl, sym, ◌∙◌, ap, ap₂, inl, inr, arith}
 use Rattle.std.specs.List.{concat, slice_get}
 use Rattle.board.specs.Game.{Level}
 use Rattle.board.specs.Legal.{IsBoardOf, IsRefusal}
@@ -23,7 +23,7 @@ use Rattle.closure.specs.declared.fault.CheckFault.{CheckFault}
 use Rattle.closure.specs.declared.fault.ZoneFault.{ZoneFault}
 use Rattle.report.specs.Answer.{answer_to}
 use Rattle.report.specs.Means.{Means}
-use Rattle.report.specs.Report.{AllSay, HasLine, IsReport, OfEach}
+use Rattle.report.specs.Report.{HasLine, IsReport, OfEach}
 use Rattle.report.specs.Status.{Says}
 use Rattle.report.specs.Summary.{summary_of}
 use Rattle.report.specs.Words.{report_text}
@@ -32,8 +32,7 @@ use Rattle.report.specs.declared.fault.AuditError.{AuditError}
 use Rattle.report.specs.declared.fault.AuditError.TheVariants.{Read, Write, TooLong, TooManyLevels, Answers, Memory}
 use Rattle.report.specs.declared.fault.Which.TheVariants as which
 use Rattle.report.specs.declared.status.Status.{Status}
-use Rattle.report.specs.declared.status.Status.TheVariants.{Solved, Refused}
-use Rattle.report.specs.declared.status.Refusal.TheVariants.{Board, Solution, Patterns, Zone}
+use Rattle.report.specs.declared.status.Status.TheVariants.{Solved}
 use Rattle.report.specs.declared.summary.Summary.{Summary}
 use Rattle.report.proofs.Accepted.{no_text_error}
 use Rattle.report.proofs.Answered.{SaysOfRows, SaysOn, of_rows}
@@ -64,50 +63,39 @@ module _ (laws : AreLaws) where
       absurd (laws.no_fault level (concat lines) tally fault solves first)
   one_on_board level (Some (LetterLines lines)) a b (inr (fault, first, is)) (inl (tally, solves, also)) =
       absurd (laws.no_fault level (concat lines) tally fault solves first)
-  one_on_board level (Some (LetterLines lines)) a b (inr (fault, first, is)) (inr (other, again, also)) =
-      is ∙ ap (λ f. Refused (Solution f)) (laws.one_fault level (concat lines) fault other first again) ∙ sym also
+  one_on_board level (Some (LetterLines lines)) a b (inr (fault, first, is)) (inr (other, again, also)) = grind arith
   one_on_board level (Some (PatternLines patterns)) a b (inl (list, is)) (inl (again, also)) = is ∙ sym also
-  one_on_board level (Some (PatternLines patterns)) a b (inl (list, is)) (inr (fault, first, also)) =
-      absurd (laws.no_list_fault level patterns fault list first)
-  one_on_board level (Some (PatternLines patterns)) a b (inr (fault, first, is)) (inl (list, also)) =
-      absurd (laws.no_list_fault level patterns fault list first)
-  one_on_board level (Some (PatternLines patterns)) a b (inr (fault, first, is)) (inr (other, again, also)) =
-      is ∙ ap (λ f. Refused (Patterns f)) (laws.one_list_fault level patterns fault other first again) ∙ sym also
+  one_on_board level (Some (PatternLines patterns)) a b (inl (list, is)) (inr (fault, first, also)) = grind arith
+  one_on_board level (Some (PatternLines patterns)) a b (inr (fault, first, is)) (inl (list, also)) = grind arith
+  one_on_board level (Some (PatternLines patterns)) a b (inr (fault, first, is)) (inr (other, again, also)) = grind arith
   one_on_board level (Some (OneZone zone)) a b (inl (refutes, is)) (inl (again, also)) = is ∙ sym also
-  one_on_board level (Some (OneZone zone)) a b (inl (refutes, is)) (inr (fault, first, also)) = absurd (laws.no_zone_fault level zone fault refutes first)
-  one_on_board level (Some (OneZone zone)) a b (inr (fault, first, is)) (inl (refutes, also)) = absurd (laws.no_zone_fault level zone fault refutes first)
-  one_on_board level (Some (OneZone zone)) a b (inr (fault, first, is)) (inr (other, again, also)) =
-      is ∙ ap (λ f. Refused (Zone f)) (laws.one_zone_fault level zone fault other first again) ∙ sym also
+  one_on_board level (Some (OneZone zone)) a b (inl (refutes, is)) (inr (fault, first, also)) = grind arith
+  one_on_board level (Some (OneZone zone)) a b (inr (fault, first, is)) (inl (refutes, also)) = grind arith
+  one_on_board level (Some (OneZone zone)) a b (inr (fault, first, is)) (inr (other, again, also)) = grind arith
 
   one_of_rows : (rows : List (List ℕ)) (answer : Option Body) (a b : Status) → SaysOfRows rows answer a → SaysOfRows rows answer b → a ≡ b
-  one_of_rows rows answer a b (inl (why, refusal, is)) (inl (other, again, also)) =
-      is ∙ ap (λ w. Refused (Board w)) (laws.one_refusal rows why other refusal again) ∙ sym also
+  one_of_rows rows answer a b (inl (why, refusal, is)) (inl (other, again, also)) = grind arith
   one_of_rows rows answer a b (inl (why, refusal, is)) (inr (level, board, says)) = absurd (laws.not_refused rows level why board refusal)
   one_of_rows rows answer a b (inr (level, board, says)) (inl (why, refusal, is)) = absurd (laws.not_refused rows level why board refusal)
   one_of_rows rows answer a b (inr (level, board, says)) (inr (other, again, also)) =
-      one_on_board level answer a b says (subst (λ l. SaysOn l answer b) (laws.one_board rows other level again board) also)
+      one_on_board level answer a b says (rw (laws.one_board rows other level again board) at also)
 
   pub one_status : (rows : List (List ℕ)) (answer : Option Body) (a b : Status) → Says rows answer a → Says rows answer b → a ≡ b
-  one_status rows answer a b says also = one_of_rows rows answer a b (of_rows says) (of_rows also)
+  one_status rows answer a b says also = search (one_of_rows, of_rows)
 
 -- ---- a line of a report
 held_in : (Holds : List (List ℕ) → Option Body → Status → Type 0) (levels : List (List (List ℕ))) (entries : List Entry) (statuses : List Status) (before : ℕ)
     (rows : List (List ℕ)) (answer : Option Body) (status : Status) → OfEach Holds 1 levels entries statuses
     → slice_get levels before ≡ Some rows → answer_to (before + 1) entries ≡ answer → slice_get statuses before ≡ Some status → Holds rows answer status
-held_in Holds levels entries statuses before rows answer status each there answered line =
-    let (s, is, holds) = each_at Holds 1 before levels entries statuses rows each there in
-    let same : s ≡ status = cc in
-    subst (λ (x : Status). Holds rows answer x) same (subst (λ (a : Option Body). Holds rows a s) answered holds)
+held_in Holds levels entries statuses before rows answer status each there answered line = grind (arith, each_at)
 
 pub said_in : {lt at text : List ℕ} {summary : Summary} (report : IsReport lt at text summary) (before : ℕ) (rows : List (List ℕ)) (answer : Option Body)
-    (status : Status)
-    → HasLine report before rows answer status → Says rows answer status
+    (status : Status) → HasLine report before rows answer status → Says rows answer status
 said_in report before rows answer status (there, answered, line) =
     held_in Says report.are.levels report.are.entries report.statuses before rows answer status report.are.say there answered line
 
 pub meant_in : {lt at text : List ℕ} {summary : Summary} (report : IsReport lt at text summary) (before : ℕ) (rows : List (List ℕ)) (answer : Option Body)
-    (status : Status)
-    → HasLine report before rows answer status → Means rows answer status
+    (status : Status) → HasLine report before rows answer status → Means rows answer status
 meant_in report before rows answer status (there, answered, line) =
     held_in Means report.are.levels report.are.entries report.statuses before rows answer status report.are.mean there answered line
 
@@ -132,10 +120,10 @@ module _ (one : (rows : List (List ℕ)) (answer : Option Body) (a b : Status) �
       → r.statuses ≡ q.statuses
   same_statuses lt at text other summary others r q =
       let levels = one_list r.are.levels q.are.levels (lines_in (without_mark lt)) r.are.levels_are q.are.levels_are in
-      let spelled = subst (λ (ls : List (List (List ℕ))). SpellsEntries at (length ls) r.are.entries) levels r.are.answers_are in
+      let spelled = rw levels at r.are.answers_are in
       let entries = one_reading at (length q.are.levels) r.are.entries q.are.entries spelled q.are.answers_are in
-      let say = subst (λ (ls : List (List (List ℕ))). AllSay ls r.are.entries r.statuses) levels r.are.say in
-      one_by_one 1 q.are.levels q.are.entries r.statuses q.statuses (subst (λ (es : List Entry). AllSay q.are.levels es r.statuses) entries say) q.are.say
+      let say = rw levels at r.are.say in
+      one_by_one 1 q.are.levels q.are.entries r.statuses q.statuses (rw entries at say) q.are.say
 
   pub one_report : (lt at text other : List ℕ) (summary others : Summary) → IsReport lt at text summary → IsReport lt at other others
       → (text ≡ other) × (summary ≡ others)
@@ -151,8 +139,8 @@ module _ (one : (rows : List (List ℕ)) (answer : Option Body) (a b : Status) �
       (λ fault spelled first. no_fault at (length r.are.levels) r.are.entries fault spelled first) error
 
   pub no_error : (lt at text : List ℕ) (summary : Summary) (error : AuditError) → IsReport lt at text summary → IsFirstError lt at error → ⊥
-  no_error lt at text summary (TooLong which.Levels) r long = let fits = r.are.short.levels in omega (arith, fits, long)
-  no_error lt at text summary (TooLong which.Answers) r (_, long) = let fits = r.are.short.answers in omega (arith, fits, long)
+  no_error lt at text summary (TooLong which.Levels) r long = grind arith
+  no_error lt at text summary (TooLong which.Answers) r (_, long) = grind arith
   no_error lt at text summary (Read w) r error = error.1
   no_error lt at text summary Write r error = error.1
   no_error lt at text summary TooManyLevels r (_, error) = none_of_two lt at text summary TooManyLevels r error

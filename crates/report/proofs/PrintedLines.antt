@@ -2,7 +2,7 @@
 -- No word of a report has a line feed or a carriage return in it, so the lines of its bytes are the lines of its levels and
 -- the total. A line of level n has one text after `level n `, and its first word fixes the kind of the status. So the line
 -- of level n has the words of the n-th status, and what that status means is true.
-use Rattle.std.proofs.Common.{◌≡◌, ◌+◌, ◌/◌, ◌%◌, ℕ, zero, suc, Bool, true, false, cond, ◌==◌, ◌&&◌, List, [], ◌∷◌, ◌++◌, Option, Some, refl, sym, ◌∙◌, ap, ap₂, subst, arith, append_assoc, codes}
+use Rattle.std.proofs.Common.{◌≡◌, ◌+◌, ◌/◌, ◌%◌, ℕ, zero, suc, Bool, true, false, cond, ◌==◌, ◌&&◌, List, [], ◌∷◌, ◌++◌, Option, Some, refl, sym, ◌∙◌, ap, ap₂, arith, append_assoc, codes}
 use Rattle.std.specs.Prelude.{decimal, map, slice_index}
 use Rattle.std.specs.List.{AllByRecursion, flat_map, list_all, slice_get}
 use Rattle.std.specs.Fmt.{digit_glyph, digits, digits_onto}
@@ -55,7 +55,7 @@ record IsPlain (text : Text) : Type 0 where
 -- two plain texts, one after the other, are plain
 infixl 10 ◌&◌
 ◌&◌ : {a b : Text} → IsPlain a → IsPlain b → IsPlain (a ++ b)
-◌&◌ {a = a} {b = b} p q = record { plain = plain-append a b p.plain q.plain }
+◌&◌ {a = a} {b = b} p q = search (plain-append)
 
 word : (text : Text) → ArePlain text → IsPlain text
 word text h = record { plain = h }
@@ -76,7 +76,7 @@ onto_plain (suc k) n acc p =
 
 number : (n : ℕ) → IsPlain (decimal n)
 unfolding digits
-number n = record { plain = onto_plain 64 n [] refl }
+number n = search (onto_plain)
 
 board_word : (why : BoardFault) → IsPlain (board_words why)
 board_word board_fault.Size = word (codes "size") refl
@@ -180,31 +180,25 @@ all_plain n [] s = (plain_total s, tt)
 all_plain n (status ∷ statuses) s = (plain_level n status, all_plain (n + 1) statuses s)
 
 text_of : (n : ℕ) (statuses : List Status) (s : Summary) → lines_from n statuses ++ total_line s ≡ flat_map ended (bare_lines n statuses (bare_total s))
-text_of n [] s = sym (append-nil (ended (bare_total s)))
+text_of n [] s = search (append-nil)
 text_of n (status ∷ statuses) s =
-    append_assoc (line_of n status) (lines_from (n + 1) statuses) (total_line s)
-    ∙ ap (λ l. ended (bare_line n status) ++ l) (text_of (n + 1) statuses s)
+    append_assoc (line_of n status) (lines_from (n + 1) statuses) (total_line s) ∙ ap (λ l. ended (bare_line n status) ++ l) (text_of (n + 1) statuses s)
 
 line_at : (n i : ℕ) (statuses : List Status) (last : Text) (status : Status) → slice_get statuses i ≡ Some status
     → slice_get (bare_lines n statuses last) i ≡ Some (bare_line (i + n) status)
 line_at n i [] last status there = absurd cc
-line_at n zero (s ∷ statuses) last status there =
-    let same : s ≡ status = cc in
-    let number : n ≡ 0 + n = omega arith in
-    ap Some (ap (bare_line n) same ∙ ap (λ m. bare_line m status) number)
+line_at n zero (s ∷ statuses) last status there = grind (arith, number)
 line_at n (suc i) (s ∷ statuses) last status there =
     let number : i + (n + 1) ≡ suc i + n = omega arith in
     line_at (n + 1) i statuses last status there ∙ ap (λ m. Some (bare_line m status)) number
 
 lines_are : (statuses : List Status) → lines_in (report_text statuses) ≡ bare_lines 1 statuses (bare_total (summary_of statuses))
-lines_are statuses = ap lines_in (text_of 1 statuses (summary_of statuses)) ∙ lines_again _ (all_plain 1 statuses (summary_of statuses))
+lines_are statuses = search (text_of, lines_again, all_plain)
 
 -- the n-th line is the line of level n
 pub line_is : (statuses : List Status) (before : ℕ) (status : Status) → slice_get statuses before ≡ Some status
     → HasWords (report_text statuses) before (words_of status)
-line_is statuses before status there =
-    let last = bare_total (summary_of statuses) in
-    ap (λ ls. slice_get ls before) (lines_are statuses) ∙ line_at 1 before statuses last status there
+line_is statuses before status there = search (lines_are, line_at)
 
 -- ---- its words
 some_same : {X : Type 0} (a b : X) → Some a ≡ Some b → a ≡ b
@@ -212,15 +206,13 @@ some_same a b e = cc
 
 -- a line has one text after its number
 one_text : (text : List ℕ) (before : ℕ) (a b : Text) → HasWords text before a → HasWords text before b → a ≡ b
-one_text text before a b p q =
-    let level = some_same (codes "level " ++ decimal (before + 1) ++ codes " " ++ a) (codes "level " ++ decimal (before + 1) ++ codes " " ++ b) (sym p ∙ q) in
-    append_cancel_left (codes "level " ++ decimal (before + 1) ++ codes " ") a b level
+one_text text before a b p q = grind (arith, some_same, append_cancel_left)
 
 -- if two reports are the same text, each line has the same words in both
 same_lines : (n : ℕ) (a b : List Status) (s t : Summary) → bare_lines n a (bare_total s) ≡ bare_lines n b (bare_total t) → map words_of a ≡ map words_of b
 same_lines n [] [] s t e = refl
-same_lines n [] (y ∷ ys) s t e = let first : bare_total s ≡ bare_line n y = cc in let byte = ap (λ l. slice_index l 0) first in absurd (omega (arith, byte))
-same_lines n (x ∷ xs) [] s t e = let first : bare_line n x ≡ bare_total t = cc in let byte = ap (λ l. slice_index l 0) first in absurd (omega (arith, byte))
+same_lines n [] (y ∷ ys) s t e = grind arith
+same_lines n (x ∷ xs) [] s t e = grind arith
 same_lines n (x ∷ xs) (y ∷ ys) s t e =
     let first : bare_line n x ≡ bare_line n y = cc in
     let rest : bare_lines (n + 1) xs (bare_total s) ≡ bare_lines (n + 1) ys (bare_total t) = cc in
@@ -244,52 +236,48 @@ kinds_are Missing = refl
 
 pub same_kind : (a b : Status) → words_of a ≡ words_of b → (is_solved a ≡ is_solved b) × (is_unsolvable a ≡ is_unsolvable b) × (is_refused a ≡ is_refused b)
     × (is_missing a ≡ is_missing b)
-same_kind a b e =
-    let same = kinds_are a ∙ ap (λ text. kinds (slice_index text 0)) e ∙ sym (kinds_are b) in
-    (ap (λ k. k.0) same, ap (λ k. k.1) same, ap (λ k. k.2) same, ap (λ k. k.3) same)
+same_kind a b e = grind (arith, kinds_are, kinds)
 
 -- two texts with different first bytes differ
 other_first : (a b : Text) → a ≡ b → slice_index a 0 ≡ slice_index b 0
-other_first a b e = ap (λ l. slice_index l 0) e
+other_first a b e = search
 
 module _ (rows : List (List ℕ)) (answer : Option Body) (words : Text) where
   of_unsolvable : (status : Status) → Means rows answer status → words_of status ≡ codes "unsolvable " ++ words → IsUnsolvable rows
-  of_unsolvable (Solved t) means e = let first = other_first _ _ e in absurd (omega (arith, first))
+  of_unsolvable (Solved t) means e = grind (arith, other_first)
   of_unsolvable (Unsolvable k) means e = means
   of_unsolvable (UnsolvableZone k) means e = means
-  of_unsolvable (Refused why) means e = let first = other_first _ _ e in absurd (omega (arith, first))
-  of_unsolvable Missing means e = let first = other_first _ _ e in absurd (omega (arith, first))
+  of_unsolvable (Refused why) means e = grind (arith, other_first)
+  of_unsolvable Missing means e = grind (arith, other_first)
 
   of_solved : (status : Status) → Means rows answer status → words_of status ≡ codes "solved " ++ words
       → (tally : Tally) × (codes "solved " ++ words ≡ solved_words tally) × IsSolvedBy rows answer tally
   of_solved (Solved t) means e = (t, sym e, means)
-  of_solved (Unsolvable k) means e = let first = other_first _ _ e in absurd (omega (arith, first))
-  of_solved (UnsolvableZone k) means e = let first = other_first _ _ e in absurd (omega (arith, first))
-  of_solved (Refused why) means e = let first = other_first _ _ e in absurd (omega (arith, first))
-  of_solved Missing means e = let first = other_first _ _ e in absurd (omega (arith, first))
+  of_solved (Unsolvable k) means e = grind (arith, other_first)
+  of_solved (UnsolvableZone k) means e = grind (arith, other_first)
+  of_solved (Refused why) means e = grind (arith, other_first)
+  of_solved Missing means e = grind (arith, other_first)
 
   of_refused : (status : Status) → Means rows answer status → words_of status ≡ codes "refused " ++ words → (fault : Refusal) × (words ≡ refusal_words fault)
       × IsFirstFaultOf rows answer fault
-  of_refused (Solved t) means e = let first = other_first _ _ e in absurd (omega (arith, first))
-  of_refused (Unsolvable k) means e = let first = other_first _ _ e in absurd (omega (arith, first))
-  of_refused (UnsolvableZone k) means e = let first = other_first _ _ e in absurd (omega (arith, first))
-  of_refused (Refused why) means e = (why, sym (append_cancel_left (codes "refused ") (refusal_words why) words e), means)
-  of_refused Missing means e = let first = other_first _ _ e in absurd (omega (arith, first))
+  of_refused (Solved t) means e = grind (arith, other_first)
+  of_refused (Unsolvable k) means e = grind (arith, other_first)
+  of_refused (UnsolvableZone k) means e = grind (arith, other_first)
+  of_refused (Refused why) means e = grind (arith, append_cancel_left)
+  of_refused Missing means e = grind (arith, other_first)
 
   of_missing : (status : Status) → Means rows answer status → words_of status ≡ codes "missing" → IsMissing rows answer
-  of_missing (Solved t) means e = let first = other_first _ _ e in absurd (omega (arith, first))
-  of_missing (Unsolvable k) means e = let first = other_first _ _ e in absurd (omega (arith, first))
-  of_missing (UnsolvableZone k) means e = let first = other_first _ _ e in absurd (omega (arith, first))
-  of_missing (Refused why) means e = let first = other_first _ _ e in absurd (omega (arith, first))
+  of_missing (Solved t) means e = grind (arith, other_first)
+  of_missing (Unsolvable k) means e = grind (arith, other_first)
+  of_missing (UnsolvableZone k) means e = grind (arith, other_first)
+  of_missing (Refused why) means e = grind (arith, other_first)
   of_missing Missing means e = means
 
 -- ---- the lines are true
 module _ (levels : List (List (List ℕ))) (entries : List Entry) (statuses : List Status) (mean : AllMean levels entries statuses) where
   here : (before : ℕ) (rows : List (List ℕ)) → slice_get levels before ≡ Some rows
       → (status : Status) × HasWords (report_text statuses) before (words_of status) × Means rows (answer_to (before + 1) entries) status
-  here before rows there =
-      let (status, line, means) = each_at Means 1 before levels entries statuses rows mean there in
-      (status, line_is statuses before status line, means)
+  here before rows there = grind (arith, each_at, line_is)
 
   true_here : AreTrue levels entries (report_text statuses)
   true_here = record {
@@ -309,4 +297,4 @@ module _ (levels : List (List (List ℕ))) (entries : List Entry) (statuses : Li
   }
 
   pub true_lines : (text : Text) → text ≡ report_text statuses → AreTrue levels entries text
-  true_lines text is = subst (AreTrue levels entries) (sym is) true_here
+  true_lines text is = grind (arith, true_here)

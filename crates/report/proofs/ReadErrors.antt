@@ -1,10 +1,9 @@
 -- The error of a text that can't be read whole comes at its place in the order of work, and is no error of a write. The count
 -- of the source rises exactly if the source failed.
-use Rattle.std.proofs.Common.{◌≡◌, ◌⊎◌, ℕ, ◌<◌, ◌≤◌, List, [], length, Some, IfSome, None, Ok, Err, inl, inr, refl, sym, ◌∙◌, subst, arith}
+use Rattle.std.proofs.Common.{◌≡◌, ◌⊎◌, ℕ, ◌<◌, ◌≤◌, List, length, Some, IfSome, None, Ok, Err, inl, inr, refl, arith}
 use Rattle.std.specs.Prelude.{IfErr, IsErrOf, Option, Result}
-use Rattle.std.proofs.lemmas.Option.{MatchOption-at_some}
 use Rattle.devices.specs.Device.{CountsFault}
-use Rattle.std.specs.Io.KnownBytes.{Consumes, Keeps}
+use Rattle.std.specs.Io.KnownBytes.{Keeps}
 use Rattle.report.specs.Audit.{CountsAudit, IsDue}
 use Rattle.report.specs.Collection.{Count, CountsError, HasTooManyLevels, IsDueFor, Stays, error_of_read}
 use Rattle.report.specs.MadeAnswers.{CountsMade}
@@ -73,16 +72,16 @@ abbrev FromLevels : List ℕ → AuditError → Type 0
 FromLevels lt e = (e ≡ Memory) ⊎ ((e ≡ TooManyLevels) × HasTooManyLevels lt)
 
 pub due_levels_in : (IsResult : List ℕ → Type 0) (lt : List ℕ) (e : AuditError) → length lt ≤ most_bytes → FromLevels lt e → IsDueFor IsResult lt e
-due_levels_in IsResult lt e short (inl is) = subst (IsDueFor IsResult lt) (sym is) tt
-due_levels_in IsResult lt e short (inr h) = subst (IsDueFor IsResult lt) (sym h.0) (short, h.1)
+due_levels_in IsResult lt e short (inl is) = grind arith
+due_levels_in IsResult lt e short (inr h) = grind arith
 
 pub counts_levels_in : (levels result : Count) (lt : List ℕ) (e : AuditError) → FromLevels lt e → Stays levels → Stays result → CountsError levels result e
-counts_levels_in levels result lt e (inl is) l r = subst (CountsError levels result) (sym is) (l, r)
-counts_levels_in levels result lt e (inr h) l r = subst (CountsError levels result) (sym h.0) (l, r)
+counts_levels_in levels result lt e (inl is) l r = grind arith
+counts_levels_in levels result lt e (inr h) l r = grind arith
 
 pub levels_in_no_write : (lt : List ℕ) (e : AuditError) → FromLevels lt e → e ≡ Write → ⊥
 levels_in_no_write lt e (inl none) is = absurd (cc)
-levels_in_no_write lt e (inr h) is = let many = h.0 in absurd (cc)
+levels_in_no_write lt e (inr h) is = grind arith
 
 -- if what P says of an error means what Q says, an error with P is one with Q
 pub err_weaker : {T E : Type 0} (r : Result T E) (P Q : E → Type 0) → ((e : E) → P e → Q e) → IfErr r P → IfErr r Q
@@ -92,12 +91,12 @@ err_weaker (Err e) P Q f h = f e h
 pub counts_written : {A : Type 0} (levels answers : Count) (r : Result A AuditError) → IfErr r (λ e. e ≡ Write) → Stays levels
     → CountsFault answers.before answers.after r → CountsMade levels answers r
 counts_written levels answers (Ok x) only l count = (l, count)
-counts_written levels answers (Err e) only l count = subst (CountsError levels answers) (sym only) (l, count)
+counts_written levels answers (Err e) only l count = grind arith
 
 -- what holds of a text that was read holds of the bytes that the source had, if they are known
 pub at_known : (P : List ℕ → Type 0) (o : Option (List ℕ)) (text bytes lent : List ℕ) → lent ≡ text → IfSome o (λ b. text ≡ b) → o ≡ Some bytes
     → P lent → P bytes
-at_known P o text bytes lent is value known h = subst P (is ∙ MatchOption-at_some _ (λ (b : List ℕ). text ≡ b) bytes known value) h
+at_known P o text bytes lent is value known h = grind arith
 
 -- a device that isn't used holds what it held
 pub keeps_same : (o : Option (List ℕ)) → Keeps o o
@@ -105,8 +104,4 @@ keeps_same None = tt
 keeps_same (Some bytes) = refl
 
 pub takes_none : (most : ℕ) (o : Option (List ℕ)) → TakesAtMost most o o
-takes_none most o = ([], omega arith, nothing o)
-  where
-    nothing : (u : Option (List ℕ)) → Consumes u u []
-    nothing None = tt
-    nothing (Some bytes) = refl
+takes_none most o = grind arith

@@ -2,7 +2,7 @@
 -- The numbers of the records rise. So the record of a level is the next one or there is none, and the records before it
 -- answer no later level. The loop keeps a function: put the statuses so far before any statuses of the levels that are
 -- left, and you have the statuses of all levels. With each level the function needs the statuses of one level fewer.
-use Rattle.std.proofs.Common.{◌≡◌, ◌≢◌, ℕ, zero, suc, ◌+◌, ◌<◌, ◌≤◌, nat_eq, Bool, true, cond, Option, List, [], ◌∷◌, ◌++◌, length, get_or, take, drop, Some, None, refl, sym, ◌∙◌, ap, subst, inl, inr, arith, append_assoc}
+use Rattle.std.proofs.Common.{◌≡◌, ◌≢◌, ℕ, zero, suc, ◌+◌, ◌<◌, ◌≤◌, nat_eq, Bool, true, cond, Option, List, [], ◌∷◌, ◌++◌, length, get_or, take, drop, Some, None, refl, sym, ◌∙◌, ap, subst, arith, append_assoc}
 use Rattle.std.specs.Prelude.{count_by, map}
 use Rattle.std.specs.List.{slice_get}
 use Rattle.std.proofs.Math.Seq.{drop-cons}
@@ -26,26 +26,23 @@ use Rattle.report.specs.declared.summary.Summary.{Summary}
 -- ---- the record of a level
 -- a list from position k on begins with its item at k
 pub drop_at : {X : Type 0} (xs : List X) (k : ℕ) (x : X) → k < length xs → x ≡ get_or xs k x → drop k xs ≡ x ∷ drop (k + 1) xs
-drop_at xs k x h e =
-    let one : suc k ≡ k + 1 = omega arith in
-    drop-cons xs k x h ∙ ap (λ y. y ∷ drop (suc k) xs) (sym e) ∙ ap (λ n. x ∷ drop n xs) one
+drop_at xs k x h e = grind (arith, drop-cons)
 
 -- the entries from position k on begin with the entry of record k
 pub next_record : (records : List RecordText) (k : ℕ) (r : RecordText) → k < length records → r ≡ get_or records k r
     → drop k (map entry_of records) ≡ entry_of r ∷ drop (k + 1) (map entry_of records)
-next_record records k r h e =
-    drop-map entry_of k records ∙ ap (map entry_of) (drop_at records k r h e) ∙ ap (λ es. entry_of r ∷ es) (sym (drop-map entry_of (k + 1) records))
+next_record records k r h e = grind (arith, drop-map, drop_at)
 
 same_number : (a b : ℕ) → a ≡ b → nat_eq a b ≡ true
-same_number a b e = elim (eqb_tells a b) [ inl h ↦ h.0 | inr h ↦ absurd (h.1 e) ]
+same_number a b e = grind (arith, eqb_tells)
 
 -- the first record answers its own level
 pub answered : (n : ℕ) (e : Entry) (es : List Entry) → e.level ≡ n → answer_to n (e ∷ es) ≡ Some e.body
-answered n e es is = ap (λ b. cond b (Some e.body) (answer_to n es)) (same_number e.level n is)
+answered n e es is = search (same_number)
 
 -- an entry of another level is passed over
 pub passed : (n : ℕ) (e : Entry) (es : List Entry) → e.level ≢ n → answer_to n (e ∷ es) ≡ answer_to n es
-passed n e es other = ap (λ b. cond b (Some e.body) (answer_to n es)) (ne_eqb e.level n other)
+passed n e es other = search (ne_eqb)
 
 -- records above a number answer no level up to that number
 pub unanswered : (n low high : ℕ) (es : List Entry) → RiseWithin low high es → n ≤ low → answer_to n es ≡ None
@@ -62,8 +59,7 @@ single : (k : ℕ) → 0 + k ≡ k
 single k = omega arith
 
 pub lines_more : (n : ℕ) (ss : List Status) (s : Status) → lines_from n (ss ++ s ∷ []) ≡ lines_from n ss ++ line_of (n + length ss) s
-lines_more n [] s =
-    let here : n ≡ n + 0 = omega arith in append-nil (line_of n s) ∙ ap (λ m. line_of m s) here
+lines_more n [] s = grind (arith, append-nil)
 lines_more n (x ∷ ss) s =
     let there : n + 1 + length ss ≡ n + suc (length ss) = omega arith in
     ap (λ l. line_of n x ++ l) (lines_more (n + 1) ss s ∙ ap (λ m. lines_from (n + 1) ss ++ line_of m s) there)
@@ -73,23 +69,20 @@ lines_more n (x ∷ ss) s =
 pub line_added : (statuses : List Status) (k : ℕ) (d : Status) (old new : Text) → k < length statuses → old ≡ lines_from 1 (take k statuses)
     → new ≡ old ++ line_of (k + 1) (get_or statuses k d) → new ≡ lines_from 1 (take (k + 1) statuses)
 line_added statuses k d old new below so_far added =
-    let here : k ≤ length statuses = omega (arith, below) in
-    let number : 1 + length (take k statuses) ≡ k + 1 = let so = length-take-le k statuses here in omega (arith, so) in
+    let here : k ≤ length statuses = omega arith in
+    let number : 1 + length (take k statuses) ≡ k + 1 = let so = length-take-le k statuses here in omega arith in
     let status = get_or statuses k d in
-    added ∙ ap (λ (t : Text). t ++ line_of (k + 1) status) so_far
+    added ∙ ap (λ t. t ++ line_of (k + 1) status) so_far
     ∙ sym (ap (lines_from 1) (take_more statuses k d below) ∙ lines_more 1 (take k statuses) status
     ∙ ap (λ n. lines_from 1 (take k statuses) ++ line_of n status) number)
 
 count_more : (p : Status → Bool) (ss : List Status) (s : Status) (k : ℕ) → cond (p s) 1 0 ≡ k → count_by p (ss ++ s ∷ []) ≡ count_by p ss + k
-count_more p ss s k one =
-    let both = sum_by-append (λ x. cond (p x) 1 0) ss (s ∷ []) in
-    let last : count_by p (s ∷ []) ≡ k = single (cond (p s) 1 0) ∙ one in
-    both ∙ ap (λ n. count_by p ss + n) last
+count_more p ss s k one = grind (arith, sum_by-append, single)
 
 summary_is : (a b c d e a' b' c' d' e' : ℕ) → a ≡ a' → b ≡ b' → c ≡ c' → d ≡ d' → e ≡ e' →
     (let s : Summary = record { levels = a; solved = b; unsolvable = c; refused = d; missing = e } in
     s) ≡ record { levels = a'; solved = b'; unsolvable = c'; refused = d'; missing = e' }
-summary_is a b c d e a' b' c' d' e' p q r t u = λ i. record { levels = p i; solved = q i; unsolvable = r i; refused = t i; missing = u i }
+summary_is a b c d e a' b' c' d' e' p q r t u = search
 
 -- a summary counts one more status of each kind
 counted : (ss : List Status) (s : Status) (a b c d : ℕ) → cond (is_solved s) 1 0 ≡ a → cond (is_unsolvable s) 1 0 ≡ b → cond (is_refused s) 1 0 ≡ c
@@ -101,44 +94,34 @@ counted : (ss : List Status) (s : Status) (a b c d : ℕ) → cond (is_solved s)
       refused = count_by is_refused ss + c;
       missing = count_by is_missing ss + d;
     }
-counted ss s a b c d p q r t =
-    summary_is _ _ _ _ _ _ _ _ _ _ (length-append ss (s ∷ [])) (count_more is_solved ss s a p) (count_more is_unsolvable ss s b q)
-    (count_more is_refused ss s c r) (count_more is_missing ss s d t)
+counted ss s a b c d p q r t = search (summary_is, length-append, count_more)
 
 pub summary_more : (ss : List Status) (s : Status) → summary_of (ss ++ s ∷ []) ≡ with_status (summary_of ss) s
-summary_more ss (Solved t) = counted ss (Solved t) 1 0 0 0 refl refl refl refl
-    ∙ summary_is _ _ _ _ _ _ _ _ _ _ refl refl (omega arith) (omega arith) (omega arith)
-summary_more ss (Unsolvable k) = counted ss (Unsolvable k) 0 1 0 0 refl refl refl refl
-    ∙ summary_is _ _ _ _ _ _ _ _ _ _ refl (omega arith) refl (omega arith) (omega arith)
-summary_more ss (UnsolvableZone k) = counted ss (UnsolvableZone k) 0 1 0 0 refl refl refl refl
-    ∙ summary_is _ _ _ _ _ _ _ _ _ _ refl (omega arith) refl (omega arith) (omega arith)
-summary_more ss (Refused why) = counted ss (Refused why) 0 0 1 0 refl refl refl refl
-    ∙ summary_is _ _ _ _ _ _ _ _ _ _ refl (omega arith) (omega arith) refl (omega arith)
-summary_more ss Missing = counted ss Missing 0 0 0 1 refl refl refl refl ∙ summary_is _ _ _ _ _ _ _ _ _ _ refl (omega arith) (omega arith) (omega arith) refl
+summary_more ss (Solved t) = grind (arith, counted, summary_is)
+summary_more ss (Unsolvable k) = grind (arith, counted, summary_is)
+summary_more ss (UnsolvableZone k) = grind (arith, counted, summary_is)
+summary_more ss (Refused why) = grind (arith, counted, summary_is)
+summary_more ss Missing = grind (arith, counted, summary_is)
 
 -- ---- the levels
 pub each_more : (Holds : List (List ℕ) → Option Body → Status → Type 0) (levels : List (List (List ℕ))) (entries : List Entry) (k : ℕ) (rows : List (List ℕ))
-    (status : Status) (so_far : List Status)
-    → drop k levels ≡ rows ∷ drop (k + 1) levels
-    → Holds rows (answer_to (k + 1) entries) status
+    (status : Status) (so_far : List Status) → drop k levels ≡ rows ∷ drop (k + 1) levels → Holds rows (answer_to (k + 1) entries) status
     → ((rest : List Status) → OfEach Holds (k + 1) (drop k levels) entries rest → OfEach Holds 1 levels entries (so_far ++ rest))
     → (rest : List Status) → OfEach Holds (k + 1 + 1) (drop (k + 1) levels) entries rest → OfEach Holds 1 levels entries ((so_far ++ status ∷ []) ++ rest)
 each_more Holds levels entries k rows status so_far next holds before rest after =
-    subst (OfEach Holds 1 levels entries) (sym (append_assoc so_far (status ∷ []) rest))
-    (before (status ∷ rest) (subst (λ (ls : List (List (List ℕ))). OfEach Holds (k + 1) ls entries (status ∷ rest)) (sym next) (holds, after)))
+    subst (OfEach Holds 1 levels entries) (sym (append_assoc so_far (status ∷ []) rest)) (before (status ∷ rest) (rw next (holds, after)))
 
 -- the status at position i holds of the rows at position i and of the answer to their level
 pub each_at : (Holds : List (List ℕ) → Option Body → Status → Type 0) (n i : ℕ) (levels : List (List (List ℕ))) (entries : List Entry) (statuses : List Status)
-    (rows : List (List ℕ))
-    → OfEach Holds n levels entries statuses → slice_get levels i ≡ Some rows
+    (rows : List (List ℕ)) → OfEach Holds n levels entries statuses → slice_get levels i ≡ Some rows
     → (status : Status) × (slice_get statuses i ≡ Some status) × Holds rows (answer_to (i + n) entries) status
 each_at Holds n i [] entries statuses rows each there = absurd cc
 each_at Holds n i (r ∷ levels) entries [] rows each there = absurd each
 each_at Holds n zero (r ∷ levels) entries (s ∷ statuses) rows (holds, _) there =
     let number : n ≡ 0 + n = omega arith in
     let same : r ≡ rows = cc in
-    (s, refl, subst (λ (m : ℕ). Holds rows (answer_to m entries) s) number (subst (λ (x : List (List ℕ)). Holds x (answer_to n entries) s) same holds))
+    (s, refl, rw number at (rw same at holds))
 each_at Holds n (suc i) (r ∷ levels) entries (s ∷ statuses) rows (_, rest) there =
     let number : i + (n + 1) ≡ suc i + n = omega arith in
     let (status, line, holds) = each_at Holds (n + 1) i levels entries statuses rows rest there in
-    (status, line, subst (λ (m : ℕ). Holds rows (answer_to m entries) status) number holds)
+    (status, line, rw number at holds)

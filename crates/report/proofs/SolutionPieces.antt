@@ -1,13 +1,13 @@
 -- A solution played in pieces of its text.
 -- LF and CR are blanks, so a text with other ends of lines has the same letters, and what a text comes to depends on its
 -- letters alone.
-use Rattle.std.proofs.Common.{◌≡◌, ℕ, ◌==◌, ◌||◌, Bool, true, false, not, cond, List, [], ◌∷◌, Some, refl, sym, ap, subst, ◌∙◌, ⊎_elim}
+use Rattle.std.proofs.Common.{◌≡◌, ℕ, ◌||◌, Bool, true, false, not, cond, List, [], ◌∷◌, Some, refl, sym, ap, subst, ◌∙◌, ⊎_elim}
 use Rattle.std.specs.Prelude.{filter, Result, Ok, Err, IfOk}
 use Rattle.std.specs.Borrow.{Bor}
 use Rattle.std.proofs.lemmas.Bool.{cases_Bool, cond-true, cond-false}
-use Rattle.board.specs.Game.{Level, start}
+use Rattle.board.specs.Game.{Level}
 use Rattle.board.specs.Legal.{IsBoardOf}
-use Rattle.play.specs.Spelling.{letters, is_blank, SpellsPlay}
+use Rattle.play.specs.Spelling.{letters}
 use Rattle.play.specs.Solution.{Solves}
 use Rattle.play.specs.FirstFault.{EndsUnsolved, FailsAt, IsFirstSolutionFault}
 use Rattle.play.specs.declared.tally.Tally.{Tally}
@@ -33,8 +33,7 @@ one_of_three false true z e = refl
 one_of_three false false z e = e
 
 letters_unbroken : (text : List ℕ) → letters text ≡ letters (unbroken text)
-letters_unbroken text =
-    filter_twice (λ b. not (is_blank b)) (λ b. not (b == 10 || b == 13)) (λ b e. one_of_three (b == 32) (b == 9) (b == 10 || b == 13) e) text
+letters_unbroken text = search (filter_twice, one_of_three)
 
 pub same_letters : (a b : List ℕ) → unbroken a ≡ unbroken b → letters a ≡ letters b
 same_letters a b e = letters_unbroken a ∙ ap letters e ∙ sym (letters_unbroken b)
@@ -45,7 +44,7 @@ pub solves_same : (level : Level) (a b : List ℕ) (tally : Tally) → letters a
 solves_same level a b tally e h = record {
   directions = h.directions;
   end = h.end;
-  spelled = subst (λ (text : List ℕ). SpellsPlay level (start level) text h.directions h.end) e h.spelled;
+  spelled = rw e at h.spelled;
   played = h.played;
   solved = h.solved;
   counts = h.counts;
@@ -53,8 +52,8 @@ solves_same level a b tally e h = record {
 
 pub fault_same : (level : Level) (a b : List ℕ) (fault : ReplayFault) → letters a ≡ letters b → IsFirstSolutionFault level a fault
     → IsFirstSolutionFault level b fault
-fault_same level a b (Move n why) e h = subst (λ (text : List ℕ). FailsAt level text n why) e h
-fault_same level a b (Unsolved n) e h = subst (λ (text : List ℕ). EndsUnsolved level text n) e h
+fault_same level a b (Move n why) e h = subst (λ text. FailsAt level text n why) e h
+fault_same level a b (Unsolved n) e h = subst (λ text. EndsUnsolved level text n) e h
 fault_same level a b Memory e h = h
 
 -- ---- the status by the pieces of some lines
@@ -63,5 +62,5 @@ pub says_pieces : {E : Type 0} (r : Result Status E) (level : Level) (lines : Li
     → LetterLines lines ≡ body → ArePiecesOf lines pieces
     → IfOk r (λ status. (rows lines : List (List ℕ)) → IsBoardOf rows level → ArePiecesOf lines pieces → Says rows (Some (LetterLines lines)) status)
     → IfOk r (λ status. (rows : List (List ℕ)) → IsBoardOf rows level → Says rows (Some body) status)
-says_pieces (Ok status) level lines pieces body e are h = λ rows is. subst (λ (b : Body). Says rows (Some b) status) e (h rows lines is are)
+says_pieces (Ok status) level lines pieces body e are h = λ rows is. subst (λ b. Says rows (Some b) status) e (h rows lines is are)
 says_pieces (Err e) level lines pieces body same are h = tt

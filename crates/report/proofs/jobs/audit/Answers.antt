@@ -2,7 +2,7 @@
 -- at its place in the order of work, because a text that was read before isn't too long. The texts that were read are the bytes of the
 -- sources, if these are known, so what `audit_texts` says of the texts holds of the bytes. The count of a device rises only in the way
 -- out that returns its error. Nothing is written before the last two.
-use Rattle.std.proofs.Common.{◌≡◌, ◌<◌, ◌≤◌, ℕ, List, length, subst, Some, IfSome, Err, ap, refl, sym, ◌∙◌}
+use Rattle.std.proofs.Common.{◌≡◌, ◌<◌, ℕ, List, length, subst, Some, IfSome, Err, ap, refl, sym, ◌∙◌}
 use Rattle.std.specs.Prelude.{Option}
 use Rattle.std.proofs.lemmas.Result.{err_from_is_err_and}
 use Rattle.report.specs.Audit.{IsDue}
@@ -14,7 +14,7 @@ use Rattle.report.proofs.jobs.audit.Goals as goal
 
 -- the bytes that were read are those that the source had, if they are known
 known_text : (o : Option (List ℕ)) (text bytes : List ℕ) → IfSome o (λ b. text ≡ b) → o ≡ Some bytes → text ≡ bytes
-known_text o text bytes h is = subst (λ (p : Option (List ℕ)). IfSome p (λ b. text ≡ b)) is h
+known_text o text bytes h is = subst (λ p. IfSome p (λ b. text ≡ b)) is h
 
 -- what holds of the two texts that were read holds of the bytes that the sources had, if they are known
 at_both : (P : List ℕ → List ℕ → Type 0) (o p : Option (List ℕ)) (text_l text_a lt at lent_l lent_a : List ℕ) → lent_l ≡ text_l → lent_a ≡ text_a
@@ -24,7 +24,7 @@ at_both P o p text_l text_a lt at lent_l lent_a is_l is_a value_l value_a known_
 
 -- what holds of the bytes of a source, if they are known, holds of the bytes that are known
 said : (P : List ℕ → Type 0) (o : Option (List ℕ)) (bytes : List ℕ) → o ≡ Some bytes → IfSome o P → P bytes
-said P o bytes is h = subst (λ (p : Option (List ℕ)). IfSome p P) is h
+said P o bytes is h = subst (λ p. IfSome p P) is h
 
 pub returns-in-Err : goal.returns-in-Err
 returns-in-Err g c =
@@ -44,8 +44,7 @@ returns-in-Err-read_whole g c =
     let fits = c.in-Ok.ensures.limit in
     record {
       ok = λ _ _ _ _. tt;
-      refused = λ lt at is_lt is_at. rw is (due_answers lt at _ (subst (λ (b : List ℕ). length b ≤ most_bytes) (known_text _ _ lt c.in-Ok.ensures.value is_lt)
-          fits)
+      refused = λ lt at is_lt is_at. rw is (due_answers lt at _ (rw (known_text _ _ lt c.in-Ok.ensures.value is_lt) at fits)
           (λ long. said (λ b. most_bytes < length b) _ at is_at (c.in-Err-read_whole.ensures.too_long (ap Err long))));
       beginning = λ _ _ _ _ failed. absurd (no_write _ _ (sym is ∙ same_error _ _ failed));
       untouched = λ _. keeps_same _;
@@ -65,8 +64,7 @@ returns-in_err-text-clause-refused g c = λ lt at is_lt is_at.
 pub returns-in-Ok-write_whole : goal.returns-in-Ok-write_whole
 returns-in-Ok-write_whole g c =
     let numbers = c.in_ok-text.summary in
-    let report = subst (λ (t : List ℕ). IsReport c.deref.result.now c.deref-2.result.now t numbers)
-    (sym c.deref-3.ensures.value) c.in_ok-text.ensures.ok in
+    let report = rw (← c.deref-3.ensures.value) at c.in_ok-text.ensures.ok in
     record {
       ok = λ lt at is_lt is_at. (
         _,
@@ -85,8 +83,7 @@ pub returns : goal.returns
 returns g c =
     let numbers = c.in_ok-text.summary in
     let text = c.deref-3.result.now in
-    let report = subst (λ (t : List ℕ). IsReport c.deref.result.now c.deref-2.result.now t numbers)
-    (sym c.deref-3.ensures.value) c.in_ok-text.ensures.ok in
+    let report = rw (← c.deref-3.ensures.value) at c.in_ok-text.ensures.ok in
     let is_report : (lt at : List ℕ) → g.L.Source.left c.args.levels.now ≡ Some lt → g.A.Source.left c.args.answers.now ≡ Some at → IsReport lt at text numbers
     = λ lt at is_lt is_at. at_both (λ l a. IsReport l a text numbers) _ _ _ _ lt at _ _ c.deref.ensures.value c.deref-2.ensures.value
     c.in-Ok.ensures.value c.in-Ok-read_whole.ensures.value is_lt is_at report in

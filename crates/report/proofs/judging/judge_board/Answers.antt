@@ -1,7 +1,6 @@
-use Rattle.std.proofs.Common.{[], sym, subst}
+use Rattle.std.proofs.Common.{[], sym}
 use Rattle.answers.specs.Body.{LetterLines}
 use Rattle.answers.specs.Certificates.{certificate_body}
-use Rattle.answers.specs.Pieces.{ArePiecesOf}
 use Rattle.answers.specs.Reading.{entry_of}
 use Rattle.answers.proofs.BodyLines.{says_one_body}
 use Rattle.report.specs.Status.{missing}
@@ -22,4 +21,4 @@ returns-in_ok-letters-in-None-clause-says g c =
     let (lines, says) = rw c.in-None.is at c.certificate.ensures.none in
     rw c.in-Some.is (says_pieces c.judge_solution.result c.args.board.now lines c.deref.result.now (entry_of record_text).body
     (says_one_body record_text (LetterLines lines) says)
-    (subst (ArePiecesOf lines) (sym c.deref.ensures.value) (c.in_ok-letters-in-None.ensures.letters lines says)) c.judge_solution.ensures.says)
+    (rw c.deref.ensures.value (c.in_ok-letters-in-None.ensures.letters lines says)) c.judge_solution.ensures.says)

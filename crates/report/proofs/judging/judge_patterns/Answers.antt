@@ -1,4 +1,4 @@
-use Rattle.std.proofs.Common.{ℕ, Some, sym, subst}
+use Rattle.std.proofs.Common.{Some, sym, subst}
 use Rattle.std.proofs.lemmas.Bool.{false≢true}
 use Rattle.answers.specs.Body.{PatternLines}
 use Rattle.report.specs.declared.status.Status.TheVariants.{Unsolvable}
@@ -8,7 +8,7 @@ use Rattle.report.proofs.judging.judge_patterns.Goals as goal
 pub returns-in-Ok-clause-says : goal.returns-in-Ok-clause-says
 returns-in-Ok-clause-says g c = λ lines are rows is.
     let ok = c.in-Ok.ensures.ok lines are in
-    subst (λ (n : ℕ). Says rows (Some (PatternLines lines)) (Unsolvable n)) (sym ok.1) (closed is ok.0)
+    subst (λ n. Says rows (Some (PatternLines lines)) (Unsolvable n)) (sym ok.1) (closed is ok.0)
 
 pub returns-in-Ok-clause-unsolvable : goal.returns-in-Ok-clause-unsolvable
 returns-in-Ok-clause-unsolvable g c = λ _. c.in-Ok.ensures.unsolvable c.requires.0 c.requires.1

@@ -1,11 +1,11 @@
 -- The invariant says that the drafts so far are the drafts of the records that are made for the levels so far. A turn adds the draft of the next
 -- level, if a record is made for it. After the loop all levels have come.
-use Rattle.std.proofs.Common.{◌+◌, [], ◌∷◌, ◌++◌, length, refl, sym, ap, subst, arith, ◌∙◌}
+use Rattle.std.proofs.Common.{◌+◌, [], ◌∷◌, ◌++◌, length, refl, ap, arith, ◌∙◌}
 use Rattle.std.specs.Prelude.{vec_capacity}
 use Rattle.std.proofs.lemmas.List.{drop_all, length-append}
 use Rattle.std.proofs.lemmas.Option.{MatchOption-at_some}
 use Rattle.answers.specs.declared.record.MadeRecord.{MadeRecord}
-use Rattle.report.specs.Making.{AreDraftsOf, IsDraftFor}
+use Rattle.report.specs.Making.{IsDraftFor}
 use Rattle.report.proofs.Reports.{drop_at}
 use Rattle.report.proofs.MadeRecords.{drafts_more, made_all, none_more, record_more}
 use Rattle.report.proofs.making.draft_levels.Goals as goal
@@ -29,7 +29,7 @@ loop-before-preserved c =
             records = (
               records ++ one ∷ [],
               record_more levels k rows one records next refl made up_to,
-              subst (AreDraftsOf (records ++ one ∷ [])) (sym pushed) (drafts_more records one c.loop-before.drafts.items draft drafts_are is),
+              rw pushed (drafts_more records one c.loop-before.drafts.items draft drafts_are is),
             );
             few = omega (arith, ap length pushed, length-append c.loop-before.drafts.items (draft ∷ []), so_far.few);
             room = ap vec_capacity w.drafts-is ∙ w.push_reserved.ensures.capacity ∙ so_far.room;
@@ -38,7 +38,7 @@ loop-before-preserved c =
           let none = rw w.in_default.is at c.in_ok-draft.ensures.none in
           let same = ap (λ v. v.items) w.drafts-is in
           record {
-            records = (records, none_more levels k rows records next none up_to, subst (AreDraftsOf records) (sym same) drafts_are);
+            records = (records, none_more levels k rows records next none up_to, rw same drafts_are);
             few = omega (arith, ap length same, so_far.few);
             room = ap vec_capacity w.drafts-is ∙ so_far.room;
           }

@@ -3,7 +3,7 @@
 -- is the bytes of the source, if these are known, so what `drafts_for` says of the text holds of the bytes. The count of a device rises
 -- only in the way out that returns its error. Nothing is written before the last one, so after any other error the sink holds what it
 -- held.
-use Rattle.std.proofs.Common.{◌≡◌, ◌<◌, ◌≤◌, ℕ, List, length, Some, Err, ap, refl, sym, subst, ◌∙◌}
+use Rattle.std.proofs.Common.{◌≡◌, ◌<◌, ℕ, List, length, Some, Err, ap, refl, sym, ◌∙◌}
 use Rattle.std.proofs.lemmas.Option.{MatchOption-at_some}
 use Rattle.std.proofs.lemmas.Result.{IfErr-at_err, IfOk-weaker}
 use Rattle.report.specs.Collection.{IsDueFor}
@@ -34,11 +34,11 @@ returns-in-Ok-drafts_for g c =
     let text = drafts_text drafts in
     let made : (lt : List ℕ) → g.L.Source.left c.args.levels.now ≡ Some lt → AreMadeAnswers lt text (length drafts)
     = λ lt is_lt. at_known (λ b. AreMadeAnswers b text (length drafts)) _ _ lt _ c.deref.ensures.value c.in-Ok.ensures.value is_lt
-    (subst (λ ds. AreMadeAnswers c.deref.result.now (drafts_text ds) (length ds)) (sym c.deref-in-Ok-drafts_for.ensures.value) c.in-Ok-drafts_for.ensures.ok) in
+    (rw c.deref-in-Ok-drafts_for.ensures.value c.in-Ok-drafts_for.ensures.ok) in
     let only_write = err_weaker r _ (λ e. e ≡ Write) (λ e h. h.0) c.write_made.ensures.err in
     record {
-      ok = λ lt is_lt. IfOk-weaker r _ _ (λ count h. (text, subst (AreMadeAnswers lt text) (sym h.0) (made lt is_lt), h.1)) c.write_made.ensures.ok;
-      refused = λ lt is_lt. err_weaker r _ _ (λ e is. subst (IsDueFor (IsMadeText lt) lt) (sym is) (text, (length drafts, made lt is_lt))) only_write;
+      ok = λ lt is_lt. IfOk-weaker r _ _ (λ count h. (text, rw h.0 (made lt is_lt), h.1)) c.write_made.ensures.ok;
+      refused = λ lt is_lt. err_weaker r _ _ (λ e is. rw is (text, (length drafts, made lt is_lt))) only_write;
       beginning = λ lt is_lt failed. (text, (length drafts, made lt is_lt), (IfErr-at_err _ failed c.write_made.ensures.err).1);
       untouched = err_weaker r _ _ (λ e is other. absurd (other is)) only_write;
       cause = counts_written _ _ r only_write c.in-Ok.ensures.cause c.write_made.ensures.cause;
@@ -49,7 +49,7 @@ pub returns : goal.returns
 returns g c =
     let error = c.in-Err-drafts_for.error in
     let text = c.deref.result.now in
-    let short = subst (λ (b : List ℕ). length b ≤ most_bytes) (sym c.deref.ensures.value) c.in-Ok.ensures.limit in
+    let short = rw (← c.deref.ensures.value) at c.in-Ok.ensures.limit in
     record {
       ok = λ _ _. tt;
       refused = λ lt is_lt. at_known (λ b. IsDueFor (IsMadeText b) b error) _ _ lt _ c.deref.ensures.value c.in-Ok.ensures.value is_lt

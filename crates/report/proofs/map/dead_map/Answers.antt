@@ -1,7 +1,7 @@
 -- There are four ways out: the read fails, there is no map, the write fails, or the map is written. An error comes at its place in the
 -- order of work, because a text that was read before isn't too long. The text that was read is the bytes of the source, if these are
 -- known, so what `map_text` says of the text holds of the bytes. The count of a device rises only in the way out that returns its error.
-use Rattle.std.proofs.Common.{◌≡◌, ◌<◌, ℕ, List, length, Some, Err, ap, refl, sym, subst, ◌∙◌}
+use Rattle.std.proofs.Common.{◌≡◌, ◌<◌, ℕ, List, length, Some, Err, ap, refl, sym, ◌∙◌}
 use Rattle.std.proofs.lemmas.Option.{MatchOption-at_some}
 use Rattle.report.specs.DeadMap.{IsMapOf}
 use Rattle.devices.specs.Reading.{most_bytes}
@@ -23,7 +23,7 @@ returns-in-Err g c =
 
 pub returns-in-Ok-write_whole : goal.returns-in-Ok-write_whole
 returns-in-Ok-write_whole g c =
-    let map_is = subst (IsMapOf c.deref.result.now c.args.n) (sym c.deref-2.ensures.value) c.in_ok-text.ensures.ok in
+    let map_is = rw (← c.deref-2.ensures.value) at c.in_ok-text.ensures.ok in
     record {
       ok = λ lt is_lt. (
         _,
@@ -39,7 +39,7 @@ returns-in-Ok-write_whole g c =
 
 pub returns : goal.returns
 returns g c =
-    let map_is = subst (IsMapOf c.deref.result.now c.args.n) (sym c.deref-2.ensures.value) c.in_ok-text.ensures.ok in
+    let map_is = rw (← c.deref-2.ensures.value) at c.in_ok-text.ensures.ok in
     let is_map : (lt : List ℕ) → g.L.Source.left c.args.levels.now ≡ Some lt → IsMapOf lt c.args.n c.deref-2.result.now
     = λ lt is_lt. at_known (λ b. IsMapOf b c.args.n c.deref-2.result.now) _ _ lt _ c.deref.ensures.value c.in-Ok.ensures.value is_lt map_is in
     record {

@@ -1,4 +1,4 @@
-use Rattle.std.proofs.Common.{List, ℕ, sym, ◌∙◌, ap}
+use Rattle.std.proofs.Common.{sym, ◌∙◌, ap}
 use Rattle.report.specs.DeadMap.{level_at}
 use Rattle.report.proofs.map.map_text.Goals as goal
 
@@ -7,7 +7,7 @@ returns-in-Ok-text-clause-ok g c = record {
   levels = c.in-Ok.levels.items;
   collection = record { short = c.requires; levels_are = c.in-Ok.ensures.ok; few = c.in-Ok.ensures.few };
   rows = c.in-Some.level.now;
-  level_is = ap (λ (levels : List (List (List ℕ))). level_at levels c.args.n) (sym c.deref.ensures.value) ∙ sym c.in-Some.ensures;
+  level_is = ap (λ levels. level_at levels c.args.n) (sym c.deref.ensures.value) ∙ sym c.in-Some.ensures;
   level = c.in-Ok-read_board.board;
   legal = c.in-Ok-read_board.ensures.ok;
   map = c.in-Ok-text.ensures;

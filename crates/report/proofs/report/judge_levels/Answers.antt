@@ -2,19 +2,15 @@
 -- levels, and mean something true. The records from `next` on have the answers of the levels that are left. `answer_to` returns the answer
 -- to the next level, and `judge` returns its status, which means something true. So one more status keeps the invariant, and at the end
 -- no level is left. The summary counts each status as it is added.
-use Rattle.std.proofs.Common.{◌≡◌, ℕ, ◌+◌, ◌<◌, List, [], ◌∷◌, ◌++◌, length, Option, sym, ◌∙◌, ap, subst, arith}
+use Rattle.std.proofs.Common.{◌≡◌, ◌+◌, ◌<◌, [], ◌∷◌, ◌++◌, length, sym, ◌∙◌, ap, arith}
 use Rattle.std.specs.Prelude.{map}
 use Rattle.std.proofs.lemmas.List.{drop_all, append-nil}
 use Rattle.std.proofs.Math.ListN.{length-append}
-use Rattle.answers.specs.Body.{Body}
 use Rattle.answers.specs.Reading.{entry_of}
 use Rattle.report.specs.Answer.{answer_to}
 use Rattle.report.specs.Means.{Means}
-use Rattle.report.specs.Report.{AllMean, AllSay, OfEach}
 use Rattle.report.specs.Status.{Says}
 use Rattle.report.specs.Summary.{summary_of, with_status}
-use Rattle.report.specs.declared.status.Status.{Status}
-use Rattle.report.specs.declared.summary.Summary.{Summary}
 use Rattle.report.proofs.Answered.{means, says_said}
 use Rattle.report.proofs.Reports.{drop_at, summary_more, each_more}
 use Rattle.report.proofs.report.judge_levels.Goals as goal
@@ -31,25 +27,23 @@ loop-before-preserved c =
     let below : k < k + 1 = omega arith in
     let answer = c.answer_to-answer.ensures.answer ∙ inv.later (k + 1) below in
     let said = says_said rows c.answer_to-answer.result status c.in_ok-status.ensures.says in
-    let says : Says rows (answer_to (k + 1) entries) status = subst (λ (a : Option Body). Says rows a status) answer said in
+    let says : Says rows (answer_to (k + 1) entries) status = rw answer at said in
     let mean = means rows (answer_to (k + 1) entries) status c.in_ok-status.ensures.unsolvable says in
     let next = drop_at levels k rows c.loop-before-test.true c.index-levels-before.is in
     let more = sym c.in_ok-push.ensures.items in
-    let numbers = c.add.ensures.value ∙ ap (λ (s : Summary). with_status s status) inv.numbers ∙ sym (summary_more so_far status) in
-    let long : length so_far ≡ k = sym (ap (λ (s : Summary). s.levels) inv.numbers) ∙ inv.count in
+    let numbers = c.add.ensures.value ∙ ap (λ s. with_status s status) inv.numbers ∙ sym (summary_more so_far status) in
+    let long : length so_far ≡ k = sym (ap (λ s. s.levels) inv.numbers) ∙ inv.count in
     let longer : length (so_far ++ status ∷ []) ≡ k + 1 = length-append so_far (status ∷ []) ∙ ap (λ n. n + 1) long in
     record {
       adds_up = c.add.ensures.adds_up;
-      count = ap (λ (s : Summary). s.levels) numbers ∙ longer;
+      count = ap (λ s. s.levels) numbers ∙ longer;
       rise = c.answer_to-answer.ensures.rise;
       later = λ n above.
-          let before : k < n = omega (arith, above) in
+          let before : k < n = omega arith in
           c.answer_to-answer.ensures.rest n above ∙ inv.later n before;
       numbers = numbers ∙ ap summary_of more;
-      say = λ rest after. subst (λ (ss : List Status). AllSay levels entries (ss ++ rest)) more
-          (each_more Says levels entries k rows status so_far next says inv.say rest after);
-      mean = λ rest after. subst (λ (ss : List Status). AllMean levels entries (ss ++ rest)) more
-          (each_more Means levels entries k rows status so_far next mean inv.mean rest after);
+      say = λ rest after. rw more at (each_more Says levels entries k rows status so_far next says inv.say rest after);
+      mean = λ rest after. rw more at (each_more Means levels entries k rows status so_far next mean inv.mean rest after);
     }
 
 pub returns : goal.returns
@@ -59,7 +53,7 @@ returns c =
     let levels = c.args.levels.now in
     let k = c.loop-before.before in
     let none = drop_all k levels c.loop-before-test.false in
-    let say = inv.say [] (subst (λ (ls : List (List (List ℕ))). OfEach Says (k + 1) ls entries []) (sym none) tt) in
-    let mean = inv.mean [] (subst (λ (ls : List (List (List ℕ))). OfEach Means (k + 1) ls entries []) (sym none) tt) in
+    let say = inv.say [] (rw none tt) in
+    let mean = inv.mean [] (rw none tt) in
     let same = append-nil c.loop-before.statuses.items in
-    (subst (AllSay levels entries) same say, subst (AllMean levels entries) same mean, inv.numbers)
+    (rw same at say, rw same at mean, inv.numbers)
