@@ -6,6 +6,7 @@ ghost use Rattle.reach.specs.RowsOf.{InRows};
 ghost use Rattle.reach.specs.Reached.{IsBetween, IsMoved};
 
 use crate::fills::{fill, join};
+use cellset::first_bits;
 
 // Returns whether a row has this column.
 pub(crate) fn has_bit<const N: usize>(row: &[u64; N], column: usize) -> bool
@@ -157,12 +158,14 @@ pub(crate) fn insert<const N: usize>(row: &mut [u64; N], k: usize)
 // Returns the columns from 1 to the width.
 pub(crate) fn columns<const N: usize>(width: usize) -> [u64; N]
     requires wide { width < 64 * N }
-    requires few { width < 256 }
+    requires few { N ≤ 4 }
     ensures { (k : ℕ) → HasBit result k ↔ ((1 ≤ k) × (k ≤ width)) }
 {
     let mut row = [0; N];
-    for column in 1..width + 1 {
-        row[column / 64] |= 1 << (column % 64);
+    for part in 0..N {
+        row[part] = first_bits(!0, (width + 1).saturating_sub(64 * part));
     }
+    // There is no column 0.
+    remove(&mut row, 0, 1);
     row
 }

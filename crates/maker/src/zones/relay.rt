@@ -72,6 +72,11 @@ impl<'r> Relay<'r> {
             (λ goal. IsFreeGoal board.now matching.now goal × InReach board.now cell goal) }
     {
         self.renew(board, matching, cell);
+        if self.free.is_none() {
+            // The relay has moved to the cell, so the targets are the cell's reach. Another flood would take `make` up to 2 % more.
+            self.reach.copy_from(&self.targets);
+            return None;
+        }
         if let Some(goal) = self.goal_for(cell) {
             return Some(goal);
         }
@@ -86,6 +91,7 @@ impl<'r> Relay<'r> {
         requires floor { IsFloor board.now cell }
         ensures relay { IsRelay board.now self.new }
         ensures free { HasFreeGoal board.now matching.now self.new }
+        ensures reach { self.new.free ≡ None → IsReachOf board.now cell self.new.targets.members }
     {
         self.free = next_free(board, matching, &self.targets, self.free);
         if self.free.is_none() {
@@ -100,6 +106,7 @@ impl<'r> Relay<'r> {
         requires floor { IsFloor board.now cell }
         ensures relay { IsRelay board.now self.new }
         ensures free { HasFreeGoal board.now matching.now self.new }
+        ensures reach { IsReachOf board.now cell self.new.targets.members }
     {
         flood::<ByPush>(&mut self.targets, self.room, cell);
         self.free = next_free(board, matching, &self.targets, board.shape().cell(1, 1));

@@ -1,10 +1,6 @@
-use Rattle.std.proofs.Common.{◌≡◌, ℕ, ◌<◌, ◌≤◌, length}
-use Rattle.std.specs.Prelude.{◌↔◌}
-use Rattle.reach.specs.Bits.{HasBit}
+use Rattle.std.proofs.Common.{◌≤◌}
+use Rattle.reach.proofs.Loads.{IsLoaded}
 use Rattle.reach.proofs.columns.columns.Given as goal
 
-abbrev pub invariant-loop-column : goal.invariant-loop-column
-invariant-loop-column g l = record {
-  long : length l.row ≡ g.row.N;
-  bits : (k : ℕ) → HasBit l.row k ↔ ((1 ≤ k) × (k < l.column));
-}
+abbrev pub invariant-loop-part : goal.invariant-loop-part
+invariant-loop-part g l = IsLoaded (λ k. k ≤ l.width) g.row.N l.part l.row

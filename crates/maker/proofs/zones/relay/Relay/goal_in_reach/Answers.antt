@@ -1,3 +1,4 @@
+use Rattle.std.proofs.Common.{arith}
 use Rattle.maker.proofs.Relays.{reached_goal}
 use Rattle.maker.proofs.zones.relay.Relay.goal_in_reach.Goals as goal
 
@@ -5,3 +6,6 @@ pub returns-clause-exact : goal.returns-clause-exact
 returns-clause-exact g c =
     let (seeds, only, exact) = c.flood.ensures.exact in
     reached_goal _ _ _ _ _ c.shape.ensures.formed (record { seeds = seeds; only = only; exact = rw c.renew.ensures.relay.room.1 at exact }) c.next_free.ensures
+
+pub returns-then-is_none-clause-exact : goal.returns-then-is_none-clause-exact
+returns-then-is_none-clause-exact g c = rw c.copy_from.ensures.members (c.renew.ensures.reach (grind arith))

@@ -29,6 +29,7 @@ returns-then-is_some g c =
         free_on = free_on_grid _ _ _ _ c.next_free-self.ensures;
       };
       free = free_linked _ _ _ _ _ linked c.next_free-self.ensures;
+      reach = record { seeds = targets; only = from_targets; exact = rw relay.room.1 at targets_exact };
     }
 
 pub returns-else-is_some-clause-relay : goal.returns-else-is_some-clause-relay
@@ -42,3 +43,8 @@ returns-else-is_some-clause-relay g c =
       linked = λ b q h _. absurd (has_empty b (rw c.clear.ensures.members at h));
       free_on = free_on_grid _ _ _ _ c.next_free-self.ensures;
     }
+
+pub returns-else-is_some-clause-reach : goal.returns-else-is_some-clause-reach
+returns-else-is_some-clause-reach g c =
+    let (seeds, only, exact) = c.flood.ensures.exact in
+    record { seeds = seeds; only = only; exact = rw c.requires.relay.room.1 at exact }
