@@ -81,7 +81,7 @@ def decoys(side: int, boxes: int, big: int, lines: int) -> Worst:
                        for it in itertools.islice(kind, lines))]) for kind in (few, other)]
     level = walled(side, side, things)
     return Worst("lines that match every state and cover none", AUDIT, (level, texts[0]),
-                 (level, texts[1]), 20)
+                 (level, texts[1]), 8)
 
 
 def squares(side: int, levels: int) -> Worst:

@@ -20,7 +20,7 @@ use Rattle.closure.proofs.Moves.{AreOnFloor, moved_on_floor}
 abbrev IsWithin : Cells → Cells → Type 0
 IsWithin few many = (c : Cell) → Has few c → Has many c
 
-lacks_within : (few many : Cells) (c : Cell) → IsWithin few many → Lacks many c → Lacks few c
+pub lacks_within : (few many : Cells) (c : Cell) → IsWithin few many → Lacks many c → Lacks few c
 lacks_within few many c within lacks = has_or_lacks few c (λ has. not_both many c (within c has) lacks) (λ l. l)
 
 -- If one push changes two sets, the first stays within the second.
@@ -34,7 +34,7 @@ moved_within few many from to within c h =
     ]
 
 -- If a push changes the larger of two sets by a box that the smaller one lacks, the smaller one stays within it.
-moved_beside : (few many : Cells) (from to : Cell) → Lacks few from → IsWithin few many → IsWithin few (moved many from to)
+pub moved_beside : (few many : Cells) (from to : Cell) → Lacks few from → IsWithin few many → IsWithin few (moved many from to)
 moved_beside few many from to lacks within c has =
     kept_by_insert (set.remove many from) to c (kept_by_remove many from c (λ e. not_both few from (rw e at has) lacks) (within c has))
 

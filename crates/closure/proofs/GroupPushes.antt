@@ -7,16 +7,15 @@ use Rattle.std.specs.Prelude.{IsTrue, slice_index}
 use Rattle.std.specs.List.{Contains}
 use Rattle.std.proofs.lemmas.Bool.{cases_lt}
 use Rattle.std.proofs.lemmas.List.{get_or-set_other, get_or-set_same, length-set}
-use Rattle.cellset.specs.Shape.{Extent}
 use Rattle.cellset.specs.Cell.{neighbor, opposite}
 use Rattle.cellset.specs.CellSet.{Cells, Has, Lacks}
 use Rattle.cellset.specs.declared.cell.Cell.{Cell}
 use Rattle.cellset.specs.declared.dir.Dir.{Dir}
 use Rattle.cellset.specs.declared.dir.Dir.TheVariants.{L, U, R, D}
-use Rattle.cellset.proofs.Neighbors.{neighbor_back}
+use Rattle.cellset.proofs.Neighbors.{neighbor_back, neighbor_forth}
 use Rattle.reach.specs.Region.{IsFree}
 use Rattle.reach.specs.declared.pushes.Push.{Push}
-use Rattle.board.specs.Game.{Level, moved}
+use Rattle.board.specs.Game.{Level, IsFloor, moved}
 use Rattle.closure.specs.Pattern.{Pattern, InPatternRegion, IsCovered, PushesOut, after_push}
 use Rattle.closure.specs.Closed.{CoversPushesOf}
 use Rattle.closure.specs.Arena.{pattern_at}
@@ -34,9 +33,9 @@ use Rattle.closure.proofs.Regions.{region_on}
 use Rattle.closure.proofs.Traps.{onto_trap, trapped_push}
 
 -- A push of the box on a cell to a free cell of the grid is a push of one of the boxes.
-pub push_in_box : (shape : Extent) (boxes : Cells) (cell : Cell) (dir : Dir) (push : Push) → Has boxes cell → Lacks boxes push.to →
-    IsPushAt shape cell dir push → IsPushOf shape boxes push
-push_in_box shape boxes cell dir push has free at = search
+pub push_in_box : (level : Level) (boxes : Cells) (cell : Cell) (dir : Dir) (push : Push) → Has boxes cell → IsFloor level cell → Has level.room push.player →
+    Lacks boxes push.to → IsPushAt level.shape cell dir push → IsPushOf level boxes push
+push_in_box level boxes cell dir push has floor room free at = grind (arith, neighbor_forth)
 
 module _ (level : Level) (pattern : Pattern) (cell : Cell) (dir : Dir) where
   player_behind : (push : Push) → PushesOut level pattern push → push.from ≡ cell → push.dir ≡ dir → push.player ≡ neighbor cell (opposite dir)

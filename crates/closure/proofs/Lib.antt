@@ -12,6 +12,7 @@ pub mod Spans
 pub mod Hits
 pub mod Lists
 pub mod Lookups
+pub mod Loose
 pub mod Moves
 pub mod OneFault
 pub mod PatternLists

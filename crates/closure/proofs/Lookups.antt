@@ -1,5 +1,5 @@
 -- Lookups of a state among groups. A group of a lawful list has a box, so it may be in a bucket, and a key is an index of the table.
-use Rattle.std.proofs.Common.{◌≡◌, ℕ, ◌+◌, ◌*◌, ◌<◌, List, [], ◌∷◌, ◌++◌, length, ◌∙◌, ap, inl, inr, arith}
+use Rattle.std.proofs.Common.{◌≡◌, ℕ, ◌+◌, ◌-◌, ◌*◌, ◌<◌, ◌≤◌, List, [], ◌∷◌, ◌++◌, length, get_or, ◌∙◌, ap, inl, inr, arith}
 use Rattle.std.specs.Prelude.{slice_index}
 use Rattle.std.proofs.lemmas.Bool.{cases_lt}
 use Rattle.cellset.specs.Shape.{HasSides}
@@ -10,18 +10,27 @@ use Rattle.board.specs.Board.{IsWellFormed}
 use Rattle.closure.specs.Pattern.{IsCovered}
 use Rattle.closure.specs.Closed.{AreLawful}
 use Rattle.closure.specs.Buckets.{IsInBucket}
+use Rattle.closure.specs.Chains.{AreChains, IsLast}
 use Rattle.closure.specs.CellIndex.{index_of}
 use Rattle.closure.specs.Groups.{IsGrouped, boxes_of, list_of}
 use Rattle.closure.specs.Tables.{GroupCovers, AreTables}
 use Rattle.closure.specs.Sides.{cells_in}
 use Rattle.closure.specs.declared.groups.Groups.{Groups}
 use Rattle.closure.specs.declared.tables.Tables.{Tables}
-use Rattle.closure.proofs.CellLists.{of_list}
+use Rattle.closure.proofs.CellLists.{at_any, of_list}
 use Rattle.closure.proofs.Grouped.{box_on, covered_by_group, group_in_room, some_box}
 use Rattle.closure.proofs.Spanning.{index_within}
 use Rattle.closure.proofs.Lists.{new_item, old_item}
 
 -- ---- buckets
+-- The links at the beginning of a chain and within it.
+module _ (keys first next : List ℕ) (count key : ℕ) (chains : AreChains keys count first next) where
+  pub begun : (got : ℕ) → key < count → got ≡ get_or first key got → IsLast keys key (length keys) got
+  begun got low read = grind (arith, at_any)
+
+  pub led_on : (at got : ℕ) → 0 < at → at ≤ length keys → got ≡ get_or next (at - 1) got → slice_index keys (at - 1) ≡ key → IsLast keys key (at - 1) got
+  led_on at got up within read here = grind (arith, at_any)
+
 module _ (level : Level) (groups : Groups) (lawful : AreLawful level (list_of groups)) (grouped : IsGrouped groups) (g : ℕ)
     (lt : g < length groups.spans.items) where
   -- a group has a box

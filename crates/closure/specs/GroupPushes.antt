@@ -6,13 +6,17 @@ use Rattle.cellset.specs.CellSet.{Cells, Has, Lacks}
 use Rattle.cellset.specs.declared.cell.Cell.{Cell}
 use Rattle.cellset.specs.declared.dir.Dir.{Dir}
 use Rattle.reach.specs.declared.pushes.Push.{Push}
-use Rattle.board.specs.Game.{Level}
+use Rattle.board.specs.Game.{Level, IsFloor}
 use Rattle.closure.specs.Pattern.{Pattern, InPatternRegion, IsCovered, PushesOut, after_push}
 use Rattle.closure.specs.Closed.{CoversPushesOf}
 use Rattle.closure.specs.Sides.{IsAround, cell_no}
 use Rattle.closure.specs.declared.pushes.PushedBox.{PushedBox}
+use Rattle.closure.specs.declared.pushes.PushScratch.{PushScratch}
+use Rattle.closure.specs.declared.tables.Tables.{Tables}
 use Rattle.closure.specs.declared.groups.Groups.{Groups}
 use Rattle.closure.specs.Groups.{boxes_of, list_of, position_at}
+use Rattle.closure.specs.Piece.{IsPiece, IsPieceSpace}
+use Rattle.closure.specs.Tables.{AreFilled, IsRoomy}
 
 -- a push has just moved a box by one step in its direction
 abbrev pub IsStepBack : Push → Type 0
@@ -20,18 +24,21 @@ IsStepBack push = neighbor push.to (opposite push.dir) ≡ push.from
 
 -- the push of the box on this cell in the direction, to a cell of the grid
 pub record IsPushAt (shape : Extent) (cell : Cell) (dir : Dir) (push : Push) : Type 0 where
+  pub player : push.player ≡ neighbor cell (opposite dir)
   pub from : push.from ≡ cell
   pub dir_is : push.dir ≡ dir
   pub to : push.to ≡ neighbor cell dir
   pub to_on : IsOn shape push.to
   pub back : IsStepBack push
 
--- a push of one of the boxes, to a cell of the grid without one
-pub record IsPushOf (shape : Extent) (boxes : Cells) (push : Push) : Type 0 where
+-- a push of one of the boxes by a player of the room, to a cell of the grid without one
+pub record IsPushOf (level : Level) (boxes : Cells) (push : Push) : Type 0 where
+  pub room : Has level.room push.player
+  pub next_cell : push.from ≡ neighbor push.player push.dir
+  pub floor : IsFloor level push.from
   pub box : Has boxes push.from
-  pub to_on : IsOn shape push.to
+  pub to_on : IsOn level.shape push.to
   pub to_free : Lacks boxes push.to
-  pub back : IsStepBack push
 
 -- no push out of the pattern moves the box on this cell in the direction
 abbrev pub HasNoPush : Level → Pattern → Cell → Dir → Type 0
@@ -60,3 +67,15 @@ pub record IsPushedBox (level : Level) (groups : Groups) (pushed : PushedBox) : 
   pub boxes : pushed.boxes.now ≡ boxes_of groups pushed.group
   pub number : pushed.number < length pushed.boxes.now
   pub sides : IsAround (InPatternRegion level (position_at level groups pushed.group)) (pushed_cell pushed) pushed.sides
+
+-- the tables are filled for lookups, and the memory is for them
+pub record IsReady {S : Type 0} (extent : S → Extent) (tables : Tables S) (scratch : PushScratch S) : Type 0 where
+  pub filled : AreFilled tables
+  pub roomy : IsRoomy tables scratch.lookup
+  pub state : extent scratch.state ≡ tables.board.now.shape
+  pub piece : IsPieceSpace extent tables scratch.piece
+
+-- the memory is for pushes of these boxes
+pub record IsLoaded {S : Type 0} (members : S → Cells) (tables : Tables S) (boxes : Cells) (scratch : PushScratch S) : Type 0 where
+  pub state : members scratch.state ≡ boxes
+  pub piece : IsPiece members tables boxes scratch.piece

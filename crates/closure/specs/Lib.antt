@@ -13,6 +13,7 @@ pub mod GroupPushes
 pub mod GroupRegions
 pub mod Groups
 pub mod Hits
+pub mod Piece
 pub mod SpanningTree
 pub mod Tables
 pub mod Run

@@ -18,7 +18,7 @@ ghost use Rattle.closure.specs.Tables.{AreFilled, AreTables, IsRoomy};
 use crate::arena::Arena;
 use crate::cells::stand_beside;
 use crate::fault::CheckFault;
-use crate::lookup::{Scratch, is_any_covering};
+use crate::lookup::{Scratch, is_any_covering, is_covered_after};
 use crate::pushes::{PushScratch, cover_groups};
 use crate::region::Finder;
 use crate::tables::Tables;
@@ -284,31 +284,4 @@ fn first_uncovered<S: CellSet>(
         }
     }
     None
-}
-
-// Returns whether the result of the push is covered. The boxes stay as they are.
-fn is_covered_after<S: CellSet>(
-    push: Push,
-    tables: &Tables<S>,
-    lookup: &mut Scratch,
-    boxes: &mut S,
-) -> bool
-    requires tables { AreFilled tables.now }
-    requires lookup { IsRoomy tables.now lookup.old }
-    requires boxes { S.extent boxes.old ≡ tables.now.board.now.shape }
-    requires from_on { IsOn tables.now.board.now.shape push.from }
-    requires to_on { IsOn tables.now.board.now.shape push.to }
-    requires from_box { Has (S.members boxes.old) push.from }
-    requires to_free { Lacks (S.members boxes.old) push.to }
-    ensures extent { S.extent boxes.new ≡ tables.now.board.now.shape }
-    ensures same { S.members boxes.new ≡ S.members boxes.old }
-    ensures lookup { IsRoomy tables.now lookup.new }
-    ensures covered { IsTrue result ↔ IsCovered tables.now.board.now (list_of tables.now.groups) (state_after (S.members boxes.old) push) }
-{
-    boxes.remove(push.from);
-    boxes.insert(push.to);
-    let covered = is_any_covering(tables, push.from, boxes, lookup);
-    boxes.remove(push.to);
-    boxes.insert(push.from);
-    covered
 }

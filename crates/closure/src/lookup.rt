@@ -9,14 +9,17 @@ ghost use Rattle.cellset.specs.CellSet.{Has, Lacks};
 ghost use Rattle.closure.specs.Pattern.{InPatternRegion, Covers, IsCovered};
 ghost use Rattle.closure.specs.Sides.{cells_in};
 ghost use Rattle.closure.specs.CellIndex.{index_of};
+ghost use Rattle.closure.specs.GroupPushes.{IsPushOf};
 ghost use Rattle.closure.specs.Groups.{boxes_of, list_of, position_at};
 ghost use Rattle.closure.specs.Hits.{AreHits};
+ghost use Rattle.closure.specs.Run.{state_after};
 ghost use Rattle.closure.specs.Tables.{AreFilled, GroupCovers, IsReadyFor, IsRoomy};
 
 use crate::cells::{number_of, stand_beside};
 use crate::tables::Tables;
 use crate::tree::{Hit, index_of};
 use cellset::{Cell, CellSet, MembersOf};
+use reach::Push;
 use std::alloc::{AllocError, Global};
 
 // A state to look up.
@@ -68,7 +71,7 @@ fn is_inside<S: CellSet>(tables: &Tables<S>, group: usize, player: Cell, hits: &
 }
 
 // Returns whether a group covers the state. Its boxes come first, since they decide most often and cost least.
-fn is_covering<S: CellSet>(
+pub(crate) fn is_covering<S: CellSet>(
     tables: &Tables<S>,
     group: usize,
     query: &Query<S>,
@@ -139,6 +142,62 @@ pub(crate) fn is_any_covering<S: CellSet>(
         }
         None => false,
     }
+}
+
+// Returns whether the result of the push is covered. The boxes stay as they are.
+pub(crate) fn is_covered_after<S: CellSet>(
+    push: Push,
+    tables: &Tables<S>,
+    lookup: &mut Scratch,
+    boxes: &mut S,
+) -> bool
+    requires tables { AreFilled tables.now }
+    requires lookup { IsRoomy tables.now lookup.old }
+    requires boxes { S.extent boxes.old ≡ tables.now.board.now.shape }
+    requires from_on { IsOn tables.now.board.now.shape push.from }
+    requires to_on { IsOn tables.now.board.now.shape push.to }
+    requires from_box { Has (S.members boxes.old) push.from }
+    requires to_free { Lacks (S.members boxes.old) push.to }
+    ensures extent { S.extent boxes.new ≡ tables.now.board.now.shape }
+    ensures same { S.members boxes.new ≡ S.members boxes.old }
+    ensures lookup { IsRoomy tables.now lookup.new }
+    ensures covered { IsTrue result ↔ IsCovered tables.now.board.now (list_of tables.now.groups) (state_after (S.members boxes.old) push) }
+{
+    boxes.remove(push.from);
+    boxes.insert(push.to);
+    let covered = is_any_covering(tables, push.from, boxes, lookup);
+    boxes.remove(push.to);
+    boxes.insert(push.from);
+    covered
+}
+
+// Returns true only if the group that covered the last state covers the result of the push. The state stays as it is.
+pub(crate) fn is_last_after<S: CellSet>(
+    push: Push,
+    tables: &Tables<S>,
+    lookup: &mut Scratch,
+    state: &mut S,
+) -> bool
+    requires tables { AreFilled tables.now }
+    requires lookup { IsRoomy tables.now lookup.old }
+    requires extent { S.extent state.old ≡ tables.now.board.now.shape }
+    requires push { IsPushOf tables.now.board.now (S.members state.old) push }
+    ensures extent { S.extent state.new ≡ tables.now.board.now.shape }
+    ensures same { S.members state.new ≡ S.members state.old }
+    ensures lookup { IsRoomy tables.now lookup.new }
+    ensures covered { IsTrue result → IsCovered tables.now.board.now (list_of tables.now.groups) (state_after (S.members state.old) push) }
+{
+    state.remove(push.from);
+    state.insert(push.to);
+    lookup.walked = false;
+    let query = Query {
+        player: push.from,
+        boxes: state,
+    };
+    let covered = is_last_covering(tables, &query, lookup);
+    state.remove(push.to);
+    state.insert(push.from);
+    covered
 }
 
 // Returns whether the group that covered the last state covers this one.

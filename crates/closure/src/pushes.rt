@@ -1,8 +1,8 @@
 //! The pushes out of groups, and whether the list covers their results.
 //!
 //! After a push the player is beside the box that was pushed. So the group of just the boxes after the push covers the result
-//! exactly if its region lies on that side of that box. Hints find such a group. If they fail, a lookup asks all groups, as soon as the
-//! tables are filled for it.
+//! exactly if its region lies on that side of that box. Hints find such a group. If they fail and the tables are filled for lookups, the
+//! group that covered the last state is asked, then the groups that lack the pushed box (`piece`), and then all groups.
 ghost use Rattle.std.specs.Prelude.{◌≡◌, ◌<◌, ◌↔◌, IsTrue, IfOk, IfSome, MatchOption, length};
 ghost use Rattle.cellset.specs.Cell.{IsOn};
 ghost use Rattle.cellset.specs.CellSet.{Has, Lacks};
@@ -13,14 +13,15 @@ ghost use Rattle.closure.specs.Pattern.{IsCovered};
 ghost use Rattle.closure.specs.Closed.{CoversPushesOf};
 ghost use Rattle.closure.specs.Run.{state_after};
 ghost use Rattle.closure.specs.Sides.{cell_no, cells_in};
-ghost use Rattle.closure.specs.GroupPushes.{AreNoted, CoversFrom, CoversToward, HasNoPush, IsPushAt, IsPushOf, IsPushedBox, IsStepBack, pushed_cell};
+ghost use Rattle.closure.specs.GroupPushes.{AreNoted, CoversFrom, CoversToward, HasNoPush, IsLoaded, IsPushAt, IsPushOf, IsPushedBox, IsReady, IsStepBack, pushed_cell};
 ghost use Rattle.closure.specs.Groups.{list_of, position_at};
-ghost use Rattle.closure.specs.Tables.{AreFilled, AreTables, IsRoomy};
+ghost use Rattle.closure.specs.Tables.{AreFilled, AreTables};
 ghost use Rattle.closure.specs.Trap.{AreOff};
 
 use crate::cells::{is_same, load, number_of};
 use crate::hints::{TRIES, hash_of, hash_with, hash_without};
-use crate::lookup::{Scratch, is_any_covering};
+use crate::lookup::{Scratch, is_covered_after, is_last_after};
+use crate::piece::Piece;
 use crate::sides::Sides;
 use crate::tables::Tables;
 use board::Board;
@@ -32,17 +33,24 @@ use std::alloc::{AllocError, Global};
 #[derive(Drop)]
 pub(crate) struct PushScratch<S: CellSet> {
     pub(crate) state: S,
+    pub(crate) piece: Piece<S>,
     pub(crate) lookup: Scratch,
 }
 
 impl<S: CellSet> PushScratch<S> {
     // Returns memory for lookups in these tables.
     pub(crate) fn new(alloc: Global, tables: &Tables<S>) -> Result<PushScratch<S>, AllocError>
-        ensures { IfOk result (λ s. IsRoomy tables.now s.lookup × (S.extent s.state ≡ tables.now.board.now.shape)) }
+        requires { AreFilled tables.now }
+        ensures { IfOk result (IsReady S.extent tables.now) }
     {
         let state = S::new(alloc, tables.board.shape())?;
+        let piece = Piece::new(alloc, tables)?;
         let lookup = Scratch::new(alloc, tables)?;
-        Ok(PushScratch { state, lookup })
+        Ok(PushScratch {
+            state,
+            piece,
+            lookup,
+        })
     }
 }
 
@@ -54,7 +62,7 @@ pub(crate) fn cover_groups<S: CellSet>(
 )
     requires tables { AreTables tables.now }
     requires covered { AreNoted tables.now.board.now tables.now.groups covered.old.items }
-    requires ready { IfSome scratch.old (λ s. AreFilled tables.now × IsRoomy tables.now s.lookup × (S.extent s.state ≡ tables.now.board.now.shape)) }
+    requires ready { IfSome scratch.old (IsReady S.extent tables.now) }
     ensures { AreNoted tables.now.board.now tables.now.groups covered.new.items }
 {
     for group in 0..tables.groups.spans.len() {
@@ -73,8 +81,8 @@ fn covers_pushes_of<S: CellSet>(
 ) -> bool
     requires tables { AreTables tables.now }
     requires group { group < length tables.now.groups.spans.items }
-    requires ready { IfSome scratch.old (λ s. AreFilled tables.now × IsRoomy tables.now s.lookup × (S.extent s.state ≡ tables.now.board.now.shape)) }
-    ensures ready { IfSome scratch.new (λ s. AreFilled tables.now × IsRoomy tables.now s.lookup × (S.extent s.state ≡ tables.now.board.now.shape)) }
+    requires ready { IfSome scratch.old (IsReady S.extent tables.now) }
+    ensures ready { IfSome scratch.new (IsReady S.extent tables.now) }
     ensures covered { IsTrue result → CoversPushesOf tables.now.board.now (list_of tables.now.groups) (position_at tables.now.board.now tables.now.groups group) }
 {
     let boxes = tables.groups.boxes(group);
@@ -102,12 +110,15 @@ fn covers_pushes_of<S: CellSet>(
 // Makes these boxes the state, if there is scratch memory.
 fn load_boxes<S: CellSet>(tables: &Tables<S>, boxes: &[Cell], scratch: &mut Option<PushScratch<S>>)
     requires boxes { (c : GridCell) → Has (cells_in boxes.now) c → IsOn tables.now.board.now.shape c }
-    requires ready { IfSome scratch.old (λ s. AreFilled tables.now × IsRoomy tables.now s.lookup × (S.extent s.state ≡ tables.now.board.now.shape)) }
-    ensures ready { IfSome scratch.new (λ s. AreFilled tables.now × IsRoomy tables.now s.lookup × (S.extent s.state ≡ tables.now.board.now.shape)) }
-    ensures loaded { IfSome scratch.new (λ s. S.members s.state ≡ cells_in boxes.now) }
+    requires ready { IfSome scratch.old (IsReady S.extent tables.now) }
+    ensures ready { IfSome scratch.new (IsReady S.extent tables.now) }
+    ensures loaded { IfSome scratch.new (IsLoaded S.members tables.now (cells_in boxes.now)) }
 {
     if let Some(scratch) = scratch {
+        // For the proof: the board is well formed.
+        let _shape = tables.board.shape();
         load(boxes, &mut scratch.state);
+        scratch.piece.clear(tables, tables.board.player());
     }
 }
 
@@ -130,10 +141,10 @@ fn covers_each_way<S: CellSet>(
     requires tables { AreTables tables.now }
     requires pushed { IsPushedBox tables.now.board.now tables.now.groups pushed.now }
     requires off { AreOff tables.now.trap.members pushed.now.boxes.now }
-    requires ready { IfSome scratch.old (λ s. AreFilled tables.now × IsRoomy tables.now s.lookup × (S.extent s.state ≡ tables.now.board.now.shape)) }
-    requires loaded { IfSome scratch.old (λ s. S.members s.state ≡ cells_in pushed.now.boxes.now) }
-    ensures ready { IfSome scratch.new (λ s. AreFilled tables.now × IsRoomy tables.now s.lookup × (S.extent s.state ≡ tables.now.board.now.shape)) }
-    ensures loaded { IfSome scratch.new (λ s. S.members s.state ≡ cells_in pushed.now.boxes.now) }
+    requires ready { IfSome scratch.old (IsReady S.extent tables.now) }
+    requires loaded { IfSome scratch.old (IsLoaded S.members tables.now (cells_in pushed.now.boxes.now)) }
+    ensures ready { IfSome scratch.new (IsReady S.extent tables.now) }
+    ensures loaded { IfSome scratch.new (IsLoaded S.members tables.now (cells_in pushed.now.boxes.now)) }
     ensures covered { IsTrue result → CoversFrom tables.now.board.now (list_of tables.now.groups) (position_at tables.now.board.now tables.now.groups pushed.now.group) (pushed_cell pushed.now) }
 {
     covers_toward(tables, pushed, Dir::L, scratch)
@@ -155,10 +166,10 @@ fn covers_toward<S: CellSet>(
     requires tables { AreTables tables.now }
     requires pushed { IsPushedBox tables.now.board.now tables.now.groups pushed.now }
     requires off { AreOff tables.now.trap.members pushed.now.boxes.now }
-    requires ready { IfSome scratch.old (λ s. AreFilled tables.now × IsRoomy tables.now s.lookup × (S.extent s.state ≡ tables.now.board.now.shape)) }
-    requires loaded { IfSome scratch.old (λ s. S.members s.state ≡ cells_in pushed.now.boxes.now) }
-    ensures ready { IfSome scratch.new (λ s. AreFilled tables.now × IsRoomy tables.now s.lookup × (S.extent s.state ≡ tables.now.board.now.shape)) }
-    ensures loaded { IfSome scratch.new (λ s. S.members s.state ≡ cells_in pushed.now.boxes.now) }
+    requires ready { IfSome scratch.old (IsReady S.extent tables.now) }
+    requires loaded { IfSome scratch.old (IsLoaded S.members tables.now (cells_in pushed.now.boxes.now)) }
+    ensures ready { IfSome scratch.new (IsReady S.extent tables.now) }
+    ensures loaded { IfSome scratch.new (IsLoaded S.members tables.now (cells_in pushed.now.boxes.now)) }
     ensures covered { IsTrue result → CoversToward tables.now.board.now (list_of tables.now.groups) (position_at tables.now.board.now tables.now.groups pushed.now.group) (pushed_cell pushed.now) dir }
 {
     let Some(push) = push_of(tables, pushed, dir) else {
@@ -192,6 +203,7 @@ fn push_of<S: CellSet>(tables: &Tables<S>, pushed: &PushedBox, dir: Dir) -> Opti
     ensures found { MatchOption result
         (HasNoPush tables.now.board.now (position_at tables.now.board.now tables.now.groups pushed.now.group) (pushed_cell pushed.now) dir)
         (IsPushAt tables.now.board.now.shape (pushed_cell pushed.now) dir) }
+    ensures room { IfSome result (λ push. Has tables.now.board.now.room push.player) }
     ensures free { IfSome result (λ push. Lacks (cells_in pushed.now.boxes.now) push.to) }
 {
     if !pushed.sides.has(dir.opposite()) {
@@ -281,7 +293,7 @@ fn is_hinted<S: CellSet>(tables: &Tables<S>, pushed: &PushedBox, push: Push) -> 
     false
 }
 
-// Returns whether some group covers the result of a push of these boxes. Without scratch memory it returns false.
+// Returns true only if some group covers the result of a push of these boxes. Without scratch memory it returns false.
 fn is_found<S: CellSet>(
     tables: &Tables<S>,
     boxes: &[Cell],
@@ -289,20 +301,22 @@ fn is_found<S: CellSet>(
     scratch: &mut Option<PushScratch<S>>,
 ) -> bool
     requires boxes { (c : GridCell) → Has (cells_in boxes.now) c → IsOn tables.now.board.now.shape c }
-    requires push { IsPushOf tables.now.board.now.shape (cells_in boxes.now) push }
-    requires ready { IfSome scratch.old (λ s. AreFilled tables.now × IsRoomy tables.now s.lookup × (S.extent s.state ≡ tables.now.board.now.shape)) }
-    requires loaded { IfSome scratch.old (λ s. S.members s.state ≡ cells_in boxes.now) }
-    ensures ready { IfSome scratch.new (λ s. AreFilled tables.now × IsRoomy tables.now s.lookup × (S.extent s.state ≡ tables.now.board.now.shape)) }
-    ensures loaded { IfSome scratch.new (λ s. S.members s.state ≡ cells_in boxes.now) }
+    requires push { IsPushOf tables.now.board.now (cells_in boxes.now) push }
+    requires ready { IfSome scratch.old (IsReady S.extent tables.now) }
+    requires loaded { IfSome scratch.old (IsLoaded S.members tables.now (cells_in boxes.now)) }
+    ensures ready { IfSome scratch.new (IsReady S.extent tables.now) }
+    ensures loaded { IfSome scratch.new (IsLoaded S.members tables.now (cells_in boxes.now)) }
     ensures covered { IsTrue result → IsCovered tables.now.board.now (list_of tables.now.groups) (state_after (cells_in boxes.now) push) }
 {
     let Some(scratch) = scratch else {
         return false;
     };
-    scratch.state.remove(push.from);
-    scratch.state.insert(push.to);
-    let covered = is_any_covering(tables, push.from, &scratch.state, &mut scratch.lookup);
-    scratch.state.remove(push.to);
-    scratch.state.insert(push.from);
-    covered
+    if is_last_after(push, tables, &mut scratch.lookup, &mut scratch.state) {
+        return true;
+    }
+    if scratch.piece.covers(tables, boxes, &scratch.state, push) {
+        scratch.lookup.last = scratch.piece.lookup.last;
+        return true;
+    }
+    is_covered_after(push, tables, &mut scratch.lookup, &mut scratch.state)
 }

@@ -2,23 +2,17 @@
 -- covers the state, and that group `at` - 1 is in the bucket if there is one. If this group doesn't cover the state, the chain leads to
 -- the last group of the bucket before it, so none is skipped (`none_more`). At the end of the chain none is left, so no group of the
 -- bucket covers the state.
-use Rattle.std.proofs.Common.{◌≡◌, ℕ, ◌-◌, ◌<◌, ◌≤◌, List, length, get_or, sym, ◌∙◌, ap, arith}
+use Rattle.std.proofs.Common.{◌≡◌, ℕ, ◌-◌, ◌<◌, ◌≤◌, List, get_or, sym, ◌∙◌, ap, arith}
 use Rattle.std.specs.Prelude.{slice_index}
 use Rattle.std.proofs.lemmas.Bool.{cases_lt, false≢true}
 use Rattle.closure.specs.Chains.{AreChains, IsLast}
 use Rattle.closure.specs.CellIndex.{index_of}
 use Rattle.closure.specs.Tables.{GroupCovers}
-use Rattle.closure.proofs.CellLists.{at_any}
+use Rattle.closure.proofs.Lookups.{begun, led_on}
 use Rattle.closure.proofs.lookup.find_in_bucket.Goals as goal
 
 -- A walk along the chain of a key skips no item with the key.
 module _ (keys first next : List ℕ) (count key : ℕ) (chains : AreChains keys count first next) where
-  begun : (got : ℕ) → key < count → got ≡ get_or first key got → IsLast keys key (length keys) got
-  begun got low read = grind (arith, at_any)
-
-  led_on : (at got : ℕ) → 0 < at → at ≤ length keys → got ≡ get_or next (at - 1) got → slice_index keys (at - 1) ≡ key → IsLast keys key (at - 1) got
-  led_on at got up within read here = grind (arith, at_any)
-
   none_more : (P : ℕ → Type 0) (at got : ℕ) → 0 < at → IsLast keys key (at - 1) got → (P (at - 1) → ⊥) → ((k : ℕ) → at ≤ k → slice_index keys k ≡ key → P k → ⊥)
       → (k : ℕ) → got ≤ k → slice_index keys k ≡ key → P k → ⊥
   none_more P at got up last not passed k past same holds = grind (arith, cases_lt)

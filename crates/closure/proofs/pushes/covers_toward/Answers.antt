@@ -1,13 +1,14 @@
 -- A push to the trap is covered (`toward_trap`). Any other one leaves no box on the trap, so hints and lookups may be asked of its result
 -- (`off_after`), and if one of its pushes in the direction is covered, so are all of them (`covered_one`).
-use Rattle.std.proofs.Common.{refl}
+use Rattle.std.proofs.Common.{refl, subst}
 use Rattle.std.proofs.lemmas.Bool.{false≢true}
+use Rattle.cellset.specs.CellSet.{Has}
 use Rattle.cellset.proofs.Members.{lacks_where}
 use Rattle.closure.specs.Sides.{cells_in}
 use Rattle.closure.specs.GroupPushes.{pushed_cell}
 use Rattle.closure.specs.Groups.{list_of, position_at}
 use Rattle.closure.proofs.CellLists.{in_list, no_cell}
-use Rattle.closure.proofs.Grouped.{boxes_on}
+use Rattle.closure.proofs.Grouped.{box_floor, boxes_on}
 use Rattle.closure.proofs.GroupPushes.{covered_one, push_in_box, toward_trap}
 use Rattle.closure.proofs.Traps.{off_after}
 use Rattle.closure.proofs.pushes.covers_toward.Goals as goal
@@ -28,8 +29,13 @@ is_found-requires-clause-boxes g c = boxes_on c.args.tables.now.board.now c.args
 pub is_found-requires-clause-push : goal.is_found-requires-clause-push
 is_found-requires-clause-push g c =
     let pushed = c.args.pushed.now in
-    push_in_box c.args.tables.now.board.now.shape (cells_in pushed.boxes.now) (pushed_cell pushed) c.args.dir c.in-Some.push
-    (in_list pushed.boxes.now pushed.number no_cell c.requires.pushed.number) c.in-Some.ensures.free c.in-Some.ensures.found
+    let level = c.args.tables.now.board.now in
+    let groups = c.args.tables.now.groups in
+    let has = in_list pushed.boxes.now pushed.number no_cell c.requires.pushed.number in
+    push_in_box level (cells_in pushed.boxes.now) (pushed_cell pushed) c.args.dir c.in-Some.push has
+    (box_floor level groups c.requires.tables.lawful c.requires.tables.grouped pushed.group c.requires.pushed.group (pushed_cell pushed)
+    (subst (λ l. Has (cells_in l) (pushed_cell pushed)) c.requires.pushed.boxes has))
+    c.in-Some.ensures.room c.in-Some.ensures.free c.in-Some.ensures.found
 
 pub returns-then-is_on_trap-clause-covered : goal.returns-then-is_on_trap-clause-covered
 returns-then-is_on_trap-clause-covered g c = λ _.

@@ -1,14 +1,16 @@
-use Rattle.closure.specs.Sides.{cells_in}
-use Rattle.closure.proofs.Sets.{moved_back}
 use Rattle.closure.proofs.pushes.is_found.Goals as goal
+
+pub returns-then-is_last_after-clause-covered : goal.returns-then-is_last_after-clause-covered
+returns-then-is_last_after-clause-covered g c = λ _.
+    let loaded = rw c.in-Some.is at c.requires.loaded in
+    rw loaded.state at (c.is_last_after.ensures.covered c.if-is_last_after.true)
+
+pub returns-then-covers-clause-covered : goal.returns-then-covers-clause-covered
+returns-then-covers-clause-covered g c = λ _.
+    let loaded = rw c.in-Some.is at c.requires.loaded in
+    rw (c.is_last_after.ensures.same, loaded.state) at (c.covers.ensures.covered c.if-covers.true)
 
 pub returns-clause-covered : goal.returns-clause-covered
 returns-clause-covered g c =
     let loaded = rw c.in-Some.is at c.requires.loaded in
-    rw (c.insert.ensures.members, c.remove.ensures.members, loaded) at c.is_any_covering-covered.ensures.exact.0
-
-pub returns-clause-loaded : goal.returns-clause-loaded
-returns-clause-loaded g c =
-    let loaded = rw c.in-Some.is at c.requires.loaded in
-    rw (c.insert-2.ensures.members, c.remove-2.ensures.members, c.insert.ensures.members, c.remove.ensures.members, loaded)
-    (moved_back (cells_in c.args.boxes.now) c.args.push.from c.args.push.to c.requires.push.box c.requires.push.to_free)
+    rw (c.is_last_after.ensures.same, loaded.state) at c.is_covered_after.ensures.covered.0

@@ -9,7 +9,7 @@ use Rattle.cellset.proofs.Neighbors.{neighbor_back}
 use Rattle.closure.specs.GroupPushes.{pushed_cell}
 use Rattle.closure.specs.Groups.{position_at}
 use Rattle.closure.proofs.CellLists.{in_list, no_cell}
-use Rattle.closure.proofs.Grouped.{boxes_on}
+use Rattle.closure.proofs.Grouped.{boxes_on, group_in_room}
 use Rattle.closure.proofs.GroupPushes.{barred, unreached}
 use Rattle.closure.proofs.Regions.{region_lacks, region_on}
 use Rattle.closure.proofs.pushes.push_of.Goals as goal
@@ -72,9 +72,17 @@ returns-clause-found g c =
     let on = boxes_on c.args.tables.now.board.now c.args.tables.now.groups tables.lawful tables.grouped pushed.group
     c.requires.pushed.group pushed.boxes.now c.requires.pushed.boxes _ (in_list pushed.boxes.now pushed.number no_cell c.requires.pushed.number) in
     record {
+      player = rw c.opposite-2.ensures at c.in-Some-step.ensures.1;
       from = refl;
       dir_is = refl;
       to = c.in-Some.ensures.1;
       to_on = rw (← c.in-Some.ensures.1, c.shape-shape.ensures.value) at c.in-Some.ensures.0;
       back = ap (λ cell. neighbor cell (opposite c.args.dir)) c.in-Some.ensures.1 ∙ neighbor_back from c.args.dir on.top on.left;
     }
+
+pub returns-clause-room : goal.returns-clause-room
+returns-clause-room g c =
+    let tables = c.args.tables.now in
+    let inside = (c.requires.pushed.sides (opposite c.args.dir)).0 (sym (rw c.opposite.ensures at c.if-not-has.ensures)) in
+    rw (c.in-Some-step.ensures.1, c.opposite-2.ensures) (group_in_room tables.board.now c.shape-shape.ensures.formed tables.groups
+    c.requires.tables.grouped c.requires.tables.lawful c.args.pushed.now.group _ inside)

@@ -1,5 +1,5 @@
 use Rattle.closure.proofs.Sets.{moved_back}
-use Rattle.closure.proofs.checking.is_covered_after.Goals as goal
+use Rattle.closure.proofs.lookup.is_covered_after.Goals as goal
 
 pub returns-clause-same : goal.returns-clause-same
 returns-clause-same g c =

@@ -1,0 +1,241 @@
+//! The piece of the room where the player of pushes is, and the boxes that can be pushed from there.
+//!
+//! A group that covers the state before a push and lacks the pushed box covers the result too: its boxes are still there, and the player
+//! steps from its region to a cell that none of them bars. Walks keep a state covered. So one look through the groups in the buckets of
+//! the boxes serves all pushes from one piece of the room less the boxes.
+//!
+//! This module exists for speed. Without it each push that hints don't settle costs a lookup among all groups. It doesn't help where only
+//! groups with a box on the cell ahead cover the result, and less the more pieces there are.
+ghost use Rattle.std.specs.Prelude.{◌≡◌, ◌⊎◌, ◌<◌, IfOk, IsTrue, length};
+ghost use Rattle.cellset.specs.Cell.{IsOn};
+ghost use Rattle.cellset.specs.CellSet.{Cells, Has, Lacks};
+ghost use Rattle.cellset.specs.declared.cell.Cell.{Cell as GridCell};
+ghost use Rattle.closure.specs.Pattern.{IsCovered};
+ghost use Rattle.closure.specs.Piece.{IsPiece, IsPieceSpace};
+ghost use Rattle.closure.specs.Run.{state_after};
+ghost use Rattle.closure.specs.Sides.{cells_in};
+ghost use Rattle.closure.specs.GroupPushes.{IsPushOf};
+ghost use Rattle.closure.specs.Groups.{list_of};
+ghost use Rattle.closure.specs.Tables.{AreFilled};
+
+use crate::cells::{is_same, number_of};
+use crate::lookup::{Query, Scratch, is_covering};
+use crate::tables::Tables;
+use crate::tree::index_of;
+use cellset::{Cell, CellSet};
+use reach::{Flooder, Push};
+use std::alloc::{AllocError, Global};
+
+// A piece of the room less some boxes, and which of the boxes are loose: a group without the box covers the player in the piece.
+#[derive(Drop)]
+pub(crate) struct Piece<S: CellSet> {
+    // A player in the piece, and the cells of the piece that are known. Before the flood that is only the player's.
+    player: Cell,
+    cells: S,
+    flooded: bool,
+    loose: S,
+    // How far the look has come: how many boxes' buckets it has begun, and the link to the next group.
+    begun: usize,
+    link: usize,
+    pub(crate) lookup: Scratch,
+    flooder: Flooder,
+    seeds: S,
+}
+
+impl<S: CellSet> Piece<S> {
+    // Returns a piece without cells.
+    pub(crate) fn new(alloc: Global, tables: &Tables<S>) -> Result<Piece<S>, AllocError>
+        ensures { IfOk result (IsPieceSpace S.extent tables.now) }
+    {
+        let shape = tables.board.shape();
+        let cells = S::new(alloc, shape)?;
+        let loose = S::new(alloc, shape)?;
+        let seeds = S::new(alloc, shape)?;
+        let lookup = Scratch::new(alloc, tables)?;
+        let flooder = Flooder::new(alloc, shape)?;
+        Ok(Piece {
+            player: tables.board.player(),
+            cells,
+            flooded: true,
+            loose,
+            begun: 0,
+            link: 0,
+            lookup,
+            flooder,
+            seeds,
+        })
+    }
+
+    // Makes it a piece without cells, for any boxes.
+    pub(crate) fn clear(&mut self, tables: &Tables<S>, player: Cell)
+        requires space { IsPieceSpace S.extent tables.now self.old }
+        requires player { Has tables.now.board.now.room player }
+        ensures space { IsPieceSpace S.extent tables.now self.new }
+        ensures piece { (boxes : Cells) → IsPiece S.members tables.now boxes self.new }
+        ensures player { self.new.player ≡ player }
+    {
+        self.player = player;
+        self.cells.clear();
+        self.flooded = true;
+        self.loose.clear();
+        self.begun = 0;
+        self.link = 0;
+        self.lookup.walked = false;
+    }
+
+    // Returns true only if a group covers the result of a push of these boxes. The groups that it asks lack the pushed box.
+    pub(crate) fn covers(
+        &mut self,
+        tables: &Tables<S>,
+        boxes: &[Cell],
+        state: &S,
+        push: Push,
+    ) -> bool
+        requires tables { AreFilled tables.now }
+        requires space { IsPieceSpace S.extent tables.now self.old }
+        requires extent { S.extent state.now ≡ tables.now.board.now.shape }
+        requires boxes { (c : GridCell) → Has (cells_in boxes.now) c → IsOn tables.now.board.now.shape c }
+        requires piece { IsPiece S.members tables.now (S.members state.now) self.old }
+        requires push { IsPushOf tables.now.board.now (S.members state.now) push }
+        ensures space { IsPieceSpace S.extent tables.now self.new }
+        ensures piece { IsPiece S.members tables.now (S.members state.now) self.new }
+        ensures covered { IsTrue result → IsCovered tables.now.board.now (list_of tables.now.groups) (state_after (S.members state.now) push) }
+    {
+        self.enter(tables, state, push.player);
+        self.look(tables, boxes, state, push.from);
+        self.loose.contains(push.from)
+    }
+
+    // Makes it the piece of a player, unless it is.
+    fn enter(&mut self, tables: &Tables<S>, state: &S, player: Cell)
+        requires tables { AreFilled tables.now }
+        requires space { IsPieceSpace S.extent tables.now self.old }
+        requires extent { S.extent state.now ≡ tables.now.board.now.shape }
+        requires piece { IsPiece S.members tables.now (S.members state.now) self.old }
+        requires player { Has tables.now.board.now.room player }
+        ensures space { IsPieceSpace S.extent tables.now self.new }
+        ensures piece { IsPiece S.members tables.now (S.members state.now) self.new }
+        ensures found { Has (S.members self.new.cells) player }
+    {
+        if !self.has(tables, state, player) {
+            self.begin(tables, player);
+        }
+    }
+
+    // Returns whether a player is in the piece.
+    fn has(&mut self, tables: &Tables<S>, state: &S, player: Cell) -> bool
+        requires tables { AreFilled tables.now }
+        requires space { IsPieceSpace S.extent tables.now self.old }
+        requires extent { S.extent state.now ≡ tables.now.board.now.shape }
+        requires piece { IsPiece S.members tables.now (S.members state.now) self.old }
+        requires player { Has tables.now.board.now.room player }
+        ensures space { IsPieceSpace S.extent tables.now self.new }
+        ensures piece { IsPiece S.members tables.now (S.members state.now) self.new }
+        ensures found { IsTrue result → Has (S.members self.new.cells) player }
+    {
+        // For the proof: the board is well formed.
+        let _shape = tables.board.shape();
+        if self.cells.contains(player) {
+            return true;
+        }
+        if self.flooded {
+            return false;
+        }
+        self.flooded = true;
+        self.seeds.clear();
+        self.seeds.insert(self.player);
+        self.flooder
+            .flood_into(tables.board.walls(), state, &self.seeds, &mut self.cells);
+        self.cells.contains(player)
+    }
+
+    // Makes it the piece of this player.
+    fn begin(&mut self, tables: &Tables<S>, player: Cell)
+        requires space { IsPieceSpace S.extent tables.now self.old }
+        requires player { Has tables.now.board.now.room player }
+        ensures space { IsPieceSpace S.extent tables.now self.new }
+        ensures piece { (boxes : Cells) → IsPiece S.members tables.now boxes self.new }
+        ensures found { Has (S.members self.new.cells) player }
+    {
+        // For the proof: the board is well formed.
+        let _shape = tables.board.shape();
+        self.clear(tables, player);
+        self.cells.insert(player);
+        self.flooded = false;
+    }
+
+    // Goes on with the look until the box is loose or no group is left.
+    fn look(&mut self, tables: &Tables<S>, boxes: &[Cell], state: &S, from: Cell)
+        requires tables { AreFilled tables.now }
+        requires space { IsPieceSpace S.extent tables.now self.old }
+        requires extent { S.extent state.now ≡ tables.now.board.now.shape }
+        requires boxes { (c : GridCell) → Has (cells_in boxes.now) c → IsOn tables.now.board.now.shape c }
+        requires piece { IsPiece S.members tables.now (S.members state.now) self.old }
+        requires from { IsOn tables.now.board.now.shape from }
+        ensures space { IsPieceSpace S.extent tables.now self.new }
+        ensures piece { IsPiece S.members tables.now (S.members state.now) self.new }
+        ensures same { self.new.cells ≡ self.old.cells }
+    {
+        self.follow(tables, boxes, state, from);
+        while self.begun < boxes.len() && !self.loose.contains(from) {
+            self.link = tables.buckets.chains.first[index_of(boxes[self.begun])];
+            self.begun += 1;
+            self.follow(tables, boxes, state, from);
+        }
+    }
+
+    // Goes on through the present bucket until the box is loose or no group is left in it.
+    fn follow(&mut self, tables: &Tables<S>, boxes: &[Cell], state: &S, from: Cell)
+        requires tables { AreFilled tables.now }
+        requires space { IsPieceSpace S.extent tables.now self.old }
+        requires extent { S.extent state.now ≡ tables.now.board.now.shape }
+        requires boxes { (c : GridCell) → Has (cells_in boxes.now) c → IsOn tables.now.board.now.shape c }
+        requires piece { IsPiece S.members tables.now (S.members state.now) self.old }
+        requires from { IsOn tables.now.board.now.shape from }
+        ensures space { IsPieceSpace S.extent tables.now self.new }
+        ensures piece { IsPiece S.members tables.now (S.members state.now) self.new }
+        ensures same { (self.new.cells ≡ self.old.cells) × (self.new.begun ≡ self.old.begun) }
+    {
+        while self.link > 0 && !self.loose.contains(from) {
+            let group = self.link - 1;
+            self.link = tables.buckets.chains.next[group];
+            let kept = tables.groups.boxes(group);
+            // A group that covers the player and has as many boxes lacks none.
+            if kept.len() >= boxes.len() {
+                continue;
+            }
+            let query = Query {
+                player: self.player,
+                boxes: state,
+            };
+            if is_covering(tables, group, &query, &mut self.lookup) {
+                self.lookup.last = group;
+                loosen(boxes, kept, &mut self.loose);
+            }
+        }
+    }
+}
+
+// Adds the boxes that a group lacks to the loose ones.
+fn loosen<S: CellSet>(boxes: &[Cell], kept: &[Cell], loose: &mut S)
+    requires on { (c : GridCell) → Has (cells_in boxes.now) c → IsOn (S.extent loose.old) c }
+    ensures extent { S.extent loose.new ≡ S.extent loose.old }
+    ensures members { (c : GridCell) → Has (S.members loose.new) c → Has (S.members loose.old) c ⊎ Lacks (cells_in kept.now) c }
+{
+    // The boxes of both lists are mostly in the same order, so that each box of the group is the next one. Without this a list whose
+    // boxes part the room into many pieces takes three times as long.
+    let mut next = 0;
+    for cell in boxes {
+        if next < kept.len() && is_same(kept[next], *cell) {
+            next += 1;
+            continue;
+        }
+        if loose.contains(*cell) {
+            continue;
+        }
+        if let Some(_) = number_of(kept, *cell) {
+            continue;
+        }
+        loose.insert(*cell);
+    }
+}
