@@ -2,7 +2,7 @@
 -- To compare all lanes with a character gives one bit per lane, and an `or` of such bits tests for several characters. A table of 16 lanes
 -- is read at the low four bits of each byte. The bits of a row's bytes, moved by one place in its first part, are the bits of its columns,
 -- which count from 1.
-use Rattle.std.proofs.Common.{◌≡◌, ◌/◌, ◌%◌, eqb, replicate, bit_and, map, w8, Fits, ℕ, suc, ◌+◌, ◌-◌}
+use Rattle.std.proofs.Common.{◌≡◌, ◌%◌, eqb, replicate, bit_and, map, w8, Fits, ℕ, ◌+◌, ◌-◌}
 use Rattle.std.proofs.Common.{◌*◌, ◌<◌, ◌≤◌, max, min, Bool, true, false, cond, ◌||◌, ◌==◌, List, length, take}
 use Rattle.std.proofs.Common.{get_or, refl, sym, ◌∙◌, ap, inl, inr, arith, get_or-take, length-take-le}
 use Rattle.std.proofs.lemmas.Bool.{agree_below, agree_below_at, cases_lt}
@@ -17,7 +17,6 @@ use lib.Lanes.{zip2}
 use Rattle.cellset.specs.Bits.{bit}
 use Rattle.cellset.proofs.Bits.{bit-or}
 use Rattle.board.specs.Characters.{space}
-use Rattle.board.specs.Rows.{nth}
 use Rattle.board.specs.Sketch.{IsWordOf, IsMaskOf}
 
 one_is : (b : Bool) → nat_eq (cond b 1 0) 1 ≡ b
@@ -25,14 +24,14 @@ one_is true = refl
 one_is false = refl
 
 pub bit_of_lanes : (ms : List Bool) (k : ℕ) → bit (mask_l ms) k ≡ get_or ms k false
-bit_of_lanes ms k = ap (λ n. nat_eq n 1) (bit_mask_l ms k) ∙ one_is (get_or ms k false)
+bit_of_lanes ms k = search (bit_mask_l, one_is)
 
 pub one_of_one : (byte x : ℕ) (word k : ℕ) → bit word k ≡ (byte == x) → bit word k ≡ ((byte == x) || false)
-one_of_one byte x word k is = is ∙ sym (or-false (byte == x))
+one_of_one byte x word k is = search (or-false)
 
 pub one_of_two : (byte x y : ℕ) (one two k : ℕ) → bit one k ≡ (byte == x) → bit two k ≡ (byte == y)
     → bit (bit_or one two) k ≡ ((byte == x) || ((byte == y) || false))
-one_of_two byte x y one two k is_x is_y = bit-or one two k ∙ (λ i. is_x i || is_y i) ∙ ap (λ b. (byte == x) || b) (sym (or-false (byte == y)))
+one_of_two byte x y one two k is_x is_y = grind (arith, bit-or, or-false)
 
 or_right : (a b c : Bool) → ((a || b) || c) ≡ (a || (b || c))
 or_right true b c = refl
@@ -40,9 +39,7 @@ or_right false b c = refl
 
 pub one_of_three : (byte x y z : ℕ) (one two three k : ℕ) → bit one k ≡ (byte == x) → bit two k ≡ (byte == y) → bit three k ≡ (byte == z)
     → bit (bit_or (bit_or one two) three) k ≡ ((byte == x) || ((byte == y) || ((byte == z) || false)))
-one_of_three byte x y z one two three k is_x is_y is_z =
-    bit-or (bit_or one two) three k ∙ (λ i. bit-or one two k i || is_z i) ∙ (λ i. (is_x i || is_y i) || (byte == z))
-    ∙ or_right (byte == x) (byte == y) (byte == z) ∙ ap (λ b. (byte == x) || ((byte == y) || b)) (sym (or-false (byte == z)))
+one_of_three byte x y z one two three k is_x is_y is_z = grind (arith, bit-or, or_right, or-false)
 
 -- the lane of a comparison: all bits set for equal bytes, and none otherwise
 abbrev pub hit : ℕ → ℕ → ℕ
@@ -52,7 +49,6 @@ pub of_kind : (lane : ℕ → ℕ) (is_kind : ℕ → Bool) (n : ℕ) (block lan
     → lanes ≡ map lane block → agree_below (λ b. top 7 (lane b)) is_kind 256 ≡ true
     → (k : ℕ) → k < n → bit (mask_l (map (top 7) lanes) % 2 ^ 64) k ≡ is_kind (get_or block k 0)
 of_kind lane is_kind n block lanes most fits are agree k small =
-    let long = fits.0 in
     let within : k < length block = omega arith in
     let tops = map (top 7) (map lane block) in
     let few : length tops ≤ 64 = omega (arith, length-map block lane, length-map (map lane block) (top 7)) in
@@ -77,9 +73,7 @@ looked_up table v long =
     ∙ ext_get_or 0 _ _ (length-swz_l w8 16 table 0 (map low v) ∙ length-map v low ∙ sym (length-map v (λ b. get_or table (low b) 0))) (λ i h.
     let within : i < length v = omega (arith, length-swz_l w8 16 table 0 (map low v), length-map v low) in
     let is = get_or-map low v i 0 0 within in
-    get_or-swz_l_below w8 16 table 0 (map low v) i (omega (arith, length-map v low)) (omega (arith, and_le_r (get_or v i 0) 15))
-    ∙ ap (λ k. get_or table k 0) (let row : 16 * ((0 + i) / 16) ≡ 0 = omega arith in omega arith)
-    ∙ sym (get_or-map (λ b. get_or table (low b) 0) v i 0 0 within))
+    grind (arith, get_or-swz_l_below, length-map, and_le_r, get_or-map))
 
 -- ---- the columns of a row
 -- the bits of a row's bytes, each at the place of its column, are the word of that part of the row
@@ -88,22 +82,9 @@ pub columns_word : (is_kind : ℕ → Bool) → is_kind space ≡ false → (tex
     → ((k : ℕ) → k < 1 - part → bit word k ≡ false) → ((k : ℕ) → k < count → k + (1 - part) < 64 → bit word (k + (1 - part)) ≡ bit bits k)
     → ((k : ℕ) → count ≤ k → k + (1 - part) < 64 → bit word (k + (1 - part)) ≡ false) → IsWordOf is_kind (take len text) part word
 columns_word is_kind no_floor text len part from count bits word from_is count_is within long is lead inside past k small = elim (cases_lt k (1 - part)) [
-  | inl before ↦
-      let column : 64 * part + k ≡ 0 = omega arith in
-      lead k before ∙ sym (ap (λ c. is_kind (nth (take len text) c space)) column ∙ no_floor)
+  | inl before ↦ grind arith
   | inr at ↦
       let j = k - (1 - part) in
       let place : j + (1 - part) ≡ k = omega arith in
-      let column : 64 * part + k ≡ suc (from + j) = omega arith in
-      let low : j + (1 - part) < 64 = omega arith in
-      let here : (b : Bool) → b ≡ is_kind (get_or (take len text) (from + j) space) → b ≡ is_kind (nth (take len text) (64 * part + k) space) = λ b e. e
-      ∙ sym (ap (λ c. is_kind (nth (take len text) c space)) column) in
-      ap (bit word) (sym place) ∙ here (bit word (j + (1 - part))) (elim (cases_lt j count) [
-        | inl has ↦ inside j has low ∙ is j (omega arith)
-            ∙ ap is_kind (get_or_default text (from + j) 0 space (omega arith)
-            ∙ sym (get_or-take len text (from + j) space (omega arith)))
-        | inr lacks ↦
-            past j lacks low ∙ sym (ap is_kind (get_or_past (take len text) (from + j) space
-            (let size = length-take-le len text long in omega arith)) ∙ no_floor)
-      ])
+      grind (arith, cases_lt, get_or_default, get_or_past, get_or-take, length-take-le)
 ]

@@ -4,7 +4,7 @@
 -- its size can be counted as if they were added one by one: one more character of a row changes the character of one cell alone,
 -- which was a space before, and the count grows by one if that character is of the kind.
 use Rattle.std.proofs.Common.{◌≡◌, ◌≢◌, ◌⊎◌, ℕ, zero, suc, ◌+◌, ◌-◌, ◌*◌, ◌<◌, ◌≤◌, Bool, true, false, cond, ◌||◌, List, [], ◌∷◌, ◌++◌, length, refl, sym, ◌∙◌}
-use Rattle.std.proofs.Common.{ap, subst, inr, ⊎_elim, arith, append_assoc}
+use Rattle.std.proofs.Common.{ap, inr, ⊎_elim, arith, append_assoc}
 use Rattle.std.proofs.lemmas.Bool.{cases_eq, cases_lt, cases_Bool, false≢true, cond-true, cond-false}
 use Rattle.std.proofs.lemmas.List.{append-nil, get_or_append_left, get_or_past, get_or_push, length_push}
 use Rattle.std.proofs.lemmas.List.Sums.{sum_by_push}
@@ -12,14 +12,14 @@ use Rattle.std.specs.List.{count_by}
 use Rattle.std.specs.FinSet as set
 use Rattle.std.specs.FinSet.{contains, contains-insert, contains-empty, contains-union, len-insert, len-empty}
 use Rattle.cellset.specs.Shape.{Extent}
-use Rattle.cellset.specs.Cell.{cell_at, cell_cmp, IsOn}
+use Rattle.cellset.specs.Cell.{cell_at, cell_cmp}
 use Rattle.cellset.specs.CellSet.{Cells, Has}
 use Rattle.cellset.specs.RowBits.{row_cell, IsRowOn, cells_of_row}
 use Rattle.cellset.specs.declared.cell.Cell.{Cell}
 use Rattle.cellset.proofs.Members.{cells_total, same_cells, same, same_itself, same_or_other}
 use Rattle.cellset.proofs.Rows.{has_in_row, row_has}
 use Rattle.cellset.proofs.Truth.{left_true, right_true, or_cases}
-use Rattle.board.specs.Characters.{is_wall, is_player, is_box, is_goal, space}
+use Rattle.board.specs.Characters.{space}
 use Rattle.board.specs.Rows.{nth, character_at}
 use Rattle.board.specs.Legal.{count_of_kind}
 use Rattle.board.specs.Sketch.{ShowsKind, IsDrawn, IsSketchOf, IsWordOf}
@@ -35,35 +35,24 @@ nth_past xs zero d past = refl
 nth_past xs (suc k) d past = get_or_past xs k d (omega arith)
 
 nth_push : {A : Type 0} (xs : List A) (x d : A) → nth (xs ++ x ∷ []) (length xs + 1) d ≡ x
-nth_push xs x d = let next : length xs + 1 ≡ suc (length xs) = omega arith in ap (λ n. nth (xs ++ x ∷ []) n d) next ∙ get_or_push xs x d (length xs) refl
+nth_push xs x d = grind (arith, get_or_push)
 
 nth_push_other : {A : Type 0} (xs : List A) (x d : A) (n : ℕ) → n ≢ length xs + 1 → nth (xs ++ x ∷ []) n d ≡ nth xs n d
 nth_push_other xs x d zero other = refl
-nth_push_other xs x d (suc k) other = ⊎_elim
-    (λ inside. get_or_append_left xs (x ∷ []) d k inside)
-    (λ past.
-    let beyond : length xs < k = ⊎_elim (λ is. absurd (other (let one : suc (length xs) ≡ length xs + 1 = omega arith in ap suc is ∙ one)))
-    (λ apart. omega arith) (cases_eq k (length xs)) in
-    let long = length_push xs x in
-    get_or_past (xs ++ x ∷ []) k d (omega arith) ∙ sym (get_or_past xs k d past))
-    (cases_lt k (length xs))
+nth_push_other xs x d (suc k) other = grind (arith, get_or_append_left, cases_eq, length_push, get_or_past, cases_lt)
 
 -- ---- characters
 pub no_rows : (q : Cell) → character_at [] q ≡ space
-no_rows q = ap (λ row. nth row q.column space) (nth-nil q.row []) ∙ nth-nil q.column space
+no_rows q = search (nth-nil)
 
 empty_row : (done : List (List ℕ)) (q : Cell) → character_at (done ++ [] ∷ []) q ≡ character_at done q
-empty_row done q = ap (λ row. nth row q.column space) (⊎_elim
-    (λ here. ap (λ n. nth (done ++ [] ∷ []) n []) here ∙ nth_push done [] []
-    ∙ sym (ap (λ n. nth done n []) here ∙ nth_past done (length done + 1) [] (omega arith)))
-    (λ other. nth_push_other done [] [] q.row other)
-    (cases_eq q.row (length done + 1)))
+empty_row done q = grind (arith, nth_push, nth_past, nth_push_other, cases_eq)
 
 at_next : (done : List (List ℕ)) (part : List ℕ) (b : ℕ) → character_at (done ++ (part ++ b ∷ []) ∷ []) (cell_at (length part + 1) (length done + 1)) ≡ b
-at_next done part b = ap (λ row. nth row (length part + 1) space) (nth_push done (part ++ b ∷ []) []) ∙ nth_push part b space
+at_next done part b = search (nth_push)
 
 before_next : (done : List (List ℕ)) (part : List ℕ) → character_at (done ++ part ∷ []) (cell_at (length part + 1) (length done + 1)) ≡ space
-before_next done part = ap (λ row. nth row (length part + 1) space) (nth_push done part []) ∙ nth_past part (length part + 1) space (omega arith)
+before_next done part = grind (arith, nth_push, nth_past)
 
 at_others : (done : List (List ℕ)) (part : List ℕ) (b : ℕ) (q : Cell) → same q (cell_at (length part + 1) (length done + 1)) ≡ false
     → character_at (done ++ (part ++ b ∷ []) ∷ []) q ≡ character_at (done ++ part ∷ []) q
@@ -101,10 +90,7 @@ module _ (is_kind : ℕ → Bool) (no_floor : is_kind space ≡ false) where
   }
 
   drawn_row : (done : List (List ℕ)) (cells : Cells) → IsDrawn is_kind done cells → IsDrawn is_kind (done ++ [] ∷ []) cells
-  drawn_row done cells d = record {
-    shows = λ q. d.shows q ∙ ap is_kind (sym (empty_row done q));
-    count = let more = sum_by_push (count_by is_kind) done [] in let same_count = d.count in omega arith;
-  }
+  drawn_row done cells d = grind (arith, empty_row, sum_by_push)
 
   drawn_shows : (done : List (List ℕ)) (part : List ℕ) (b : ℕ) (cells : Cells) → ShowsKind is_kind (done ++ part ∷ []) cells
       → ShowsKind is_kind (done ++ (part ++ b ∷ []) ∷ []) (cond (is_kind b) (set.insert cells (cell_at (length part + 1) (length done + 1))) cells)
@@ -112,14 +98,9 @@ module _ (is_kind : ℕ → Bool) (no_floor : is_kind space ≡ false) where
       let k = cell_at (length part + 1) (length done + 1) in
       ⊎_elim
       (λ yes. ap (λ (s : Cells). contains s q) (cond-true _ _ _ yes) ∙ contains-insert cells_total cells k q ∙ same_or_other q k
-      (λ here. ap (λ v. v || contains cells q) (ap (same q) (sym here) ∙ same_itself q)
-      ∙ sym (ap (λ c. is_kind (character_at (done ++ (part ++ b ∷ []) ∷ []) c)) here ∙ ap is_kind (at_next done part b) ∙ yes))
+      (λ here. grind (arith, same_itself, at_next))
       (λ other. ap (λ v. v || contains cells q) other ∙ shows q ∙ ap is_kind (sym (at_others done part b q other))))
-      (λ no. ap (λ (s : Cells). contains s q) (cond-false _ _ _ no) ∙ shows q ∙ same_or_other q k
-      (λ here. ap (λ c. is_kind (character_at (done ++ part ∷ []) c)) here ∙ ap is_kind (before_next done part) ∙ no_floor
-      ∙ sym (ap (λ c. is_kind (character_at (done ++ (part ++ b ∷ []) ∷ []) c)) here ∙ ap is_kind (at_next done part b) ∙ no))
-      (λ other. ap is_kind (sym (at_others done part b q other))))
-      (cases_Bool (is_kind b))
+      (λ no. grind (arith, cond-false, same_or_other, before_next, at_next, at_others)) (cases_Bool (is_kind b))
 
   drawn_count : (done : List (List ℕ)) (part : List ℕ) (b : ℕ) (cells : Cells) → IsDrawn is_kind (done ++ part ∷ []) cells
       → set.len (cond (is_kind b) (set.insert cells (cell_at (length part + 1) (length done + 1))) cells) ≡ count_of_kind is_kind
@@ -135,27 +116,24 @@ module _ (is_kind : ℕ → Bool) (no_floor : is_kind space ≡ false) where
       (λ yes.
       let size = ap set.len (cond-true (is_kind b) (set.insert cells k) cells yes) ∙ len-insert cells_total cells k
       ∙ ap (λ v. cond v (set.len cells) (set.len cells + 1)) absent in
-      let one = cond-true {A = ℕ} (is_kind b) 1 0 yes in
-      omega arith)
+      grind (arith, cond-true))
       (λ no.
-      let size = ap set.len (cond-false (is_kind b) (set.insert cells k) cells no) in
-      let none = cond-false {A = ℕ} (is_kind b) 1 0 no in
-      omega arith)
+      grind (arith, cond-false))
       (cases_Bool (is_kind b))
 
   drawn_more : (done : List (List ℕ)) (part : List ℕ) (b : ℕ) (cells : Cells) → IsDrawn is_kind (done ++ part ∷ []) cells
       → IsDrawn is_kind (done ++ (part ++ b ∷ []) ∷ []) (cond (is_kind b) (set.insert cells (cell_at (length part + 1) (length done + 1))) cells)
-  drawn_more done part b cells d = record { shows = drawn_shows done part b cells d.shows; count = drawn_count done part b cells d }
+  drawn_more done part b cells d = search (drawn_shows, drawn_count)
 
   more_columns : (done : List (List ℕ)) (part rest : List ℕ) (cells : Cells) → IsDrawn is_kind (done ++ part ∷ []) cells
       → (all : Cells) × IsDrawn is_kind (done ++ (part ++ rest) ∷ []) all
-  more_columns done part [] cells d = (cells, rw (append-nil part) d)
+  more_columns done part [] cells d = search (append-nil)
   more_columns done part (b ∷ rest) cells d =
       let more = more_columns done (part ++ b ∷ []) rest _ (drawn_more done part b cells d) in
       (more.0, rw (append_assoc part (b ∷ []) rest) at more.1)
 
   more_rows : (done rest : List (List ℕ)) (cells : Cells) → IsDrawn is_kind done cells → (all : Cells) × IsDrawn is_kind (done ++ rest) all
-  more_rows done [] cells d = (cells, rw (append-nil done) d)
+  more_rows done [] cells d = search (append-nil)
   more_rows done (row ∷ rest) cells d =
       let here = more_columns done [] row cells (drawn_row done cells d) in
       let more = more_rows (done ++ row ∷ []) rest here.0 here.1 in
@@ -170,7 +148,7 @@ module _ (is_kind : ℕ → Bool) (no_floor : is_kind space ≡ false) where
   -- ---- a row, part by part
   -- a character of the kind is in a column of the row, because off the row there are only spaces
   of_row : (line : List ℕ) (column : ℕ) → is_kind (nth line column space) ≡ true → (1 ≤ column) × (column ≤ length line)
-  of_row line zero is = absurd (false≢true (sym no_floor ∙ is))
+  of_row line zero is = grind (arith, false≢true)
   of_row line (suc k) is = (
     omega arith,
     ⊎_elim
@@ -181,9 +159,7 @@ module _ (is_kind : ℕ → Bool) (no_floor : is_kind space ≡ false) where
   -- the bits of a row's part are of cells on the grid
   pub word_on : (line : List ℕ) (row part word : ℕ) (shape on : Extent) → on ≡ shape → (1 ≤ row) × (row ≤ shape.height) → length line ≤ shape.width
       → IsWordOf is_kind line part word → IsRowOn on row part word
-  word_on line row part word shape on same high wide is k small one =
-      let in_line = of_row line (64 * part + k) (sym (is k small) ∙ one) in
-      subst (λ e. IsOn e (row_cell row part k)) (sym same) (record { top = high.0; bottom = high.1; left = in_line.0; right = omega arith })
+  word_on line row part word shape on same high wide is k small one = grind (arith, of_row)
 
   pub part_added : (line : List ℕ) (row part word : ℕ) (old now next : Cells) → IsWordOf is_kind line part word
       → next ≡ set.union now (cells_of_row row part word) → IsRowDrawn is_kind line row part old now → IsRowDrawn is_kind line row (part + 1) old next
@@ -213,21 +189,7 @@ module _ (is_kind : ℕ → Bool) (no_floor : is_kind space ≡ false) where
 
   row_drawn_shows : (done : List (List ℕ)) (line : List ℕ) (row parts : ℕ) (old new : Cells) → length done + 1 ≡ row → length line < 64 * parts
       → ShowsKind is_kind done old → IsRowDrawn is_kind line row parts old new → ShowsKind is_kind (done ++ line ∷ []) new
-  row_drawn_shows done line row parts old new at long shows drawn q = same_truth (contains new q) (is_kind (character_at (done ++ line ∷ []) q))
-      (λ has. ⊎_elim
-      (λ was. ⊎_elim
-      (λ here. absurd (false≢true (sym no_floor ∙ ap is_kind (sym (below q here)) ∙ sym (shows q) ∙ was)))
-      (λ other. ap is_kind (elsewhere q other) ∙ sym (shows q) ∙ was)
-      (cases_eq q.row (length done + 1)))
-      (λ new_one. ap is_kind (in_line q (new_one.0 ∙ sym at)) ∙ new_one.1)
-      (drawn.only q has))
-      (λ is. ⊎_elim
-      (λ here.
-      let kind = ap is_kind (sym (in_line q here)) ∙ is in
-      let right = (of_row line q.column kind).1 in
-      drawn.added q (here ∙ at) (omega arith) kind)
-      (λ other. drawn.kept q (shows q ∙ ap is_kind (sym (elsewhere q other)) ∙ is))
-      (cases_eq q.row (length done + 1)))
+  row_drawn_shows done line row parts old new at long shows drawn q = grind (arith, same_truth, false≢true, cases_eq, of_row, below, elsewhere, in_line)
     where
       in_line : (q : Cell) → q.row ≡ length done + 1 → character_at (done ++ line ∷ []) q ≡ nth line q.column space
       in_line q here = ap (λ r. nth r q.column space) (ap (λ n. nth (done ++ line ∷ []) n []) here ∙ nth_push done line [])
@@ -236,20 +198,14 @@ module _ (is_kind : ℕ → Bool) (no_floor : is_kind space ≡ false) where
       elsewhere q other = ap (λ r. nth r q.column space) (nth_push_other done line [] q.row other)
 
       below : (q : Cell) → q.row ≡ length done + 1 → character_at done q ≡ space
-      below q here = ap (λ r. nth r q.column space) (ap (λ n. nth done n []) here ∙ nth_past done (length done + 1) [] (omega arith)) ∙ nth-nil q.column space
+      below q here = grind (arith, nth_past, nth-nil)
 
   pub row_drawn : (done : List (List ℕ)) (line : List ℕ) (row parts : ℕ) (old new : Cells) → length done + 1 ≡ row → length line < 64 * parts
       → IsDrawn is_kind done old → IsRowDrawn is_kind line row parts old new → IsDrawn is_kind (done ++ line ∷ []) new
-  row_drawn done line row parts old new at long was drawn =
-      counted (done ++ line ∷ []) new (row_drawn_shows done line row parts old new at long was.shows drawn)
+  row_drawn done line row parts old new at long was drawn = search (counted, row_drawn_shows)
 
 -- ---- the four sets
 module _ {S : Type 0} (members : S → Cells) where
   pub sketch_none : (s : Sketch S) → members s.walls ≡ set.empty → members s.goals ≡ set.empty → members s.boxes ≡ set.empty → members s.room ≡ set.empty
       → IsSketchOf [] members s
-  sketch_none s walls goals boxes players = record {
-    wall = drawn_none is_wall refl (members s.walls) walls;
-    goal = drawn_none is_goal refl (members s.goals) goals;
-    box = drawn_none is_box refl (members s.boxes) boxes;
-    player = drawn_none is_player refl (members s.room) players;
-  }
+  sketch_none s walls goals boxes players = search (drawn_none)

@@ -1,7 +1,7 @@
 -- The first row of a text.
 -- The first line of a text is its row with the end of the line after it, so the row is a front of the text. The rows of the text are this
 -- row and the rows of the rest.
-use Rattle.std.proofs.Common.{◌≡◌, ℕ, ◌+◌, ◌<◌, ◌≤◌, List, [], ◌∷◌, ◌++◌, length, take, drop, get_or, sym, ◌∙◌, ap, ⊎_elim, arith, append_assoc, length-append}
+use Rattle.std.proofs.Common.{◌≡◌, ℕ, ◌+◌, ◌<◌, ◌≤◌, List, [], ◌∷◌, ◌++◌, length, take, drop, get_or, sym, ◌∙◌, ap, arith, append_assoc, length-append}
 use Rattle.std.proofs.Math.Seq.{take-append_seam}
 use Rattle.std.proofs.lemmas.Bool.{cases_lt}
 use Rattle.std.proofs.lemmas.List.{take_more, drop_all, drop_more}
@@ -12,17 +12,13 @@ use Rattle.lines.proofs.Starts.{content_front}
 -- the bytes of the text are its row, and others after it
 row_and_more : (text row rest : List ℕ) → IsFirstLine text row rest → (more : List ℕ) × (text ≡ row ++ more)
 row_and_more text row rest first =
-    let end = content_front first.ended in (
-      end.0 ++ rest,
-      first.cut.parts ∙ ap (λ l. l ++ rest) (end.1 ∙ ap (λ l. l ++ end.0) (sym first.content)) ∙ append_assoc row end.0 rest,
-    )
+    let end = content_front first.ended in grind (arith, append_assoc)
 
 -- the row is the beginning of the text, as long as the row is
 pub row_taken : (text row rest : List ℕ) → IsFirstLine text row rest → (take (length row) text ≡ row) × (length row ≤ length text)
 row_taken text row rest first =
     let more = row_and_more text row rest first in
-    let size = ap length more.1 ∙ length-append row more.0 in
-    (ap (take (length row)) more.1 ∙ take-append_seam row more.0, omega arith)
+    grind (arith, take-append_seam, length-append)
 
 -- the rows of the text are its first row and the rows of the rest
 pub row_split : (text row rest : List ℕ) → IsFirstLine text row rest → lines_in text ≡ take (length row) text ∷ lines_in rest
@@ -32,8 +28,6 @@ row_split text row rest first = first_lines text row rest first ∙ ap (λ r. r 
 pub next_row : {A : Type 0} (xs : List A) (n : ℕ) (x : A) (rest : List A) → drop n xs ≡ x ∷ rest
     → (n < length xs) × (take (n + 1) xs ≡ take n xs ++ x ∷ []) × (drop (n + 1) xs ≡ rest)
 next_row xs n x rest e =
-    let inside : n < length xs = ⊎_elim (λ h. h) (λ past. absurd (let none : [] ≡ x ∷ rest = sym (drop_all n xs past) ∙ e in cc)) (cases_lt n (length xs)) in
+    let inside : n < length xs = grind (arith, drop_all, cases_lt) in
     let both : x ∷ rest ≡ get_or xs n x ∷ drop (n + 1) xs = sym e ∙ drop_more xs n x inside in
-    let head : get_or xs n x ≡ x = cc in
-    let tail : drop (n + 1) xs ≡ rest = cc in
-    (inside, take_more xs n x inside ∙ ap (λ y. take n xs ++ y ∷ []) head, tail)
+    grind (arith, take_more)

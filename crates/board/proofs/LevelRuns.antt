@@ -29,18 +29,11 @@ pub record IsRunSoFar (text rest : List ℕ) (width height : ℕ) : Type 0 where
   pub few : height ≤ length run
 
 pub run_none : (text : List ℕ) → IsRunSoFar text text 0 0
-run_none text = record {
-  run = [];
-  cut = cut_none text;
-  board = rw lines_in-nil (All-nil IsBoardLine);
-  width_is = sym (ap width_of lines_in-nil);
-  height_is = sym (ap length lines_in-nil);
-  few = omega arith;
-}
+run_none text = grind (arith, cut_none, lines_in-nil)
 
 width_push : (rows : List (List ℕ)) (row : List ℕ) → width_of (rows ++ row ∷ []) ≡ max (length row) (width_of rows)
 width_push [] row = refl
-width_push (r ∷ rows) row = let inner = width_push rows row in omega arith
+width_push (r ∷ rows) row = grind (arith, width_push rows row)
 
 -- One more board line makes the run so far longer.
 pub run_more : (text rest row after : List ℕ) (width height : ℕ) → IsRunSoFar text rest width height → IsFirstLine rest row after → IsBoardLine row
@@ -56,7 +49,7 @@ run_more text rest row after width height so_far first is =
       board = rw rows (All-push IsBoardLine (lines_in run) row so_far.board is);
       width_is = ap (max (length row)) so_far.width_is ∙ sym (width_push (lines_in run) row) ∙ ap width_of (sym rows);
       height_is = ap (λ n. n + 1) so_far.height_is ∙ sym (length-append (lines_in run) (row ∷ [])) ∙ ap length (sym rows);
-      few = let few = so_far.few in omega (arith, first_some rest row after first, length-append run first.ended);
+      few = omega (arith, first_some rest row after first, length-append run first.ended);
     }
 
 module _ (text rest : List ℕ) (width height : ℕ) (so_far : IsRunSoFar text rest width height) where
@@ -81,17 +74,10 @@ module _ (text rest : List ℕ) (width height : ℕ) (so_far : IsRunSoFar text r
 
   -- If nothing is left of the text, the run is the whole text.
   pub run_whole : length rest ≡ 0 → so_far.run ≡ text
-  run_whole none = sym (so_far.cut.parts ∙ ap (λ l. so_far.run ++ l) (nil_from_length rest none) ∙ append-nil so_far.run)
+  run_whole none = grind (arith, nil_from_length, append-nil)
 
   pub cut_at_end : length rest ≡ 0 → IsCut text so_far.run rest
-  cut_at_end none = record {
-    between = [];
-    whole = cut_lines_in text so_far.run rest so_far.cut;
-    board = so_far.board;
-    text_between = All-nil IsText;
-    ends = λ _. none;
-    shorter = λ some. omega arith;
-  }
+  cut_at_end none = grind (arith, cut_lines_in)
 
 -- ---- the levels of what is cut
 -- lines of text in front of other lines don't change their levels
@@ -113,19 +99,19 @@ after_text before lines (rows ∷ levels) text (after, first, others) = (
 -- a run is one level more in front of lines that don't go on with it
 pub after_run : (rows lines : List (List ℕ)) (levels : List (List (List ℕ))) → IsRun rows → EndsRun lines → AreLevelsOf levels lines
     → AreLevelsOf (rows ∷ levels) (rows ++ lines)
-after_run rows lines levels run ends are = (lines, record { before = []; whole = refl; text = All-nil IsText; run = run; longest = ends }, are)
+after_run rows lines levels run ends are = grind arith
 
 -- lines of text, or nothing at all, end a run
 ends_run : (between after : List (List ℕ)) → All IsText between → (length between ≡ 0 → length after ≡ 0) → EndsRun (between ++ after)
 ends_run [] [] text none = tt
-ends_run [] (line ∷ after) text none = let no = none refl in absurd (omega arith)
+ends_run [] (line ∷ after) text none = grind arith
 ends_run (line ∷ between) after text none = All-head IsText line between text
 
 nothing_after : (between : List (List ℕ)) (after : List ℕ) → (length between ≡ 0 → length after ≡ 0) → length between ≡ 0 → length (lines_in after) ≡ 0
-nothing_after between after ends none = ap length (ap lines_in (nil_from_length after (ends none)) ∙ lines_in-nil)
+nothing_after between after ends none = grind (arith, nil_from_length, lines_in-nil)
 
 pub is_run : (bs run after : List ℕ) → IsCut bs run after → 0 < length run → IsRun (lines_in run)
-is_run bs run after cut some = record { some = some_lines run some; board = cut.board }
+is_run bs run after cut some = search (some_lines)
 
 -- a run that has a line is the first level
 pub levels_with_run : (bs run after : List ℕ) (levels : List (List (List ℕ))) → IsCut bs run after → 0 < length run → AreLevelsOf levels (lines_in after)
@@ -141,12 +127,11 @@ pub levels_without_run : (bs run after : List ℕ) (levels : List (List (List �
     → AreLevelsOf levels (lines_in bs)
 levels_without_run bs run after levels cut none are =
     let no_run : lines_in run ≡ [] = ap lines_in (nil_from_length run none) ∙ lines_in-nil in
-    subst (AreLevelsOf levels) (sym (cut.whole ∙ ap (λ l. l ++ (cut.between ++ lines_in after)) no_run))
-    (after_text cut.between (lines_in after) levels cut.text_between are)
+    grind (arith, no_run, after_text)
 
 -- ---- each list of lines has its levels
 one_run : (line : List ℕ) → IsBoardLine line → IsRun (line ∷ [])
-one_run line board = record { some = omega arith; board = All-cons IsBoardLine line [] board (All-nil IsBoardLine) }
+one_run line board = grind arith
 
 ends_at_text : (lines : List (List ℕ)) → All IsText lines → EndsRun lines
 ends_at_text [] text = tt
@@ -190,7 +175,7 @@ some_levels (line ∷ lines) = let rest = some_levels lines in with_line line li
 
 -- ---- and has them once
 clash : {G : Type 0} (line : List ℕ) → IsBoardLine line → IsText line → G
-clash line board text = absurd (false≢true (sym text ∙ board))
+clash line board text = grind (arith, false≢true)
 
 same_run : (rows rows' after after' : List (List ℕ)) → rows ++ after ≡ rows' ++ after' → All IsBoardLine rows → All IsBoardLine rows' → EndsRun after
     → EndsRun after' → (rows ≡ rows') × (after ≡ after')
@@ -198,20 +183,17 @@ same_run [] [] after after' e board board' ends ends' = (refl, e)
 same_run [] (r ∷ rows') after after' e board board' ends ends' = clash r (All-head IsBoardLine r rows' board') (rw e at ends)
 same_run (r ∷ rows) [] after after' e board board' ends ends' = clash r (All-head IsBoardLine r rows board) (rw (← e) at ends')
 same_run (r ∷ rows) (r' ∷ rows') after after' e board board' ends ends' =
-    let heads : r ≡ r' = cc in
     let tails : rows ++ after ≡ rows' ++ after' = cc in
-    let rest = same_run rows rows' after after' tails (All-tail IsBoardLine r rows board) (All-tail IsBoardLine r' rows' board') ends ends' in
-    let e0 = rest.0 in
-    (cc, rest.1)
+    grind (arith, same_run rows rows' after after' tails (All-tail IsBoardLine r rows board) (All-tail IsBoardLine r' rows' board') ends ends')
 
 same_first : (before before' rows rows' after after' : List (List ℕ)) → before ++ (rows ++ after) ≡ before' ++ (rows' ++ after') → All IsText before
     → All IsText before' → IsRun rows → IsRun rows' → EndsRun after → EndsRun after' → (rows ≡ rows') × (after ≡ after')
-same_first [] [] rows rows' after after' e text text' run run' ends ends' = same_run rows rows' after after' e run.board run'.board ends ends'
-same_first [] (t ∷ before') [] rows' after after' e text text' run run' ends ends' = absurd (let some = run.some in omega arith)
+same_first [] [] rows rows' after after' e text text' run run' ends ends' = grind (arith, same_run)
+same_first [] (t ∷ before') [] rows' after after' e text text' run run' ends ends' = grind arith
 same_first [] (t ∷ before') (r ∷ rows) rows' after after' e text text' run run' ends ends' =
     let heads : r ≡ t = cc in
     clash r (All-head IsBoardLine r rows run.board) (rw heads (All-head IsText t before' text'))
-same_first (t ∷ before) [] rows [] after after' e text text' run run' ends ends' = absurd (let some = run'.some in omega arith)
+same_first (t ∷ before) [] rows [] after after' e text text' run run' ends ends' = grind arith
 same_first (t ∷ before) [] rows (r ∷ rows') after after' e text text' run run' ends ends' =
     let heads : t ≡ r = cc in
     clash r (All-head IsBoardLine r rows' run'.board) (rw heads at (All-head IsText t before text))
@@ -221,7 +203,7 @@ same_first (t ∷ before) (t' ∷ before') rows rows' after after' e text text' 
 
 -- text alone has no run
 no_run : {G : Type 0} (before rows after : List (List ℕ)) → All IsText (before ++ (rows ++ after)) → IsRun rows → G
-no_run [] [] after text run = absurd (let some = run.some in omega arith)
+no_run [] [] after text run = grind arith
 no_run [] (r ∷ rows) after text run = clash r (All-head IsBoardLine r rows run.board) (All-head IsText r (rows ++ after) text)
 no_run (t ∷ before) rows after text run = no_run before rows after (All-tail IsText t (before ++ (rows ++ after)) text) run
 
@@ -233,9 +215,7 @@ one_list (rows ∷ levels) [] lines (after, first, rest) text = no_run first.bef
 one_list (rows ∷ levels) (rows' ∷ others) lines (after, first, rest) (after', first', rest') =
     let same = same_first first.before first'.before rows rows' after after'
     (sym first.whole ∙ first'.whole) first.text first'.text first.run first'.run first.longest first'.longest in
-    let tails = one_list levels others after rest (rw same.1 rest') in
-    let heads = same.0 in
-    cc
+    grind (arith, one_list levels others after rest (rw same.1 rest'))
 
 -- ---- the steps of the loop over a text
 pub some_bytes : (n : ℕ) → (n == 0) ≡ false → 0 < n

@@ -3,18 +3,18 @@
 -- players and boxes are no wall's, and none is both a player's and a box's. So whatever the rows are, the player and the boxes are
 -- on floor, and not in one cell. If the rows have one player, the set of players has one member, and what walks over the floor reach
 -- from it is the room. Two levels with the parts of the same rows are equal, since sets with the same members are.
-use Rattle.std.proofs.Common.{◌≡◌, ◌≢◌, ℕ, zero, suc, ◌-◌, ◌≤◌, true, false, cond, ◌||◌, ◌==◌, List, [], ◌∷◌, length, Option, Some, None, refl, sym, ◌∙◌}
+use Rattle.std.proofs.Common.{◌≡◌, ◌≢◌, ℕ, zero, suc, ◌-◌, ◌≤◌, true, false, cond, ◌==◌, List, [], ◌∷◌, length, Option, Some, None, refl, sym, ◌∙◌}
 use Rattle.std.proofs.Common.{ap, ⊎_elim, arith}
 use Rattle.std.specs.Prelude.{◌↔◌, All, MatchOption}
 use Rattle.std.proofs.lemmas.Bool.{cases_lt, false≢true, eqb-true, eq-eqb}
-use Rattle.std.proofs.lemmas.List.Elements.{All-nil, All-cons, All-head, All-weaker, All-get_or}
+use Rattle.std.proofs.lemmas.List.Elements.{All-head, All-get_or}
 use Rattle.std.specs.FinSet as set
-use Rattle.std.specs.FinSet.{contains, contains-empty, empty_of_len, len-remove, len-empty}
+use Rattle.std.specs.FinSet.{contains-empty, empty_of_len, len-remove, len-empty}
 use Rattle.cellset.specs.Shape.{Extent, HasSides}
 use Rattle.cellset.specs.Cell.{IsOn, cell_at, cell_cmp, neighbor}
 use Rattle.cellset.specs.CellSet.{Cells, Has, IsFirstFrom, only}
 use Rattle.cellset.specs.declared.cell.Cell.{Cell}
-use Rattle.cellset.proofs.Members.{cells_total, same_cells, has_or_lacks, same, same_itself, same_or_other, inserted, kept_by_remove, has_empty, has_only}
+use Rattle.cellset.proofs.Members.{cells_total, same_cells, has_or_lacks, same_itself, same_or_other, inserted, kept_by_remove, has_empty, has_only}
 use Rattle.cellset.proofs.Members.{lacks_only}
 use Rattle.cellset.proofs.ReadingOrder.{none_past}
 use Rattle.reach.specs.Reached.{Reached, WalksTo}
@@ -31,22 +31,20 @@ use Rattle.board.specs.Legal.{ArePartsOf}
 use Rattle.board.proofs.Drawing.{nth-nil, nth_past}
 
 pub all_within_width : (rows : List (List ℕ)) → All (λ row. length row ≤ width_of rows) rows
-all_within_width [] = All-nil (λ row. length row ≤ 0)
-all_within_width (row ∷ rows) =
-    All-cons (λ r. length r ≤ width_of (row ∷ rows)) row rows (omega arith)
-    (All-weaker (λ r. length r ≤ width_of rows) (λ r. length r ≤ width_of (row ∷ rows)) (λ r h. omega arith) rows (all_within_width rows))
+all_within_width [] = grind arith
+all_within_width (row ∷ rows) = grind (arith, all_within_width rows)
 
 has_bytes : (line : List ℕ) → IsBoardLine line → 1 ≤ length line
 has_bytes [] board = absurd (false≢true board)
 has_bytes (b ∷ line) board = omega arith
 
 pub run_sides : (rows : List (List ℕ)) → IsRun rows → (1 ≤ width_of rows) × (1 ≤ length rows)
-run_sides [] run = absurd (let some = run.some in omega arith)
+run_sides [] run = search
 run_sides (row ∷ rows) run = let first = has_bytes row (All-head IsBoardLine row rows run.board) in (omega arith, omega arith)
 
 -- off the rows there are only spaces
 on_rows : (rows : List (List ℕ)) (row column : ℕ) → nth (nth rows row []) column space ≢ space → IsOn (extent_of rows) (cell_at column row)
-on_rows rows zero column some = absurd (some (nth-nil column space))
+on_rows rows zero column some = search (nth-nil)
 on_rows rows (suc k) zero some = absurd (some refl)
 on_rows rows (suc k) (suc j) some = record {
   top = omega arith;
@@ -68,9 +66,7 @@ on_grid rows c some = on_rows rows c.row c.column some
 -- ---- characters
 -- what holds of two characters holds of a byte that is one of them
 one_of_two : (x y b : ℕ) (P : ℕ → Type 0) → is_one_of (x ∷ y ∷ []) b ≡ true → P x → P y → P b
-one_of_two x y b P is at_x at_y = or_cases (b == x) ((b == y) || false) is
-    (λ e. rw (eqb-true b x e) at_x)
-    (λ later. or_cases (b == y) false later (λ e. rw (eqb-true b y e) at_y) (λ no. absurd (false≢true no)))
+one_of_two x y b P is at_x at_y = grind (arith, or_cases, eqb-true, false≢true)
 
 -- the byte is no wall and no space
 pub record IsApart (b : ℕ) : Type 0 where
@@ -79,18 +75,16 @@ pub record IsApart (b : ℕ) : Type 0 where
 
 -- two bytes that compare as different differ
 other_code : (a b : ℕ) → (a == b) ≡ false → a ≢ b
-other_code a b e is = false≢true (sym e ∙ eq-eqb a b is)
+other_code a b e is = grind (arith, false≢true, eq-eqb)
 
 pub box_apart : (b : ℕ) → is_box b ≡ true → IsApart b
-box_apart b is = one_of_two 36 42 b IsApart is (record { no_wall = refl; no_floor = other_code 36 32 refl })
-    (record { no_wall = refl; no_floor = other_code 42 32 refl })
+box_apart b is = grind (arith, one_of_two, other_code)
 
 pub player_apart : (b : ℕ) → is_player b ≡ true → IsApart b
-player_apart b is = one_of_two 64 43 b IsApart is (record { no_wall = refl; no_floor = other_code 64 32 refl })
-    (record { no_wall = refl; no_floor = other_code 43 32 refl })
+player_apart b is = grind (arith, one_of_two, other_code)
 
 pub player_no_box : (b : ℕ) → is_player b ≡ true → is_box b ≡ false
-player_no_box b is = one_of_two 64 43 b (λ x. is_box x ≡ false) is refl refl
+player_no_box b is = grind (arith, one_of_two)
 
 -- ---- the one member of a set
 other_member : (s : Cells) (m q : Cell) → set.len s ≡ 1 → Has s m → Has s q → q ≢ m → ⊥
@@ -100,11 +94,7 @@ other_member s m q one has_m has_q other =
     has_empty q (rw (empty_of_len (set.remove s m) none) at (kept_by_remove s m q other has_q))
 
 pub is_only : (s : Cells) (m : Cell) → set.len s ≡ 1 → Has s m → s ≡ only m
-is_only s m one has = same_cells s (only m) (λ q. same_or_other q m
-    (λ here. ap (contains s) here ∙ has ∙ sym (ap (contains (only m)) here ∙ inserted set.empty m))
-    (λ other. has_or_lacks s q
-    (λ member. absurd (other_member s m q one has member (λ here. false≢true (sym other ∙ ap (λ x. same x m) here ∙ same_itself m))))
-    (λ lacks. lacks ∙ sym (lacks_only m q (λ here. false≢true (sym other ∙ ap (λ x. same x m) here ∙ same_itself m))))))
+is_only s m one has = grind (arith, same_cells, same_or_other, inserted, has_or_lacks, other_member, false≢true, same_itself, lacks_only)
 
 -- the first member of a set with one member is that member
 pub first_is_only : (shape : Extent) (s : Cells) (from : Cell) (r : Option Cell) → set.len s ≡ 1 → ((c : Cell) → Has s c → IsOn shape c)
@@ -114,7 +104,7 @@ first_is_only shape s from None one on corner at first =
     (λ q. has_or_lacks s q (λ has. absurd (none_past shape (Some from) (corner, at) q (on q has) (first q has)))
     (λ lacks. lacks ∙ sym (contains-empty cell_cmp q))) in
     let zero_len = ap set.len none ∙ len-empty cell_cmp in omega arith)
-first_is_only shape s from (Some m) one on corner at first = (one, is_only s m one first.0, on m first.0)
+first_is_only shape s from (Some m) one on corner at first = search (is_only)
 
 -- ---- the room
 joined_free : (F S : Cell → Type 0) (c : Cell) → Joined F S c → F c
@@ -130,14 +120,10 @@ pub record IsWalked (level : Level) : Type 0 where
   pub reached : (c : Cell) → Has level.room c ↔ Reached (WalksTo (Has floor)) (Has start) c
 
 room_is : (level : Level) → IsFloor level level.player → IsWalked level → (c : Cell) → Has level.room c ↔ Joined (IsFloor level) (λ seed. seed ≡ level.player) c
-room_is level on w c =
-    let joined = joined_is (IsFloor level) (λ seed. seed ≡ level.player) c in (
-      (λ has. joined.1 (walked_more _ _ _ _ (λ q. (w.floor_is q).0) (λ q h. let here = (w.start_is q).0 h in (here, rw here on)) c ((w.reached c).0 has))),
-      (λ chain. (w.reached c).1 (walked_more _ _ _ _ (λ q. (w.floor_is q).1) (λ q seed. (w.start_is q).1 seed.0) c (joined.0 chain))),
-    )
+room_is level on w c = grind (arith, joined_is, walked_more)
 
 floor_from : (rows : List (List ℕ)) (level : Level) → Draws rows level → (c : Cell) → IsApart (character_at rows c) → IsFloor level c
-floor_from rows level p c apart = (rw p.shape (on_grid rows c apart.no_floor), p.walls c ∙ apart.no_wall)
+floor_from rows level p c apart = grind (arith, on_grid)
 
 player_on : (rows : List (List ℕ)) (level : Level) → Draws rows level → IsFloor level level.player
 player_on rows level p = floor_from rows level p level.player (player_apart _ ((p.player level.player).1 refl))

@@ -1,28 +1,21 @@
 -- Why lines of text can be skipped by the bytes with which they begin.
 -- A line that doesn't begin with a character of boards is text. So the lines before the first line that begins with one are text, and if no
 -- line begins with one, all lines are text.
-use Rattle.std.proofs.Common.{ℕ, ◌&&◌, List, [], ◌∷◌, ◌++◌, length, take, drop, refl, sym, ◌∙◌, ap, arith, length-append, length-drop, append_assoc}
+use Rattle.std.proofs.Common.{ℕ, List, [], ◌∷◌, ◌++◌, length, take, drop, sym, ◌∙◌, ap, arith, length-append, length-drop, append_assoc}
 use Rattle.std.specs.Prelude.{All}
-use Rattle.std.specs.List.{list_any, list_all}
 use Rattle.std.proofs.lemmas.List.{append-nil, drop_all}
-use Rattle.std.proofs.lemmas.List.Elements.{All-nil, All-cons, All-append}
-use Rattle.std.proofs.Math.Bool.{and-false}
+use Rattle.std.proofs.lemmas.List.Elements.{All-nil, All-append}
 use Rattle.lines.specs.declared.search.Start.{Start}
 use Rattle.lines.specs.Lines.{lines_in}
-use Rattle.lines.specs.Starts.{AllBeginOutside, BeginsOutside, IsFirstStart}
+use Rattle.lines.specs.Starts.{AllBeginOutside, IsFirstStart}
 use Rattle.lines.proofs.Cuts.{cut_lines_in, lines_in-nil}
-use Rattle.board.specs.Characters.{is_wall, is_board_character}
+use Rattle.board.specs.Characters.{is_board_character}
 use Rattle.board.specs.Levels.{IsText}
 use Rattle.board.specs.Cut.{IsCut, IsPassed}
 
-outside_text : (line : List ℕ) → BeginsOutside is_board_character line → IsText line
-outside_text [] h = refl
-outside_text (b ∷ line) h =
-    ap (λ v. list_any is_wall (b ∷ line) && (v && list_all is_board_character line)) h ∙ and-false (list_any is_wall (b ∷ line))
-
 all_text : (lines : List (List ℕ)) → AllBeginOutside is_board_character lines → All IsText lines
 all_text [] h = All-nil IsText
-all_text (line ∷ lines) h = All-cons IsText line lines (outside_text line h.0) (all_text lines h.1)
+all_text (line ∷ lines) h = grind (arith, all_text lines h.1)
 
 pub passed_front : (text : List ℕ) (start : Start) → IsFirstStart is_board_character text start → IsPassed text (drop start.at text)
 passed_front text start first = record {
@@ -46,10 +39,9 @@ passed_all text others =
 pub cut_further : (text run after rest : List ℕ) → IsCut text run after → IsPassed after rest → IsCut text run rest
 cut_further text run after rest cut p = record {
   between = cut.between ++ p.between;
-  whole = cut.whole ∙ ap (λ l. lines_in run ++ (cut.between ++ l)) p.whole
-      ∙ ap (λ l. lines_in run ++ l) (sym (append_assoc cut.between p.between (lines_in rest)));
+  whole = grind (arith, append_assoc);
   board = cut.board;
   text_between = All-append IsText cut.between p.between cut.text_between p.text_between;
   ends = λ none. let fewer = p.no_longer in let all = cut.ends (omega (arith, length-append cut.between p.between)) in omega arith;
-  shorter = λ some. let fewer = p.no_longer in let less = cut.shorter some in omega arith;
+  shorter = λ some. omega arith;
 }

@@ -2,7 +2,7 @@
 -- A sketch has one cell for each character of a kind, so the sizes of its sets are the counts of the characters, and tests of the
 -- sizes are tests of legality. If the sides are no grid's, one is above the largest, since a level has a row, and each row a wall.
 -- Once the board has its parts, the level is legal unless its room is open.
-use Rattle.std.proofs.Common.{◌≡◌, ◌≢◌, ℕ, ◌≤◌, List, length, sym, ◌∙◌, subst, arith}
+use Rattle.std.proofs.Common.{◌≡◌, ◌≢◌, ℕ, ◌≤◌, List, length, sym, ◌∙◌, arith}
 use Rattle.std.specs.FinSet as set
 use Rattle.cellset.specs.Shape.{Extent, HasSides}
 use Rattle.cellset.specs.CellSet.{Cells, only}
@@ -32,43 +32,31 @@ pub record PassesTests (rows : List (List ℕ)) (shape : Extent) (walls goals bo
 -- if no grid has the sides of a run, the run doesn't fit a grid
 pub too_large : (rows : List (List ℕ)) (width height : ℕ) → IsRun rows → width ≡ width_of rows → height ≡ length rows → (HasSides width height → ⊥)
     → FitsGrid rows → ⊥
-too_large rows width height run wide high none fits =
-    let some = run_sides rows run in
-    none (record {
-      wide = omega arith;
-      not_too_wide = omega arith;
-      high = omega arith;
-      not_too_high =
-          omega arith;
-    })
+too_large rows width height run wide high none fits = grind (arith, run_sides)
 
 pub sides_of : (width height : ℕ) (shape : Extent) → HasSides width height → shape ≡ record { width = width; height = height }
     → HasSides shape.width shape.height
-sides_of width height shape sides e = subst (λ x. HasSides x.width x.height) (sym e) sides
+sides_of width height shape sides e = grind arith
 
 module _ (rows : List (List ℕ)) (shape : Extent) (walls goals boxes players room : Cells) (player : Cell)
     (r : PassesTests rows shape walls goals boxes players room player) where
   fits : FitsGrid rows
-  fits = subst (λ e. (e.width ≤ 255) × (e.height ≤ 255)) r.shape_is (r.sides.not_too_wide, r.sides.not_too_high)
+  fits = grind arith
 
   one_player : HasOnePlayer rows
   one_player = sym r.players_drawn.count ∙ r.one
 
   has_box : HasBox rows
-  has_box = let count = r.boxes_drawn.count in let some = r.some in omega arith
+  has_box = grind arith
 
   enough_goals : HasEnoughGoals rows
-  enough_goals = let boxes_count = r.boxes_drawn.count in let goals_count = r.goals_drawn.count in let enough =
-      r.enough in omega arith
+  enough_goals = grind arith
 
   parts_of : ArePartsOf rows (level_of shape walls goals boxes player room)
-  parts_of =
-      parts rows
-      (level_of shape walls goals boxes player room) players r.shape_is r.walls_drawn.shows r.goals_drawn.shows r.boxes_drawn.shows r.players_drawn.shows
-      r.is_player r.walked
+  parts_of = search (parts)
 
   pub formed_of : IsWellFormed (level_of shape walls goals boxes player room)
-  formed_of = formed rows (level_of shape walls goals boxes player room) r.sides parts_of
+  formed_of = search (formed, parts_of)
 
   pub legal_of : IsLegalUnlessOpen rows (level_of shape walls goals boxes player room)
-  legal_of = record { size = fits; player = one_player; box = has_box; goals = enough_goals; parts = parts_of }
+  legal_of = search (fits, one_player, has_box, enough_goals, parts, parts_of)

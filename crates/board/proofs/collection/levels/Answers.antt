@@ -2,7 +2,7 @@
 -- So it says nothing yet of the rest, and a turn only has to move one run from the rest to the levels found, or to drop an empty run
 -- (`LevelRuns.antt`). At the end the rest has no lines and no levels. If one level too many is met, take any levels of the rest, which
 -- exist: then the text has a list of levels that is too long.
-use Rattle.std.proofs.Common.{◌+◌, not, [], ◌∷◌, ◌++◌, vec_len, cond, sym, ◌∙◌, ap, arith, append_assoc, length-append}
+use Rattle.std.proofs.Common.{not, [], ◌∷◌, ◌++◌, cond, sym, ◌∙◌, ap, arith, append_assoc, length-append}
 use Rattle.std.proofs.lemmas.List.{append-nil, nil_from_length}
 use Rattle.std.proofs.lemmas.List.Elements.{All-nil}
 use Rattle.board.specs.Lines.{lines_in}
@@ -10,12 +10,6 @@ use Rattle.board.specs.Levels.{IsText}
 use Rattle.lines.proofs.Cuts.{lines_in-nil}
 use Rattle.board.proofs.LevelRuns.{levels_with_run, levels_without_run, is_run, some_levels, some_bytes, no_bytes}
 use Rattle.board.proofs.collection.levels.Goals as goal
-
-pub loop-rest-init : goal.loop-rest-init
-loop-rest-init c = record {
-  few = omega arith;
-  so_far = λ more are. rw c.new-found.ensures.items (rw c.after_mark-rest.ensures at are);
-}
 
 pub invariant_of-level : goal.invariant_of-level
 invariant_of-level c = (
@@ -27,11 +21,9 @@ invariant_of-level c = (
 pub loop-rest-preserved-else-is_err : goal.loop-rest-preserved-else-is_err
 loop-rest-preserved-else-is_err c =
     let run = c.cut_after_run-width.result.0.now in
-    let after = c.cut_after_run-width.result.2.now in
     let some = some_bytes _ (sym c.is_empty-in-loop-rest.ensures ∙ c.if-not-is_empty.true) in
     let pushed = c.is_err.ensures.negation ∙ ap not c.if-is_err.false in
     let items = c.push.ensures.items ∙ ap (λ b. cond b (c.loop-rest.found.items ++ lines_in run ∷ []) c.loop-rest.found.items) pushed in
-    let len = c.push.ensures.len ∙ ap (λ b. cond b (vec_len c.loop-rest.found + 1) (vec_len c.loop-rest.found)) pushed in
     record {
       few = omega arith;
       so_far = λ more are. rw (items, append_assoc) (c.loop-rest.invariant.so_far (lines_in run ∷ more)

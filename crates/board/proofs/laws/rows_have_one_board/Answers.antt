@@ -14,8 +14,7 @@ legal_not_refused rows level Size is refusal = refusal is.size
 legal_not_refused rows level Player is refusal = refusal.1 is.player
 legal_not_refused rows level Box is refusal = refusal.2 is.box
 legal_not_refused rows level Goals is refusal = refusal.3 is.goals
-legal_not_refused rows level Open is (size, player, box, goals, (other, parts, at_edge)) =
-    is.closed (rw (one_board rows other level parts is.parts) at at_edge)
+legal_not_refused rows level Open is (size, player, box, goals, (other, parts, at_edge)) = is.closed (rw (one_board rows other level parts is.parts) at at_edge)
 legal_not_refused rows level Memory is refusal = refusal
 
 -- Rows have at most one refusal, because each says that the conditions before it hold.
