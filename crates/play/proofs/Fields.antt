@@ -3,7 +3,7 @@
 -- A byte that is written belongs to a cell of the grid, so no other cell near the grid has its place, and the field shows the boxes with
 -- or without this one. A push writes two bytes. The field of a new level is drawn by lanes (`Lanes.antt`), first without boxes.
 use Rattle.std.proofs.Common.{◌≡◌, ◌≢◌, ◌⊎◌, ℕ, Bool, true, false, cond, not, ◌&&◌, ◌||◌, ◌+◌, ◌-◌, ◌*◌, ◌/◌, ◌%◌, ◌^◌, ◌≤◌, ◌<◌, List, length, min, set, get_or, length-set}
-use Rattle.std.proofs.Common.{refl, sym, ◌∙◌, ap, subst, inl, inr, arith}
+use Rattle.std.proofs.Common.{refl, sym, ◌∙◌, ap, inl, inr, arith}
 use Rattle.std.specs.Prelude.{◌↔◌}
 use Rattle.std.proofs.lemmas.List.{get_or-set_same, get_or-set_other}
 use Rattle.std.proofs.lemmas.Simd.{length-put_chunk, get_or-put_chunk_below, get_or-put_chunk_at}
@@ -13,7 +13,7 @@ use Rattle.cellset.specs.Shape.{Extent, HasSides}
 use Rattle.cellset.specs.Bits.{bit}
 use Rattle.cellset.specs.Cell.{neighbor, IsOn, cell_at, cell_cmp}
 use Rattle.cellset.specs.CellSet.{Cells, Has, Lacks}
-use Rattle.cellset.specs.RowBits.{row_cell, IsRowOf}
+use Rattle.cellset.specs.RowBits.{IsRowOf}
 use Rattle.cellset.specs.declared.cell.Cell.{Cell}
 use Rattle.cellset.specs.declared.dir.Dir.{Dir}
 use Rattle.cellset.specs.declared.dir.Dir.TheVariants.{L, U, R, D}
@@ -78,12 +78,9 @@ module _ (level : Level) (sides : HasSides level.shape.width level.shape.height)
     places = λ c near. let old = before.places c near in let long = length-set field (place_of q) byte in omega arith;
     shown = λ c near. same_or_other c q
         (λ e. rw (e, get_or-set_same field (place_of q) byte 0 (before.places q (near_on level.shape on))) here)
-        (λ f. rw (get_or-set_other field (place_of q) (place_of c) byte 0 (λ e. other c f (place_one level.shape sides near on e))) (still c (get_or field (place_of c) 0) (others c f) (before.shown c near)));
+        (λ f. grind (arith, get_or-set_other, place_one, other, still));
   }
     where
-      after : List ℕ
-      after = set field (place_of q) byte
-
       other : (c : Cell) → same c q ≡ false → c ≢ q
       other c f e = false≢true (sym f ∙ (ap (same c) (sym e) ∙ same_itself c))
 
@@ -137,15 +134,13 @@ module _ (level : Level) (formed : IsWellFormed level) where
       rows = let r = before.rows in let same = length-put_chunk n field bytes in omega arith
 
       room : n + length bytes ≤ length field
-      room = let r = before.rows in let l = are.len in omega arith
+      room = omega arith
 
       earlier : (i : ℕ) → i < n → get_or after i 0 ≡ get_or field i 0
       earlier i lt = get_or-put_chunk_below n field bytes i 0 lt
 
       here : (i : ℕ) → n ≤ i → i < n + 16 → get_or after i 0 ≡ get_or bytes (i - n) 0
-      here i low high =
-          let there : n + (i - n) ≡ i = omega arith in
-          ap (λ j. get_or after j 0) (sym there) ∙ get_or-put_chunk_at n field bytes (i - n) 0 (let l = are.len in omega arith) room
+      here i low high = grind (arith, get_or-put_chunk_at, room)
 
       drawn : (c : Cell) → IsNear level.shape c → place_of c < n + 16 → IsShown level cells.empty c (get_or after (place_of c) 0)
       drawn c near below = elim (cases_lt (place_of c) n) [
@@ -155,18 +150,11 @@ module _ (level : Level) (formed : IsWellFormed level) where
             let q = cell_at (column + k) row in
             rw (here (place_of c) from below) (on_or_off level.shape q
             (λ on.
-            let at = place_on level.shape formed.sides on in
-            let is = place_one level.shape formed.sides near on (omega arith) in
-            rw (← is) at (are.on k (omega arith) on))
+            grind (arith, place_on, place_one))
             (λ off. inr (inl (
               are.off k (omega arith) off,
               (λ floor.
-                  let at = place_on level.shape formed.sides floor.0 in
-                  let r = floor.0.right in let w = formed.sides.not_too_wide in
-                  let row_is : row ≡ c.row = omega arith in
-                  let column_is : column + k ≡ c.column = omega arith in
-                  let is : q ≡ c = λ i. cell_at (column_is i) (row_is i) in
-                  off (rw is floor.0)),
+                  grind (arith, place_on)),
               cells.contains-empty cell_cmp c,
             ))))
       ]
@@ -175,11 +163,7 @@ module _ (level : Level) (formed : IsWellFormed level) where
   module _ (row part word : ℕ) (floor : Cells) (is : (c : Cell) → Has floor c ↔ IsFloor level c) (row_is : IsRowOf floor row part word) where
     pub bytes_drawn : (s : ℕ) {left : ℕ} {bytes : List ℕ} → s + 16 ≤ 64 → left ≡ word / 2 ^ s → length bytes ≡ 16
         → ((k : ℕ) → k < 16 → get_or bytes k 0 ≡ cond (bit (left % 65536) k) FREE WALL) → AreBytesOf level row (64 * part + s) bytes
-    bytes_drawn s {left} {bytes} fits goes len lanes = record {
-      len = len;
-      on = λ k small _. (drawn k small).0;
-      off = λ k small not_on. (drawn k small).1 (λ on. not_on on.0);
-    }
+    bytes_drawn s {left} {bytes} fits goes len lanes = grind (arith, drawn)
       where
         shown_by : (q : Cell) (b : Bool) → cells.contains floor q ≡ b
             → IsShown level cells.empty q (cond b FREE WALL) × ((IsFloor level q → ⊥) → cond b FREE WALL ≡ WALL)
@@ -194,11 +178,7 @@ module _ (level : Level) (formed : IsWellFormed level) where
         drawn k small =
             let q = cell_at (64 * part + s + k) row in
             let there : 64 * part + (s + k) ≡ 64 * part + s + k = omega arith in
-            let same_cell : row_cell row part (s + k) ≡ q = λ i. cell_at (there i) row in
-            let bit_is : bit (left % 65536) k ≡ cells.contains floor q = low_bits left k small ∙ ap (λ w. bit w k) goes ∙ bit_down word s k
-            ∙ row_is (s + k) (omega arith) ∙ ap (cells.contains floor) same_cell in
-            subst (λ n. IsShown level cells.empty q n × ((IsFloor level q → ⊥) → n ≡ WALL)) (sym (lanes k small))
-            (shown_by q (bit (left % 65536) k) (sym bit_is))
+            grind (arith, low_bits, bit_down, shown_by)
 
   -- once all places are passed, all cells are drawn
   pub drawn_end : (field : List ℕ) → IsDrawnBelow level (256 * min (level.shape.height + 2) 256) field → IsFieldOf level cells.empty field

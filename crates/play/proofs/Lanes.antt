@@ -51,9 +51,7 @@ lanes floor k (suc n) = cond (picks floor k) FREE WALL ∷ lanes floor (suc k) n
 lane : (floor k n j : ℕ) → j < n → get_or (lanes floor k n) j 0 ≡ cond (bit floor (k + j)) FREE WALL
 lane floor k zero j lt = absurd (omega arith)
 lane floor k (suc n) zero lt = grind (arith, picked)
-lane floor k (suc n) (suc j) lt =
-    let same : suc k + j ≡ k + suc j = omega arith in
-    lane floor (suc k) n j (omega arith) ∙ ap (λ m. cond (bit floor m) FREE WALL) same
+lane floor k (suc n) (suc j) lt = grind (arith, lane floor (suc k) n j (omega arith))
 
 eight : (floor : ℕ) {j : ℕ} → j < 8 → get_or (lanes floor 0 8) j 0 ≡ cond (bit floor j) FREE WALL
 eight floor {j} lt =

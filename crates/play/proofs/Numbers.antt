@@ -2,9 +2,8 @@
 -- from a cell has the number of the last one exactly if the last push led to that cell.
 -- A push moves one box and keeps every number, and a walk moves none.
 use Rattle.std.proofs.Common.{◌≡◌, ℕ, zero, suc, ◌+◌, ◌≤◌, false, cond, None, Some, List, [], ◌∷◌, ◌++◌, length, refl, sym, ◌∙◌, ap}
-use Rattle.std.proofs.Common.{inl, inr, arith}
+use Rattle.std.proofs.Common.{arith}
 use Rattle.std.specs.Prelude.{map, slice_get, ◌==◌, if◌then◌else◌}
-use Rattle.std.specs.Option.{option_map}
 use Rattle.std.specs.List.{position_from}
 use Rattle.std.specs.Ordering.{eq_by_cmp}
 use Rattle.std.specs.FinSet as set
@@ -27,18 +26,15 @@ differs n last = if n == last then 0 else 1
 
 changes_from_push : (last : ℕ) (ns : List ℕ) (m n : ℕ) → changes_from last ((ns ++ m ∷ []) ++ n ∷ []) ≡ changes_from last (ns ++ m ∷ []) + differs n m
 changes_from_push last [] m n = omega arith
-changes_from_push last (x ∷ ns) m n = let rest = changes_from_push x ns m n in omega arith
+changes_from_push last (x ∷ ns) m n = grind (arith, changes_from_push x ns m n)
 
 pub changes_push : (ns : List ℕ) (m n : ℕ) → changes ((ns ++ m ∷ []) ++ n ∷ []) ≡ changes (ns ++ m ∷ []) + differs n m
 changes_push [] m n = omega arith
 changes_push (x ∷ ns) m n = grind (arith, changes_from_push)
 
-differs_one : (n m : ℕ) → differs n m ≤ 1
-differs_one n m = grind arith
-
 changes_from_few : (last : ℕ) (ns : List ℕ) → changes_from last ns ≤ length ns
 changes_from_few last [] = omega arith
-changes_from_few last (n ∷ ns) = let rest = changes_from_few n ns in let one = differs_one n last in omega arith
+changes_from_few last (n ∷ ns) = grind (arith, changes_from_few n ns)
 
 pub changes_few : (ns : List ℕ) → changes ns ≤ length ns
 changes_few [] = omega arith
@@ -50,14 +46,14 @@ position_from_none i [] none = refl
 position_from_none {c} i (x ∷ xs) none =
     same_or_other c x
     (λ e. absurd (none 0 (ap Some (sym e))))
-    (λ f. ap (λ b. cond b (Some i) (position_from (same c) (i + 1) xs)) f ∙ position_from_none (i + 1) xs (λ n is. none (suc n) is))
+    (λ f. grind (arith, position_from_none (i + 1) xs (λ n is. none (suc n) is)))
 
 position_from_some : {c : Cell} (i : ℕ) (xs : List Cell) (k : ℕ) → slice_get xs k ≡ Some c
     → (n : ℕ) × (slice_get xs n ≡ Some c) × (position_from (same c) i xs ≡ Some (i + n))
 position_from_some {c} i [] k is = absurd (none-some c is)
 position_from_some {c} i (x ∷ xs) k is =
     same_or_other c x
-    (λ e. (0, ap Some (sym e), ap (λ b. cond b (Some i) (position_from (same c) (i + 1) xs)) (ap (same c) (sym e) ∙ same_itself c) ∙ ap Some (omega arith)))
+    (λ e. grind (arith, same_itself))
     (λ f. let later = position_from_some (i + 1) xs (before k f is).0 (before k f is).1 in
     (suc later.0, later.1, ap (λ b. cond b (Some i) (position_from (same c) (i + 1) xs)) f ∙ (later.2 ∙ ap Some (omega arith))))
   where
@@ -78,7 +74,7 @@ abbrev goes : Cell → Cell → Cell → Cell
 goes from to b = if eq_by_cmp cell_cmp from b then to else b
 
 goes_there : {from : Cell} (to : Cell) {b : Cell} → from ≡ b → goes from to b ≡ to
-goes_there to e = grind (arith, same, same_itself)
+goes_there to e = grind (arith, same_itself)
 
 goes_nowhere : (from to : Cell) {b : Cell} → same from b ≡ false → goes from to b ≡ b
 goes_nowhere from to f = search
@@ -88,8 +84,7 @@ pub stepped_none : (boxes : List Cell) {c : Cell} (d : Dir) → ((n : ℕ) → s
 stepped_none [] d none = refl
 stepped_none (x ∷ xs) {c} d none =
     let first = goes_nowhere c (neighbor c d) (same_or_other c x (λ e. absurd (none 0 (ap Some (sym e)))) (λ f. f)) in
-    let rest = stepped_none xs d (λ n is. none (suc n) is) in
-    λ i. first i ∷ rest i
+    grind (arith, stepped_none xs d (λ n is. none (suc n) is))
 
 -- the box that a push moves is on the next cell afterwards
 pub stepped_there : (boxes : List Cell) {c : Cell} (d : Dir) (n : ℕ) → slice_get boxes n ≡ Some c → slice_get (stepped boxes c d) n ≡ Some (neighbor c d)
@@ -114,28 +109,10 @@ numbered_push {boxes} {s} c d numbered has free = record { each = each; all = al
         let (b, at, goes_to) = mapped boxes n is in
         same_or_other c b
         (λ e. rw (← (sym (goes_there to e) ∙ goes_to)) (inserted (set.remove s c) to))
-        (λ f. rw (sym (goes_nowhere c to {b = b} f) ∙ goes_to) at (kept_by_insert (set.remove s c) to b (kept_by_remove s c b (λ e. false≢true (sym f ∙ (ap (same c) e ∙ same_itself c))) (numbered.each n b at))))
+        (λ f. grind (arith, goes_nowhere, kept_by_insert, kept_by_remove, false≢true, same_itself))
 
     all : (q : Cell) → Has (moved s c to) q → (n : ℕ) × (slice_get (stepped boxes c d) n ≡ Some q)
-    all q h =
-        elim (has_insert (set.remove s c) to q h) [
-          | inl e ↦ let (n, at) = numbered.all c has in (n, stepped_there boxes d n at ∙ ap Some (sym e))
-          | inr rest ↦
-              let (other, old) = has_remove s c q rest in
-              let (n, at) = numbered.all q old in
-              (n, slice_get-map (goes c to) boxes n ∙ (ap (option_map (goes c to)) at ∙ ap Some (goes_nowhere c to (other_false c q (λ e. other (sym e))))))
-        ]
+    all q h = grind (arith, has_insert, stepped_there, has_remove, slice_get-map, goes_nowhere, other_false)
 
     apart : (n m : ℕ) (q : Cell) → slice_get (stepped boxes c d) n ≡ Some q → slice_get (stepped boxes c d) m ≡ Some q → n ≡ m
-    apart n m q x y =
-        let (a, at_n, goes_a) = mapped boxes n x in
-        let (b, at_m, goes_b) = mapped boxes m y in
-        same_or_other c a
-        (λ e. same_or_other c b
-        (λ f. numbered.apart n m c (at_n ∙ ap Some (sym e)) (at_m ∙ ap Some (sym f)))
-        (λ f. let here : to ≡ b = sym (goes_there to e) ∙ (goes_a ∙ (sym goes_b ∙ goes_nowhere c to f)) in
-        not_both s to (rw here (numbered.each m b at_m)) free))
-        (λ e. same_or_other c b
-        (λ f. let here : to ≡ a = sym (goes_there to f) ∙ (goes_b ∙ (sym goes_a ∙ goes_nowhere c to e)) in
-        not_both s to (rw here (numbered.each n a at_n)) free)
-        (λ f. numbered.apart n m q (at_n ∙ ap Some (sym (goes_nowhere c to e) ∙ goes_a)) (at_m ∙ ap Some (sym (goes_nowhere c to f) ∙ goes_b))))
+    apart n m q x y = grind (arith, mapped, same_or_other, goes_there, goes_nowhere, not_both)

@@ -3,7 +3,7 @@
 -- passed so far.
 -- The number is 0 exactly if every box is on a goal. A push takes a box out of the set of boxes and puts one in.
 use Rattle.std.proofs.Math.Bool.{and-false}
-use Rattle.std.proofs.Common.{◌≡◌, ◌≢◌, ℕ, ◌+◌, ◌-◌, ◌≤◌, List, [], ◌∷◌, ◌++◌, Bool, true, false, cond, not, ◌&&◌, ◌||◌, refl, sym, ◌∙◌, ap, arith}
+use Rattle.std.proofs.Common.{◌≡◌, ◌≢◌, ℕ, ◌+◌, ◌-◌, ◌≤◌, List, [], ◌∷◌, ◌++◌, Bool, true, false, not, ◌&&◌, ◌||◌, refl, sym, ◌∙◌, ap, arith}
 use Rattle.std.specs.List.{list_any, AllByRecursion}
 use Rattle.std.specs.List.Sorted.{IsStrictlySortedBy}
 use Rattle.std.specs.FinSet as set
@@ -31,9 +31,7 @@ some_in s c has none = false≢true (sym (ap (λ t. contains t c) (empty_of_len 
 len_less : (s : Cells) (c : Cell) → Has s c → set.len (set.remove s c) + 1 ≡ set.len s
 len_less s c has =
     let left = len-remove cells_total s c in
-    let counted = ap (λ b. cond b (set.len s - 1) (set.len s)) has in
-    let some = some_in s c has in
-    omega arith
+    grind (arith, some_in)
 
 -- ---- a push
 pub len_moved : (boxes : Cells) (from to : Cell) → Has boxes from → Lacks boxes to → set.len (moved boxes from to) ≡ set.len boxes
@@ -41,8 +39,7 @@ len_moved boxes from to has free =
     let less = len_less boxes from has in
     let lacks : Lacks (set.remove boxes from) to = lacks_where (set.remove boxes from) to (λ h. not_both boxes to (has_remove boxes from to h).1 free) in
     let more = len-insert cells_total (set.remove boxes from) to in
-    let counted = ap (λ b. cond b (set.len (set.remove boxes from)) (set.len (set.remove boxes from) + 1)) lacks in
-    omega arith
+    grind arith
 
 -- ---- no box off the goals
 module _ (goals : Cells) where
@@ -60,8 +57,7 @@ module _ (goals : Cells) where
       ∙ (off_has boxes c ∙ ((λ i. has i && not (lacks i)))))))
 
   pub none_off : (boxes : Cells) → ((c : Cell) → Has boxes c → Has goals c) → set.len (off boxes) ≡ 0
-  none_off boxes all =
-      ap set.len (same_cells (off boxes) set.empty (λ q. off_has boxes q ∙ (here q ∙ sym (contains-empty cell_cmp q)))) ∙ len-empty cell_cmp
+  none_off boxes all = ap set.len (same_cells (off boxes) set.empty (λ q. off_has boxes q ∙ (here q ∙ sym (contains-empty cell_cmp q)))) ∙ len-empty cell_cmp
     where
       here : (q : Cell) → (contains boxes q && not (contains goals q)) ≡ false
       here q = has_or_lacks boxes q (λ has. ap (λ b. contains boxes q && not b) (all q has) ∙ and-false (contains boxes q))
@@ -87,8 +83,7 @@ module _ (boxes seen : Cells) (m : Cell) where
   -- with one goal more and no box on it, the boxes off the goals are the same
   without_none : Lacks boxes m → set.difference boxes (set.insert seen m) ≡ set.difference boxes seen
   without_none lacks = same_cells _ _ (λ q. more_has q ∙ (same_or_other q m
-      (λ e. let none : contains boxes q ≡ false = ap (contains boxes) e ∙ lacks in ap (λ b. b && not (same q m || contains seen q)) none
-      ∙ sym (ap (λ b. b && not (contains seen q)) none))
+      (λ e. grind (arith, same))
       (λ f. ap (λ b. contains boxes q && not (b || contains seen q)) f)
       ∙ sym (contains-difference cells_total boxes seen q)))
 

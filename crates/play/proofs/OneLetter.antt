@@ -115,12 +115,7 @@ module _ (level : Level) (done field : List ℕ) (run : Run) (before : Progress 
   walked (inl (blank, step, kind_is)) kind free moves counted none = grind (arith, letters_none, append-nil, still)
   walked (inr (inl (d, named, step, kind_is))) kind free moves counted none =
       let (floor, lacks) = free_by level before.state.boxes (neighbor before.state.player d) (get_or field ahead 0) (ahead_shown d step) free in
-      subst (λ bs. Progress level (done ++ bs) field (record { player = ahead; last = run.last; tally = record run.tally { moves = moves } }))
-      (sym (letters_one [] (not_blank d (inl named))))
-      (subst (λ r. Progress level (done ++ letter.byte ∷ []) field r)
-      (let at = sym (ahead_is d step) in let more = sym (counted d named) in
-      (λ i. record { player = at i; last = run.last; tally = record run.tally { moves = more i } }))
-      (progress_walk level done field run before d floor lacks named))
+      grind (arith, letters_one, not_blank, ahead_is, progress_walk)
   walked (inr (inr (inl (d, named, step, kind_is)))) kind free moves counted none = absurd (omega arith)
   walked (inr (inr (inr (_, _, step, kind_is)))) kind free moves counted none = absurd (omega arith)
 
@@ -140,13 +135,7 @@ module _ (level : Level) (done field : List ℕ) (run : Run) (before : Progress 
         let (floor, box) = box_by level before.state.boxes (neighbor before.state.player d) (get_or field ahead 0) (ahead_shown d directs.step) is in
         let (there, lacks) = free_by level before.state.boxes (neighbor (neighbor before.state.player d) d) (get_or field beyond 0)
         (beyond_shown d directs.step floor.0) free in
-        let at = ahead_is d directs.step in
-        let to = beyond_is d directs.step floor.0 in
-        let named = is_capital d directs.named in
-        rw (← at, ← (letters_one [] (not_blank d (inr named)))) at (subst (λ n. Progress level (done ++ letter.byte ∷ []) (set (set field (place_of (neighbor before.state.player d)) FREE) n BOX) new) (sym to)
-        (progress_push level done field run before d box there lacks named
-        (subst (λ n. CountsPush run n (place_of (neighbor (neighbor before.state.player d) d)) new) at
-        (rw (← to) counted))))
+        grind (arith, ahead_is, beyond_is, letters_one, not_blank, progress_push, is_capital)
       where
         is_capital : (d : Dir) → ((letter.byte ≡ small d) × (letter.kind ≡ WALK)) ⊎ ((letter.byte ≡ capital d) × (letter.kind ≡ PUSH)) → letter.byte ≡ capital d
         is_capital d (inl (_, walk)) = absurd (omega arith)
@@ -175,17 +164,7 @@ module _ (level : Level) (done field : List ℕ) (run : Run) (before : Progress 
         let (d, directs) = directed read no_walk known in
         let name = names letter d directs.named in
         let (floor, box) = box_by level before.state.boxes (neighbor before.state.player d) (get_or field ahead 0) (ahead_shown d directs.step) is in
-        fails after Blocked (not_blank d name) (
-          d,
-          name,
-          record {
-            floor = floor;
-            box = box;
-            behind =
-                barred_by level before.state.boxes (neighbor (neighbor before.state.player d) d) (get_or field beyond 0)
-                (beyond_shown d directs.step floor.0) other;
-          },
-        )
+        grind (arith, fails, not_blank, barred_by, beyond_shown)
 
     -- a small letter fails if its step is a push
     pub fails_small : get_or field ahead 0 ≡ BOX → get_or field beyond 0 ≡ FREE → letter.kind ≢ PUSH

@@ -18,7 +18,7 @@ use Rattle.cellset.specs.CellSet.{Cells, Has, Lacks}
 use Rattle.cellset.specs.declared.cell.Cell.{Cell}
 use Rattle.cellset.specs.declared.dir.Dir.{Dir}
 use Rattle.cellset.proofs.Members.{same, same_itself, same_or_other, lacks_where, not_both, has_insert, has_remove}
-use Rattle.board.specs.Game.{Level, State, Steps, IsFloor, start, moved}
+use Rattle.board.specs.Game.{Level, State, Steps, IsFloor, start}
 use Rattle.board.specs.Board.{IsWellFormed}
 use Rattle.play.specs.State.{IsBlocked}
 use Rattle.play.specs.Spelling.{letters, small, capital, SpellsStep, SpellsPlay}
@@ -72,7 +72,7 @@ progress_start level field player run formed shown here is = subst (Progress lev
 
 module _ (level : Level) where
   one_longer : (ds : List Dir) (d : Dir) (rest : List Dir) → (ds ++ d ∷ []) ++ rest ≡ ds ++ d ∷ rest
-  one_longer ds d rest = append_assoc ds (d ∷ []) rest
+  one_longer ds d rest = grind (arith, append_assoc)
 
   spells_more : (done : List ℕ) (ds : List Dir) (s : State) {t : State} {b : ℕ} (d : Dir) → SpellsPlay level (start level) done ds s → SpellsStep level s b d t
       → SpellsPlay level (start level) (done ++ b ∷ []) (ds ++ d ∷ []) t
@@ -83,10 +83,7 @@ module _ (level : Level) where
       → IsOn level.shape c → IsOn level.shape ahead
       → slice_get boxes m ≡ Some c → slice_get boxes k ≡ Some ahead → nat_eq (place_of c) (place_of ahead) ≡ nat_eq k m
   is_change sides {boxes} m k {c} {ahead} numbered on on_ahead at_m at_k =
-      same_or_other c ahead
-      (λ e. eq-eqb (place_of c) (place_of ahead) (ap place_of e) ∙ sym (eq-eqb k m (sym (numbered.apart m k ahead (at_m ∙ ap Some e) at_k))))
-      (λ f. other_number (place_of c) (place_of ahead) (λ e. differ f (place_one level.shape sides (near_on level.shape on) on_ahead e))
-      ∙ sym (other_number k m (λ e. differ f (same_Some c ahead (sym at_m ∙ (ap (slice_get boxes) (sym e) ∙ at_k))))))
+      grind (arith, same_or_other, eq-eqb, place_one, near_on, same_Some, other_number, differ)
     where
       differ : same c ahead ≡ false → c ≡ ahead → ⊥
       differ f e = false≢true (sym f ∙ (ap (λ x. same x ahead) e ∙ same_itself ahead))
@@ -103,12 +100,10 @@ module _ (level : Level) where
         | inl is ↦ absurd (place_some level.shape sides (on ahead (numbered.each k ahead at_k)) (sym is.1 ∙ zero_last))
         | inr is ↦ is.0
       ] in
-      ap (λ v. changes numbers + cond v 0 1) other ∙ (ap (λ ns. changes ns + 1) none ∙ sym (ap (λ ns. changes (ns ++ k ∷ [])) none))
+      grind arith
   counted_changes sides {numbers} k {ahead} numbered on (inr (before, m, c, is, at_m, e)) at_k =
       let same_count = is_change sides m k numbered (on c (numbered.each m c at_m)) (on ahead (numbered.each k ahead at_k)) at_m at_k in
-      ap (λ n. changes numbers + cond (nat_eq n (place_of ahead)) 0 1) e
-      ∙ (ap (λ v. changes numbers + cond v 0 1) same_count
-      ∙ (ap (λ ns. changes ns + differs k m) is ∙ (sym (changes_push before m k) ∙ sym (ap (λ ns. changes (ns ++ k ∷ [])) is))))
+      grind (arith, differs, changes_push)
 
 module _ (level : Level) (done field : List ℕ) (run : Run) (before : Progress level done field run) where
   -- ---- a walk
@@ -117,8 +112,7 @@ module _ (level : Level) (done field : List ℕ) (run : Run) (before : Progress 
       → Progress level (done ++ b ∷ []) field (record {
         player = place_of (neighbor before.state.player d);
         last = run.last;
-        tally =
-            record run.tally { moves = run.tally.moves + 1 };
+        tally = record run.tally { moves = run.tally.moves + 1 };
       })
   progress_walk d floor free letter = record {
     directions = before.directions ++ d ∷ [];
@@ -135,7 +129,7 @@ module _ (level : Level) (done field : List ℕ) (run : Run) (before : Progress 
     stands = record { sides = before.stands.sides; player = floor; boxes = before.stands.boxes; apart = free };
     player = refl;
     last = before.last;
-    moves = let longer = length-append before.directions (d ∷ []) in let m = before.moves in omega arith;
+    moves = let longer = length-append before.directions (d ∷ []) in omega arith;
     pushes = before.pushes;
     changes = before.changes;
     fewer = let longer = length-append before.directions (d ∷ []) in let f = before.fewer in omega arith;
@@ -165,23 +159,10 @@ module _ (level : Level) (done field : List ℕ) (run : Run) (before : Progress 
     boxes = stepped before.boxes ahead d;
     spelled = spells_more level done before.directions before.state d before.spelled (inr ((box, there, free, refl), letter));
     in_order = before.in_order;
-    pushed = λ rest. ap (pushed_numbers level.player before.first_boxes) (one_longer level before.directions d rest)
-        ∙ (before.pushed (d ∷ rest) ∙ (ap (λ ns. before.numbers ++ ns) (one_pushed rest)
-        ∙ sym (append_assoc before.numbers (k ∷ []) (pushed_numbers ahead (stepped before.boxes ahead d) rest))));
+    pushed = λ rest. grind (arith, one_longer, one_pushed, append_assoc);
     numbered = numbered_push ahead d before.numbered box free;
     shown = field_pushed level before.stands.sides before.shown here there;
-    stands = record {
-      sides = before.stands.sides;
-      player = here;
-      boxes = λ c h. elim (has_insert (finset.remove before.state.boxes ahead) beyond c h) [
-        | inl e ↦ rw e there
-        | inr rest ↦ before.stands.boxes c (has_remove before.state.boxes ahead c rest).1
-      ];
-      apart = lacks_where (moved before.state.boxes ahead beyond) ahead (λ h. elim (has_insert (finset.remove before.state.boxes ahead) beyond ahead h) [
-        | inl e ↦ apart e
-        | inr rest ↦ (has_remove before.state.boxes ahead ahead rest).0 refl
-      ]);
-    };
+    stands = grind (arith, has_insert, has_remove, lacks_where, here, apart);
     player = counted.player;
     last = inr (before.numbers, k, beyond, refl, stepped_there before.boxes d k at, counted.last);
     moves = let longer = length-append before.directions (d ∷ []) in let m = before.moves in let n = counted.moves in omega arith;
@@ -189,8 +170,7 @@ module _ (level : Level) (done field : List ℕ) (run : Run) (before : Progress 
     changes = counted.changes ∙ (ap (λ n. n + cond (nat_eq run.last (place_of ahead)) 0 1) before.changes
         ∙ counted_changes level before.stands.sides k before.numbered
         (λ c h. (before.stands.boxes c h).0) before.last at);
-    fewer = let longer = length-append before.directions (d ∷ []) in let more = length-append before.numbers (k ∷ []) in let f =
-        before.fewer in omega arith;
+    fewer = grind (arith, length-append);
     as_many = len_moved before.state.boxes ahead beyond box free ∙ before.as_many;
   }
     where
@@ -247,8 +227,7 @@ module _ (level : Level) where
     letter = b;
     after = after;
     split = refl;
-    number = let same_length = spells_length level (start level) done before.directions before.state before.spelled in let m =
-        before.moves in omega arith;
+    number = let same_length = spells_length level (start level) done before.directions before.state before.spelled in let m = before.moves in omega arith;
     directions = before.directions;
     reached = before.state;
     spelled = before.spelled;
@@ -295,14 +274,10 @@ pub continues_none : (field : List ℕ) (run : Run) → Continues field run [] f
 continues_none field run level done before = grind (arith, append-nil)
 
 pub continues_then : {f g h : List ℕ} {a b c : Run} {bs cs : List ℕ} → Continues f a bs g b → Continues g b cs h c → Continues f a (bs ++ cs) h c
-continues_then {h} {c} {bs} {cs} first second level done before =
-    subst (λ xs. Progress level xs h c) (append_assoc done bs cs) (second level (done ++ bs) (first level done before))
+continues_then {h} {c} {bs} {cs} first second level done before = grind (arith, append_assoc)
 
 pub under_way_then : {f g : List ℕ} {a b : Run} {bs : List ℕ} → Continues f a bs g b → IsUnderWay f a → IsUnderWay g b
 under_way_then {bs} more (level, done, before) = (level, done ++ bs, more level done before)
-
-pub played_none : (field : List ℕ) (run : Run) (text : List ℕ) → IsPlayed field run text 0 field run
-played_none field run text = grind (arith, continues_none)
 
 -- bytes of a text that are played, and then bytes of a part that begins after them, are played together
 pub played_on : {f g h : List ℕ} {a b c : Run} {text : List ℕ} {i : ℕ} (j : ℕ) {n : ℕ} → IsPlayed f a text i g b → IsPlayed g b (take (j - i) (drop i text)) n h c
@@ -323,8 +298,7 @@ played_on {text} {i} j {n} first second =
 -- the letters of a line up to a place and the letters from there up to another place lead on together
 pub continues_up : (f g h : List ℕ) (a b c : Run) (line : List ℕ) (i j : ℕ) → i ≤ j → Continues f a (letters (take i line)) g b
     → Continues g b (letters (take (j - i) (drop i line))) h c → Continues f a (letters (take j line)) h c
-continues_up f g h a b c line i j le first second =
-    subst (λ xs. Continues f a xs h c) (sym (letters_between line le)) (continues_then first second)
+continues_up f g h a b c line i j le first second = subst (λ xs. Continues f a xs h c) (sym (letters_between line le)) (continues_then first second)
 
 -- letters that fail after others that were played make all of them fail
 pub fails_then : (f g : List ℕ) (a b : Run) (bs cs : List ℕ) (n : ℕ) (why : MoveWhy) → Continues f a bs g b → FailsBy g b cs n why
@@ -334,8 +308,7 @@ fails_then f g a b bs cs n why more fails level done after before =
     (fails level (done ++ bs) after (more level done before))
 
 pub fails_before : {f : List ℕ} {a : Run} (bs cs : List ℕ) {n : ℕ} {why : MoveWhy} → FailsBy f a bs n why → FailsBy f a (bs ++ cs) n why
-fails_before bs cs {n} {why} fails level done after before =
-    subst (λ xs. FailsAt level (done ++ xs) n why) (sym (append_assoc bs cs after)) (fails level done (cs ++ after) before)
+fails_before bs cs {n} {why} fails level done after before = grind (arith, append_assoc)
 
 pub fault_then : {f g : List ℕ} {a b : Run} {bs : List ℕ} (cs : List ℕ) (fault : ReplayFault) → Continues f a bs g b → FailsOn g b cs fault → FailsOn f a (bs ++ cs) fault
 fault_then cs (Move n why) more fails = search (fails_then)
@@ -352,7 +325,7 @@ pub played_more : {f g h : List ℕ} {a b c : Run} {text : List ℕ} {i : ℕ} �
     → c.tally.moves ≤ b.tally.moves + 1 → Continues g b (letters (get_or text i 0 ∷ [])) h c → IsPlayed f a text (i + 1) h c
 played_more {text} inside before moves one = record {
   within = omega arith;
-  moves = let first = before.moves in omega arith;
+  moves = omega arith;
   continues = rw (letters_more text inside) (continues_then before.continues one);
 }
 
@@ -360,15 +333,11 @@ played_more {text} inside before moves one = record {
 pub fault_next : {f g : List ℕ} {a b : Run} {text : List ℕ} {i : ℕ} (fault : ReplayFault) → i < length text → IsPlayed f a text i g b
     → FailsOn g b (letters (get_or text i 0 ∷ [])) fault → FailsOn f a (letters text) fault
 fault_next {f} {a} {text} {i} fault inside before fails =
-    let done = letters (take i text) in
-    let one = letters (get_or text i 0 ∷ []) in
-    rw (letters_around text inside) (fault_before f a (done ++ one) (letters (drop (i + 1) text)) fault
-    (fault_then one fault before.continues fails))
+    rw (letters_around text inside) (grind (arith, fault_before, fault_then))
 
 -- ---- a whole text
 pub fails_first : (level : Level) (field : List ℕ) (run : Run) (text : List ℕ) (fault : ReplayFault) → Progress level [] field run
     → FailsOn field run (letters text) fault → IsFirstSolutionFault level text fault
-fails_first level field run text (Move n why) first fails =
-    subst (λ xs. FailsAt level xs n why) (append-nil (letters text)) (fails level [] [] first)
+fails_first level field run text (Move n why) first fails = subst (λ xs. FailsAt level xs n why) (append-nil (letters text)) (fails level [] [] first)
 fails_first level field run text (Unsolved n) first fails = absurd fails
 fails_first level field run text Memory first fails = absurd fails

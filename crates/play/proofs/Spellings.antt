@@ -1,7 +1,7 @@
 -- A text spells at most one play. The eight letters differ, so a letter names one direction and says whether its step
 -- is a walk or a push, and each of these leads to one state only. So the letters of a text determine the directions and
 -- the last state, letter by letter. One text after another spells one play after another, and conversely.
-use Rattle.std.proofs.Common.{◌≡◌, ℕ, cond, nat_eq, ◌||◌, ◌≤◌, lit≤, suc, List, [], ◌∷◌, ◌++◌, length, refl, sym, ◌∙◌, ap, inl, inr, arith}
+use Rattle.std.proofs.Common.{◌≡◌, ℕ, cond, nat_eq, ◌||◌, ◌≤◌, lit≤, List, [], ◌∷◌, ◌++◌, length, refl, sym, ◌∙◌, inl, inr, arith}
 use Rattle.cellset.specs.Cell.{neighbor}
 use Rattle.cellset.specs.declared.dir.Dir.{Dir}
 use Rattle.cellset.specs.declared.dir.Dir.TheVariants.{L, U, R, D}
@@ -74,8 +74,7 @@ spells_alike level s (x ∷ bs) [] es t u a b = absurd a
 spells_alike level s (x ∷ bs) (d ∷ ds) [] t u a b = absurd b
 spells_alike level s (x ∷ bs) (d ∷ ds) (e ∷ es) t u (v, first, rest) (w, other, more) =
     let same = step_alike level s first other in
-    let tail = spells_alike level v bs ds es t u rest (rw same.1 more) in
-    ((λ i. same.0 i ∷ tail.0 i), tail.1)
+    grind (arith, spells_alike level v bs ds es t u rest (rw same.1 more))
 
 -- one text after another spells one play after another
 pub spells_join : (level : Level) (s : State) (bs : List ℕ) (ds : List Dir) (u : State) (cs : List ℕ) (es : List Dir) (t : State) → SpellsPlay level s bs ds u
@@ -83,7 +82,7 @@ pub spells_join : (level : Level) (s : State) (bs : List ℕ) (ds : List Dir) (u
 spells_join level s [] [] u cs es t a b = grind arith
 spells_join level s [] (d ∷ ds) u cs es t a b = absurd a
 spells_join level s (x ∷ bs) [] u cs es t a b = absurd a
-spells_join level s (x ∷ bs) (d ∷ ds) u cs es t (v, first, rest) b = (v, first, spells_join level v bs ds u cs es t rest b)
+spells_join level s (x ∷ bs) (d ∷ ds) u cs es t (v, first, rest) b = search (spells_join level v bs ds u cs es t rest b)
 
 -- the first letters of a text spell a play, and the rest spells another from there
 pub record Splits (level : Level) (s : State) (bs cs : List ℕ) (ds : List Dir) (t : State) : Type 0 where
@@ -105,7 +104,7 @@ pub spells_length : (level : Level) (s : State) (bs : List ℕ) (ds : List Dir) 
 spells_length level s [] [] t a = refl
 spells_length level s [] (d ∷ ds) t a = absurd a
 spells_length level s (x ∷ bs) [] t a = absurd a
-spells_length level s (x ∷ bs) (d ∷ ds) t (v, first, rest) = ap suc (spells_length level v bs ds t rest)
+spells_length level s (x ∷ bs) (d ∷ ds) t (v, first, rest) = search (spells_length level v bs ds t rest)
 
 pub step_steps : (level : Level) (s : State) {b : ℕ} (d : Dir) {t : State} → SpellsStep level s b d t → Steps level s d t
 step_steps level s d (inl (walk, x)) = inl walk
@@ -116,4 +115,4 @@ pub spells_plays : (level : Level) (s : State) (bs : List ℕ) (ds : List Dir) (
 spells_plays level s [] [] t a = a
 spells_plays level s [] (d ∷ ds) t a = absurd a
 spells_plays level s (x ∷ bs) [] t a = absurd a
-spells_plays level s (x ∷ bs) (d ∷ ds) t (v, first, rest) = (v, step_steps level s d first, spells_plays level v bs ds t rest)
+spells_plays level s (x ∷ bs) (d ∷ ds) t (v, first, rest) = search (step_steps, spells_plays level v bs ds t rest)

@@ -73,8 +73,7 @@ module _ (level : Level) (done field : List ℕ) (run : Run) (has_mask : HasMask
       let there : (run.player + 0) % 65536 ≡ (sum + e) % 65536 = omega arith in
       subst (λ n. Progress level (done ++ letters (b ∷ [])) field (led run n (m + (sum + e) / LETTER))) there
       (walked level done field run before letter (inl (blank, refl, refl)) refl
-      (ap (λ n. get_or field n 0) (sym (place_masked field has_mask (sum + e) _ there
-      (ahead_within level done field run before letter (inl (blank, refl, refl))))) ∙ free) (m + (sum + e) / LETTER)
+      (grind (arith, place_masked, ahead_within)) (m + (sum + e) / LETTER)
       (λ d named. absurd (false≢true (sym (not_blank d (inl named)) ∙ blank)))
       (λ _. omega arith))
   walked_one (inr (inl (d, named, is))) at moves low walk free =
@@ -108,7 +107,6 @@ walked_more {field} has_mask player group i sum met e few within adds before = r
   count = λ free walk. added_letters sum adds before.low below walk (before.count (parts free).0 (less walk));
   walks = λ free walk run at.
       let first = before.walks (parts free).0 (less walk) run at in
-      let low = before.low in
       rw (letters_more group within) (continues_then first
       (λ level done here. walked_one level done field (led run (sum % 65536)
       (run.tally.moves + sum / LETTER)) has_mask here b e sum run.tally.moves adds refl refl (omega arith) walk (parts free).1));
@@ -124,9 +122,7 @@ walked_more {field} has_mask player group i sum met e few within adds before = r
     less walk = omega arith
 
     parts : bit_or met (get_or field ((sum + e) % length field) 0) ≡ FREE → (met ≡ FREE) × (get_or field ((sum + e) % length field) 0 ≡ FREE)
-    parts free =
-        let next = get_or field ((sum + e) % length field) 0 in
-        let first = le_or_l met next in let second = le_or_r met next in (omega arith, omega arith)
+    parts free = grind (arith, le_or_l, le_or_r)
 
 pub walked_all : {field : List ℕ} {player : ℕ} {group : List ℕ} {i sum met n : ℕ} → length group ≤ i → met ≡ FREE → sum < NO_WALK → n ≡ sum / LETTER
     → i ≤ length group → IsWalked field player group i sum met → (n ≤ length group) × WalksOn field player (letters group) (sum % 65536) n

@@ -2,7 +2,7 @@
 -- letter can be the first that fails. If it doesn't, the letters before the first that fails spell a play. Two such
 -- places are equal, because past the first of them nothing is spelled, and the reasons are equal because they exclude
 -- each other. So apart from running out of memory, the text allows only one result.
-use Rattle.std.proofs.Common.{◌≡◌, ◌≢◌, ◌⊎◌, ℕ, ◌+◌, Result, Ok, Err, List, [], ◌∷◌, ◌++◌, length, append_assoc, refl, sym, ◌∙◌, ap, inl, inr, arith}
+use Rattle.std.proofs.Common.{◌≡◌, ◌≢◌, ◌⊎◌, ℕ, Result, Ok, Err, List, [], ◌∷◌, ◌++◌, append_assoc, refl, sym, ◌∙◌, ap, inl, inr, arith}
 use Rattle.std.specs.Prelude.{IfOk, IfErr}
 use Rattle.cellset.specs.declared.dir.Dir.{Dir}
 use Rattle.cellset.proofs.Places.{places}
@@ -47,8 +47,7 @@ module _ (level : Level) where
   not_both_walls (d, name, wall) (e, other, blocked) = grind (arith, names_one)
 
   no_wall_case : {G : Type 0} {s : State} {b : ℕ} → IsCause level s b Wall → IsCause level s b Case → G
-  no_wall_case {s} (d, name, wall) (e, t, wrong) =
-      absurd (wall.stuck t (rw (names_one (case_name s e wrong) name) at (case_step s e wrong)))
+  no_wall_case {s} (d, name, wall) (e, t, wrong) = absurd (wall.stuck t (rw (names_one (case_name s e wrong) name) at (case_step s e wrong)))
 
   no_blocked_case : {G : Type 0} {s : State} {b : ℕ} → IsCause level s b Blocked → IsCause level s b Case → G
   no_blocked_case (d, name, blocked) (e, t, wrong) = grind (arith, blocked_stuck, names_one, case_name, case_step)
@@ -86,11 +85,7 @@ module _ (level : Level) where
   fails_one all n m why other x y =
       places x.before y.before x.letter y.letter x.after y.after (sym x.split ∙ y.split)
       (λ e f.
-      let alike = spells_alike level (start level) y.before x.directions y.directions x.reached y.reached
-      (rw e at x.spelled) y.spelled in (
-        x.number ∙ (ap (λ bs. length bs + 1) e ∙ sym y.number),
-        cause_one y.reached y.letter why other (rw (alike.1, f) at x.cause) y.cause,
-      ))
+      grind (arith, spells_alike, cause_one))
       (λ zs e. no_longer all n why x zs y.directions y.reached (rw e at y.spelled))
       (λ zs e. no_longer all m other y zs x.directions x.reached
       (rw e at x.spelled))

@@ -2,8 +2,7 @@
 -- byte is in the field, and it is `BOX` exactly if a box is on the goal (`Fields.antt`). Then one box fewer is off the goals; otherwise
 -- their number stays the same (`OffGoals.antt`). In the end all goals are passed. The clause is about every set of boxes that the field
 -- shows, and so is the invariant; the precondition names one such set, for the bounds.
-use Rattle.std.proofs.Common.{rules, [], ◌<◌, length, get_or, sym, ◌∙◌, ap, subst}
-use Rattle.std.specs.FinSet.{len}
+use Rattle.std.proofs.Common.{rules, ◌<◌, length, get_or, sym, ◌∙◌, ap, subst}
 use Rattle.cellset.proofs.MemberLists.{next_has, next_came}
 use Rattle.play.specs.Field.{place_of}
 use Rattle.play.proofs.Places.{near_on}
@@ -70,10 +69,4 @@ returns g c = λ boxes shown many.
     counted_end level.shape level.goals boxes c.loop-goal.yielded whole (c.loop-goal.invariant.counted boxes shown many)
 
 pub loop-goal-init : goal.loop-goal-init
-loop-goal-init g c = record {
-  can_next = tt;
-  is_finite = tt;
-  all = search rules;
-  counted = λ boxes shown many. c.len-count.ensures ∙ (ap len c.boxes.ensures.members
-      ∙ (sym many ∙ counted_start c.args.board.now.shape c.args.board.now.goals boxes []));
-}
+loop-goal-init g c = search (rules, counted_start)

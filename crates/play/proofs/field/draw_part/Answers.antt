@@ -18,8 +18,6 @@ lanes-preserved g c =
     let part = c.args.part in
     let column = c.lanes.column in
     let kept = c.lanes.invariant in
-    let test = c.lanes-test.true in
-    let end = c.min-end.ensures in
     let s = column - 64 * part in
     let is_floor = c.floor_at-floor.ensures in
     let high : column + 16 ≤ 64 * part + 64 = let w = kept.whole in omega arith in
@@ -32,9 +30,9 @@ lanes-preserved g c =
     record {
       drawn =
           rw up at (drawn_next level formed row column c.bytes_of-bytes.result c.lanes.field
-          (let p = c.requires.part in omega arith) c.requires.row c.ranges.row.fits are kept.drawn);
+          (omega arith) c.requires.row c.ranges.row.fits are kept.drawn);
       whole = let w = kept.whole in omega arith;
-      from = let f = kept.from in omega arith;
+      from = omega arith;
       to = high;
       floor = ap (λ w. w / 65536) kept.floor ∙ shifted c.floor_at-floor.result s next;
     }

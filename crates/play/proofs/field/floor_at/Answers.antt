@@ -1,5 +1,5 @@
 -- Beyond the last row or column of the grid there is no floor, so no bit is set.
-use Rattle.std.proofs.Common.{ℕ, ◌∙◌, ap, arith}
+use Rattle.std.proofs.Common.{ℕ, arith}
 use Rattle.std.specs.Prelude.{◌↔◌}
 use Rattle.cellset.specs.CellSet.{Cells, Has}
 use Rattle.cellset.specs.RowBits.{row_cell, IsRowOf}
@@ -16,15 +16,9 @@ no_floor level floor row part is none k small = grind (arith, zero_bit, lacks_wh
 
 pub returns-then-row-height : goal.returns-then-row-height
 returns-then-row-height g c =
-    let level = c.args.board.now in
-    let shape = c.shape-shape.ensures.value in (
+    let level = c.args.board.now in (
       c.floor-floor.result.now.members,
       c.floor-floor.ensures.members,
       no_floor level c.floor-floor.result.now.members c.args.row c.args.part c.floor-floor.ensures.members (λ k floor.
-          elim c.then-row-height.branch [
-            | then-row-height-via-then-row-height w ↦
-                let high = c.height.ensures.value ∙ ap (λ e. e.height) shape in let b = floor.0.bottom in omega arith
-            | then-row-height-via-else-row-height+then-part-width w ↦
-                let wide = w.width.ensures.value ∙ ap (λ e. e.width) shape in let r = floor.0.right in omega arith
-          ]),
+          grind (arith, then-row-height-via-then-row-height, then-row-height-via-else-row-height+then-part-width)),
     )

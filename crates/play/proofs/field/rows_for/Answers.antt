@@ -1,4 +1,4 @@
-use Rattle.std.proofs.Common.{◌≡◌, ◌+◌, ◌*◌, ◌^◌, pow-add, sym, ◌∙◌, ap, inl, inr, arith}
+use Rattle.std.proofs.Common.{◌+◌, ◌*◌, pow-add, sym, ◌∙◌, ap, inl, inr, arith}
 use Rattle.std.proofs.lemmas.Bool.{cases_lt}
 use Rattle.play.proofs.field.rows_for.Goals as goal
 
@@ -7,8 +7,5 @@ loop-rows-preserved c =
     let (k, small, is) = c.loop-rows.invariant in
     elim (cases_lt k 8) [
       | inl less ↦ (k + 1, omega arith, ap (λ n. n * 2) is ∙ sym (pow-add 2 k 1))
-      | inr most ↦
-          let top : k ≡ 8 = omega arith in
-          let all = is ∙ ap (λ n. 2 ^ n) top in
-          absurd (omega arith)
+      | inr most ↦ grind arith
     ]

@@ -4,22 +4,17 @@
 -- isn't, so each turn plays a letter.
 use Rattle.std.proofs.Common.{take_all, arith}
 use Rattle.std.proofs.lemmas.Result.{err_from_is_err_and}
-use Rattle.play.proofs.Replays.{under_way_then, played_none, played_on, played_more, fault_next}
-use Rattle.play.proofs.solution.play_line.Goals.{then-small-test+else-line-at-ge97, else-small-test}
+use Rattle.play.proofs.Replays.{under_way_then, played_on, played_more, fault_next}
 use Rattle.play.proofs.solution.play_line.Goals as goal
 
 pub small-preserved : goal.small-preserved
 small-preserved c = (played_more (omega arith) c.small.invariant.0 c.in_ok-play_letter.ensures.moves c.in_ok-play_letter.ensures.ok, omega arith)
 
 pub others-preserved : goal.others-preserved
-others-preserved c =
-    (played_more (omega arith) c.others.invariant.0 c.in_ok-play_letter-2.ensures.moves c.in_ok-play_letter-2.ensures.ok, omega arith)
+others-preserved c = (played_more (omega arith) c.others.invariant.0 c.in_ok-play_letter-2.ensures.moves c.in_ok-play_letter-2.ensures.ok, omega arith)
 
 pub returns-clause-ok : goal.returns-clause-ok
 returns-clause-ok c = rw (take_all c.groups.at c.args.line.now (omega arith)) at c.groups.invariant.continues
-
-pub groups-init : goal.groups-init
-groups-init c = played_none c.args.field.now c.args.run.now c.args.line.now
 
 pub small-init : goal.small-init
 small-init c = (played_on _ c.groups.invariant c.walk_groups-at.ensures, omega arith)
@@ -28,20 +23,10 @@ pub play_letter-requires-clause-under_way : goal.play_letter-requires-clause-und
 play_letter-requires-clause-under_way c = under_way_then c.small.invariant.0.continues c.requires.under_way
 
 pub returns-in_err-play_letter-clause-err : goal.returns-in_err-play_letter-clause-err
-returns-in_err-play_letter-clause-err c =
-    let p = err_from_is_err_and c.from_residual.result c.from_residual.ensures.1 in
-    rw (p.1, p.2) (fault_next _ (omega arith) c.small.invariant.0 c.in_err-play_letter.ensures.err)
+returns-in_err-play_letter-clause-err c = grind (arith, err_from_is_err_and, fault_next)
 
 pub play_letter-requires-in-others-clause-under_way : goal.play_letter-requires-in-others-clause-under_way
 play_letter-requires-in-others-clause-under_way c = under_way_then c.others.invariant.0.continues c.requires.under_way
 
 pub returns-in_err-play_letter-2-clause-err : goal.returns-in_err-play_letter-2-clause-err
-returns-in_err-play_letter-2-clause-err c =
-    let p = err_from_is_err_and c.from_residual-in_err-play_letter-2.result c.from_residual-in_err-play_letter-2.ensures.1 in
-    rw (p.1, p.2) (fault_next _ (omega arith) c.others.invariant.0 c.in_err-play_letter-2.ensures.err)
-
-pub groups-smaller-else-line-at-lt97 : goal.groups-smaller-else-line-at-lt97
-groups-smaller-else-line-at-lt97 c = elim c.small-test.branch [
-  | then-small-test+else-line-at-ge97 w ↦ grind arith
-  | else-small-test w ↦ omega arith
-]
+returns-in_err-play_letter-2-clause-err c = grind (arith, err_from_is_err_and, fault_next)

@@ -7,7 +7,7 @@ use Rattle.std.specs.Borrow.{Bor}
 use Rattle.std.proofs.lemmas.Result.{err_from_is_err_and}
 use Rattle.play.specs.Spelling.{letters, joined}
 use Rattle.play.proofs.Texts.{line_letters_more, line_letters_around, joined_more, joined_around}
-use Rattle.play.proofs.Replays.{under_way_then, continues_none, continues_then, fault_then, fault_before}
+use Rattle.play.proofs.Replays.{under_way_then, continues_then, fault_then, fault_before}
 use Rattle.play.proofs.solution.play_lines.Goals as goal
 
 abbrev none : Bor (List ℕ)
@@ -20,9 +20,7 @@ play_line-requires-clause-room c =
     let before = joined (take i lines) in
     let line = (get_or lines i none).now in
     let whole = ap length (joined_around lines {i = i} none (omega arith)) ∙ length-append (before ++ line) (joined (drop (i + 1) lines)) in
-    let two = length-append before line in
-    let m = c.loop-line.invariant.moves in
-    omega arith
+    grind (arith, length-append)
 
 pub returns-in_err-play_line-clause-err : goal.returns-in_err-play_line-clause-err
 returns-in_err-play_line-clause-err c =
@@ -55,9 +53,5 @@ loop-line-preserved c =
 pub returns-clause-ok : goal.returns-clause-ok
 returns-clause-ok c = rw (take_all c.loop-line.line-index c.args.lines.now (omega arith)) at c.loop-line.invariant.continues
 
-pub loop-line-init : goal.loop-line-init
-loop-line-init c = record { moves = omega arith; continues = continues_none c.args.field.now c.args.run.now }
-
 pub play_line-requires-clause-under_way : goal.play_line-requires-clause-under_way
-play_line-requires-clause-under_way c =
-    under_way_then c.loop-line.invariant.continues c.requires.under_way
+play_line-requires-clause-under_way c = under_way_then c.loop-line.invariant.continues c.requires.under_way

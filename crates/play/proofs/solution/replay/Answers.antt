@@ -3,6 +3,3 @@ use Rattle.play.proofs.solution.replay.Goals as goal
 
 pub returns-clause-only : goal.returns-clause-only
 returns-clause-only g c = rw append-nil at c.replay_lines.ensures.only
-
-pub returns-clause-first : goal.returns-clause-first
-returns-clause-first g c = rw append-nil at c.replay_lines.ensures.first
