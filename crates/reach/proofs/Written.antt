@@ -1,5 +1,5 @@
 -- What writing one row of a region does to the region's cells.
-use Rattle.std.proofs.Common.{◌≡◌, ℕ, ◌+◌, ◌-◌, ◌*◌, ◌/◌, ◌%◌, ◌^◌, ◌<◌, List, [], length, get_or, refl, sym, ◌∙◌, ap, subst, inl, inr, arith}
+use Rattle.std.proofs.Common.{◌≡◌, ℕ, ◌+◌, ◌-◌, ◌*◌, ◌/◌, ◌%◌, ◌^◌, ◌<◌, List, [], length, get_or, refl, sym, ◌∙◌, ap, inl, inr, arith}
 use Rattle.std.specs.Prelude.{◌⊎◌, ◌↔◌}
 use Rattle.std.proofs.Math.ListN.{set}
 use Rattle.std.proofs.lemmas.Bool.{cases_eq}
@@ -64,14 +64,8 @@ module _ (items : List (List ℕ)) (y : ℕ) (row : List ℕ) (cell : Cell) (wit
 -- a cell is in a part if its bit is
 pub in_part : (y part bits : ℕ) (p : Cell) → Has (cells_of_row y part bits) p ↔ ((p.row ≡ y) × (p.column / 64 ≡ part) × Bit bits (p.column % 64))
 in_part y part bits p = (
-  (λ h. let i = has_in_row y part bits 64 p h in
-      let below = i.below in
-      let column : p.column ≡ 64 * part + i.k = ap (λ (c : Cell). c.column) i.here in
-      let k : i.k ≡ p.column % 64 = omega arith in
-      (ap (λ (c : Cell). c.row) i.here, omega arith, record { is = rw k at i.is_set })),
-  (λ (row, at, b). let column : p.column ≡ 64 * part + p.column % 64 = omega arith in
-      let here : p ≡ row_cell y part (p.column % 64) = λ j. record { row = row j; column = column j } in
-      subst (Has (cells_of_row y part bits)) (sym here) (row_has y part bits 64 (p.column % 64) (omega arith) b.is)),
+  (λ h. let i = has_in_row y part bits 64 p h in let column : p.column ≡ 64 * part + i.k = ap (λ (c : Cell). c.column) i.here in grind arith),
+  (λ here. let place : p ≡ row_cell y part (p.column % 64) = grind arith in grind (arith, row_has)),
 )
 
 -- the part of one bit has one cell
@@ -80,8 +74,7 @@ one_bit cell p = (
   (λ has. let (row, part, b) = (in_part _ _ _ p).0 has in
       let (_, from, low) = bit_shl 1 (cell.column % 64) 64 (p.column % 64) b in
       let one = bit_below 1 1 (p.column % 64 - cell.column % 64) (omega arith) low in
-      let column : p.column ≡ cell.column = omega arith in
-      λ j. record { row = row j; column = column j }),
+      grind arith),
   (λ here. let none : cell.column % 64 - cell.column % 64 ≡ 0 = omega arith in
       rw here ((in_part _ _ _ cell).1 (refl, refl, bit_shl_from 1 _ 64 _ (omega arith) (omega arith) (rw none (record { is = refl }))))),
 )
@@ -91,14 +84,12 @@ pub cells_removed : (items : List (List ℕ)) (y part bits : ℕ) (row : List �
     → ((k : ℕ) → HasBit row k ↔ (HasBit (get_or items y []) k × (k / 64 ≡ part → Bit bits (k % 64) → ⊥))) → (p : Cell)
     → InRows (set items y row) p ↔ (InRows items p × Lacks (cells_of_row y part bits) p)
 cells_removed items y part bits row within told p =
-    let written = row_written items y row within in
-    let cells = cells_of_row y part bits in (
+    let written = row_written items y row within in (
       (λ h. either (written.only p h)
-          (λ (e, bit). let (old, gone) = (told p.column).0 bit in
-          (of_row items y p e old, lacks_where cells p (λ has. let (_, at, b) = (in_part y part bits p).0 has in gone at b)))
-          (λ (ne, old). (old, lacks_where cells p (λ has. ne ((in_part y part bits p).0 has).0)))),
+          (λ (e, bit). grind (arith, in_part, lacks_where))
+          (λ (ne, old). grind (arith, in_part, lacks_where))),
       (λ (old, lacks). elim (cases_eq p.row y) [
-        | inl e ↦ written.same p e ((told p.column).1 (to_row items y p e old, λ at b. not_both cells p ((in_part y part bits p).1 (e, at, b)) lacks))
+        | inl e ↦ written.same p e ((told p.column).1 (to_row items y p e old, λ at b. not_both _ p ((in_part y part bits p).1 (e, at, b)) lacks))
         | inr other ↦ written.other p other old
       ]),
     )
