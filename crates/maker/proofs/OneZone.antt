@@ -41,13 +41,10 @@ abbrev floor_part : Level → Cells → Cells
 floor_part level zone = cells_where level.shape (floor_test level zone)
 
 has_floor : (level : Level) (zone : Cells) (c : Cell) → Has (floor_part level zone) c → Has zone c × IsFloor level c
-has_floor level zone c h =
-    let (on, passes) = in_where level.shape (floor_test level zone) c h in
-    let (in_zone, no_wall) = and_parts (contains zone c) (not (contains level.walls c)) passes in
-    (in_zone, (on, not_true (contains level.walls c) no_wall))
+has_floor level zone c h = grind (arith, in_where, and_parts, not_true)
 
 in_floor : (level : Level) (zone : Cells) (c : Cell) → Has zone c → IsFloor level c → Has (floor_part level zone) c
-in_floor level zone c has (on, no_wall) = has_where level.shape (floor_test level zone) c on (and_from _ _ has (ap not no_wall))
+in_floor level zone c has (on, no_wall) = grind (arith, has_where, and_from)
 
 floor_crowded : (level : Level) (boxes zone : Cells) → IsWellFormed level → ((c : Cell) → Has boxes c → Has level.boxes c) → IsCrowded level boxes zone
     → IsCrowded level boxes (floor_part level zone)
