@@ -33,4 +33,12 @@ returns-clause-list g c =
     (map said_pattern c.push_reserved.new.self.items) (ap (map said_pattern) c.push_reserved.ensures.items ∙ map-append said_pattern patterns (last ∷ [])))
 
 pub returns-clause-lawful : goal.returns-clause-lawful
-returns-clause-lawful g c = grind (arith, frozen_lawful_lines)
+returns-clause-lawful g c =
+    let members = g.S.CellSet.members in
+    let held = c.args.held.now in
+    let patterns = c.in_ok-patterns.ensures in
+    let same = c.deref.ensures.value in
+    frozen_lawful_lines c.args.board.now c.shape-shape.ensures.formed c.args.dead.now.members c.requires.exact (members held) c.requires.largest
+    (members c.goals.result.now) (sym c.is_subset.ensures ∙ c.if-is_subset.false) c.in_ok-patterns.patterns.items
+    (c.in_ok-cells.cells.items, c.in_ok-cells.ensures.list, patterns.list ∙ ap lone_patterns same)
+    (patterns.count ∙ ap length same ∙ c.in_ok-cells.ensures.count) c.in_ok-whole_pattern.field-0 c.in_ok-whole_pattern.ensures _ c.push_reserved.ensures.items
