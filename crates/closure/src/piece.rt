@@ -178,7 +178,7 @@ impl<S: CellSet> Piece<S> {
     {
         self.follow(tables, boxes, state, from);
         while self.begun < boxes.len() && !self.loose.contains(from) {
-            self.link = tables.buckets.chains.first[index_of(boxes[self.begun])];
+            self.link = tables.buckets.chains.first[index_of(boxes[self.begun])] as usize;
             self.begun += 1;
             self.follow(tables, boxes, state, from);
         }
@@ -198,7 +198,7 @@ impl<S: CellSet> Piece<S> {
     {
         while self.link > 0 && !self.loose.contains(from) {
             let group = self.link - 1;
-            self.link = tables.buckets.chains.next[group];
+            self.link = tables.buckets.chains.next[group] as usize;
             let kept = tables.groups.boxes(group);
             // A group that covers the player and has as many boxes lacks none.
             if kept.len() >= boxes.len() {
