@@ -1,6 +1,6 @@
 -- Spans of a vector of cells that grows. A span within the old cells has the same part of the new ones. So the lines of an arena stay the
 -- lines that they were, and so does what the arena keeps of them; one line more may have all that was added.
-use Rattle.std.proofs.Common.{◌≡◌, Bool, true, false, if◌then◌else◌, ℕ, ◌≤◌, ◌-◌, refl, List, [], ◌∷◌, ◌++◌, length, get_or, ◌∙◌, ap, subst, inl, inr, arith}
+use Rattle.std.proofs.Common.{◌≡◌, Bool, true, false, if◌then◌else◌, ℕ, ◌≤◌, refl, List, [], ◌∷◌, ◌++◌, length, get_or, ◌∙◌, ap, subst, inl, inr, arith}
 use Rattle.std.specs.Prelude.{Option, None, Some, map, option_map, slice_range}
 use Rattle.std.specs.List.{All, Contains}
 use Rattle.std.proofs.lemmas.Bool.{cases_lt}

@@ -1,6 +1,6 @@
 -- The lines of an arena, which has the boxes and the seeds of all of them as cells.
 use Rattle.std.specs.Borrow.{Bor}
-use Rattle.std.specs.Prelude.{ℕ, ◌⊎◌, List, Option, None, Some, map, option_map, slice_index_or}
+use Rattle.std.specs.Prelude.{◌≡◌, ℕ, ◌⊎◌, length, List, Option, None, Some, map, option_map, slice_index_or}
 use Rattle.std.specs.FinSet as set
 use Rattle.std.specs.List.{Contains}
 use Rattle.cellset.specs.Shape.{Extent}
@@ -13,9 +13,10 @@ use Rattle.closure.specs.Pattern.{Pattern, Seeds, whole_room, listed, patterns_o
 use Rattle.closure.specs.Closed.{IsListedSeed}
 use Rattle.closure.specs.Sides.{cells_in}
 use Rattle.closure.specs.declared.cell_patterns.CellPattern.{CellPattern}
-use Rattle.closure.specs.Spans.{part}
+use Rattle.closure.specs.Spans.{IsWithin, part}
 use Rattle.closure.specs.declared.arena.StoredLine.{StoredLine}
 use Rattle.closure.specs.declared.arena.Arena.{Arena}
+use Rattle.closure.specs.declared.arena.Span.{Span}
 
 -- ---- lines
 -- the coordinate of a cell
@@ -49,6 +50,21 @@ line_at arena j = slice_index_or arena.lines.items j (record { number = 0; boxes
 -- the boxes of the line with this number
 abbrev pub boxes_at : Arena → ℕ → List Cell
 boxes_at arena j = part arena.boxes.items (line_at arena j).boxes
+
+-- the seeds in a span, or `*` if there is none
+abbrev pub seeds_within : List Cell → Option Span → Seeds
+seeds_within seeds None = whole_room
+seeds_within seeds (Some span) = listed (cells_in (part seeds span))
+
+-- the pattern of a line of an arena
+abbrev pub stored_pattern : Arena → StoredLine → Pattern
+stored_pattern arena line =
+    record { boxes = cells_in (part arena.boxes.items line.boxes); seeds = seeds_within arena.seeds.items line.seeds }
+
+-- the spans of a line lie within the arena
+pub record IsStored (arena : Arena) (line : StoredLine) : Type 0 where
+  pub boxes_in : IsWithin (length arena.boxes.items) line.boxes
+  pub seeds_in : (span : Span) → line.seeds ≡ Some span → IsWithin (length arena.seeds.items) span
 
 -- every box and every listed seed of the pattern is on the grid
 abbrev pub IsOnGrid : Extent → Pattern → Type 0

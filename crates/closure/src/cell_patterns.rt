@@ -2,7 +2,7 @@
 ghost use Rattle.std.specs.Prelude.{◌≡◌, ◌<◌, ◌++◌, ◌∷◌, [], IfOk, MatchBool, length, map};
 ghost use Rattle.answers.specs.Grammar.{said_pattern};
 ghost use Rattle.closure.specs.Pattern.{pattern_of, patterns_of};
-ghost use Rattle.closure.specs.Arena.{AreOnGrid, IsOffGrid, IsOnGrid, boxes_at, lines_in, list_in, pattern_at, pattern_in};
+ghost use Rattle.closure.specs.Arena.{AreOnGrid, IsOffGrid, IsOnGrid, IsStored, boxes_at, line_at, lines_in, list_in, pattern_at, pattern_in, stored_pattern};
 
 use crate::arena::{Arena, StoredLine, part};
 use crate::cells::add_cells;
@@ -72,13 +72,23 @@ impl Arena {
         Ok(true)
     }
 
+    // Returns a line.
+    pub(crate) fn line(&self, line: usize) -> StoredLine
+        requires { line < length self.now.lines.items }
+        ensures line { result ≡ line_at self.now line }
+        ensures within { IsStored self.now result }
+        ensures pattern { stored_pattern self.now result ≡ pattern_at (list_in self.now) line }
+    {
+        self.lines[line]
+    }
+
     // Returns the pattern of a line.
     pub(crate) fn pattern(&self, line: usize) -> CellPattern<'_>
         requires { line < length self.now.lines.items }
         ensures boxes { result.boxes.now ≡ boxes_at self.now line }
         ensures pattern { pattern_in result ≡ pattern_at (list_in self.now) line }
     {
-        let line = self.lines[line];
+        let line = self.line(line);
         let seeds = match line.seeds {
             Some(span) => Some(part(&self.seeds, span)),
             None => None,

@@ -5,10 +5,10 @@ ghost use Rattle.cellset.specs.CellSet.{Has, Lacks};
 ghost use Rattle.cellset.specs.declared.cell.Cell.{Cell as GridCell};
 ghost use Rattle.closure.specs.Closed.{IsLawful};
 ghost use Rattle.closure.specs.FirstFault.{IsUnlawful};
-ghost use Rattle.closure.specs.Arena.{IsOnGrid, pattern_in};
+ghost use Rattle.closure.specs.Arena.{IsOnGrid, IsStored, stored_pattern};
 ghost use Rattle.closure.specs.Sides.{cells_in};
 
-use crate::cell_patterns::CellPattern;
+use crate::arena::{Arena, StoredLine, part};
 use crate::cells::{are_in, are_outside, load, number_of};
 use crate::fault::LineWhy;
 use board::Board;
@@ -50,26 +50,30 @@ fn are_apart<S: CellSet>(
     Ok(are_outside(seeds, &set))
 }
 
-// Returns why a pattern on the grid isn't lawful, or None if it is.
+// Returns why the pattern of a line isn't lawful, or None if it is. The pattern is on the grid.
+//
+// It takes a line, because lists of single boxes take 2 % more instructions if seeds that aren't there are made a slice.
 pub(crate) fn why_unlawful<S: CellSet>(
     alloc: Global,
     board: &Board<S>,
-    pattern: CellPattern,
+    arena: &Arena,
+    line: StoredLine,
 ) -> Result<Option<LineWhy>, AllocError>
-    requires { IsOnGrid board.now.shape (pattern_in pattern) }
-    ensures { IfOk result (λ why. MatchOption why (IsLawful board.now (pattern_in pattern.entry)) (IsUnlawful board.now (pattern_in pattern.entry))) }
+    requires line { IsStored arena.now line }
+    requires on { IsOnGrid board.now.shape (stored_pattern arena.now line) }
+    ensures { IfOk result (λ why. MatchOption why (IsLawful board.now (stored_pattern arena.now line)) (IsUnlawful board.now (stored_pattern arena.now line))) }
 {
-    if !are_outside(pattern.boxes, board.walls()) {
+    let boxes = part(&arena.boxes, line.boxes);
+    if !are_outside(boxes, board.walls()) {
         return Ok(Some(LineWhy::Wall));
     }
-    if let Some(seeds) = pattern.seeds {
-        if !are_in(seeds, board.room())
-            || !are_apart::<S>(alloc, board.shape(), seeds, pattern.boxes)?
-        {
+    if let Some(span) = line.seeds {
+        let seeds = part(&arena.seeds, span);
+        if !are_in(seeds, board.room()) || !are_apart::<S>(alloc, board.shape(), seeds, boxes)? {
             return Ok(Some(LineWhy::Seed));
         }
     }
-    if are_in(pattern.boxes, board.goals()) {
+    if are_in(boxes, board.goals()) {
         return Ok(Some(LineWhy::Goals));
     }
     Ok(None)

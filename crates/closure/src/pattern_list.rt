@@ -49,7 +49,7 @@ fn add_lawful<S: CellSet>(
     if !arena.add(board.shape(), pattern)? {
         return Ok(Some(LineWhy::Board));
     }
-    why_unlawful(alloc, board, arena.pattern(line))
+    why_unlawful(alloc, board, arena, arena.line(line))
 }
 
 impl<'a, S: CellSet> PatternList<'a, S> {

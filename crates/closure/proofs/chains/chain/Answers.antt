@@ -2,7 +2,7 @@
 -- one before it with the same key (`IsLast`). A turn pushes what `first` has at the item's key, which is the last item before it with the
 -- key (`before_more`). Then `first` gets the new item at this key, where it is the last one; every other key keeps its last item, because
 -- the new one doesn't have that key (`lasts_more`). After the loop all items are chained.
-use Rattle.std.proofs.Common.{◌≡◌, ℕ, ◌+◌, ◌-◌, ◌<◌, List, [], ◌∷◌, ◌++◌, length, get_or, set, ◌∙◌, ap, arith}
+use Rattle.std.proofs.Common.{◌≡◌, ℕ, ◌+◌, ◌<◌, List, [], ◌∷◌, ◌++◌, length, get_or, set, ◌∙◌, ap, arith}
 use Rattle.std.specs.Prelude.{slice_index}
 use Rattle.std.proofs.Math.ListN.{length-set}
 use Rattle.std.proofs.lemmas.Bool.{cases_eq, cases_lt}

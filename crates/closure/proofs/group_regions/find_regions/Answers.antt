@@ -2,7 +2,7 @@
 -- the grid. A turn makes the room without the boxes of a group free, which are on the grid because the group is lawful; the room is in one
 -- piece at first (`Pieces.antt`). The flood finds the region of the group's position (`reached_position` in `Grouped.antt`). The boxes of a
 -- group come after the boxes of earlier groups, so their sides stay when its own are noted.
-use Rattle.std.proofs.Common.{◌≡◌, ℕ, ◌+◌, ◌-◌, ◌<◌, ◌≤◌, List, length, get_or, sym, ◌∙◌, ap, subst, inl, inr, arith}
+use Rattle.std.proofs.Common.{◌≡◌, ℕ, ◌+◌, ◌<◌, ◌≤◌, List, length, get_or, sym, ◌∙◌, ap, subst, inl, inr, arith}
 use Rattle.std.proofs.lemmas.List.{length-drop, length-take}
 use Rattle.std.proofs.lemmas.Bool.{cases_lt, false≢true}
 use Rattle.std.specs.Prelude.{◌↔◌, IsTrue, false}
