@@ -19,9 +19,7 @@ pub whole_ended : (bs : List ℕ) → slice_index bs (length bs - 1) ≡ 10 → 
 whole_ended bs feed more = grind (arith, lines-append)
 
 pub whole_both : (xs ys : List ℕ) → AreWholeLines xs → AreWholeLines ys → AreWholeLines (xs ++ ys)
-whole_both xs ys h k more =
-    ap lines_of (append_assoc xs ys more) ∙ h (ys ++ more) ∙ ap (λ l. lines_of xs ++ l) (k more)
-    ∙ sym (append_assoc (lines_of xs) (lines_of ys) (lines_of more)) ∙ ap (λ l. l ++ lines_of more) (sym (h ys))
+whole_both xs ys h k more = grind (arith, append_assoc)
 
 -- ---- cuts
 
@@ -38,12 +36,7 @@ cut_none text = search (whole_none)
 
 -- A text is cut after each line feed.
 pub cut_after : (text : List ℕ) (at : ℕ) → 0 < at → at ≤ length text → slice_index text (at - 1) ≡ 10 → IsLineCut text (take at text) (drop at text)
-cut_after text at some within feed =
-    let size = length-take-le at text within in
-    record {
-      parts = sym (take-append-drop at text);
-      whole = λ _. whole_ended (take at text) (ap (λ n. slice_index (take at text) (n - 1)) size ∙ get_or-take at text (at - 1) 0 (omega arith) ∙ feed);
-    }
+cut_after text at some within feed = grind (arith, whole_ended, length-take-le, take-append-drop, get_or-take)
 
 -- The lines of a text are the lines of the front and then the lines of the rest.
 pub cut_lines : (text front rest : List ℕ) → IsLineCut text front rest → lines_of text ≡ lines_of front ++ lines_of rest
@@ -55,11 +48,7 @@ cut_lines_in text front rest cut = grind (arith, cut_lines, map-append)
 
 -- A cut of the rest is a further cut of the text.
 pub cut_more : (text front rest piece left : List ℕ) → IsLineCut text front rest → IsLineCut rest piece left → IsLineCut text (front ++ piece) left
-cut_more text front rest piece left cut next = record {
-  parts = cut.parts ∙ ap (λ l. front ++ l) next.parts ∙ sym (append_assoc front piece left);
-  whole = λ some.
-      whole_both front piece (cut.whole (omega (arith, ap length next.parts, length-append piece left))) (next.whole some);
-}
+cut_more text front rest piece left cut next = grind (arith, whole_both, append_assoc, length-append)
 
 -- The front with a further piece has the lines of both.
 pub more_lines : (text front rest piece left : List ℕ) → IsLineCut text front rest → IsLineCut rest piece left →
@@ -83,9 +72,7 @@ first_at_feed text e inside feed before =
     record {
       ended = line;
       cut = cut_after text (e + 1) (omega arith) (omega arith) (ap (slice_index text) place ∙ feed);
-      alone = lines-one line (omega arith) (λ k a is.
-          let early : k < e = omega arith in
-          before k early (sym (get_or-take (e + 1) text k 0 (omega arith)) ∙ is));
+      alone = grind (arith, lines-one, get_or-take);
       content = refl;
     }
 
@@ -99,10 +86,7 @@ first_whole text some h =
     let none : drop (length text) text ≡ [] = drop_all (length text) text (omega arith) in
     record {
       ended = text;
-      cut = record {
-        parts = sym (append-nil text) ∙ ap (λ l. text ++ l) (sym none);
-        whole = λ left. absurd (omega (arith, ap length none));
-      };
+      cut = grind (arith, append-nil);
       alone = lines-one text some (λ k a is. h k (omega arith) is);
       content = take_all (length text) text (omega arith) ∙ sym (no_terminator text (h (length text - 1) (omega arith)));
     }

@@ -1,7 +1,7 @@
 -- Line feeds among bytes, by a word that has a bit for each byte.
 -- If the word is 0, no byte is a line feed. Otherwise its lowest bit is the first one, because the bits below it are clear. The word
 -- shifted past that bit has a bit for each byte after it.
-use Rattle.std.proofs.Common.{◌≡◌, ◌≢◌, ℕ, ◌+◌, ◌-◌, ◌/◌, ◌%◌, ◌^◌, ◌<◌, ◌≤◌, ◌==◌, true, false, List, get_or, sym, ◌∙◌, ap, ⊎_elim, arith}
+use Rattle.std.proofs.Common.{◌≡◌, ◌≢◌, ℕ, ◌+◌, ◌-◌, ◌/◌, ◌%◌, ◌^◌, ◌<◌, ◌≤◌, ◌==◌, false, List, get_or, ◌∙◌, ap, ⊎_elim, arith}
 use Rattle.std.specs.Prelude.{nat_eq}
 use Rattle.std.specs.Int.{bit_at, w64, trailing_zeros}
 use Rattle.std.proofs.lemmas.Bool.{cases_lt, eq-eqb, eqb-true, false≢true}
@@ -13,27 +13,21 @@ use Rattle.lines.specs.Starts.{AreFeeds}
 pub none_upto : (text : List ℕ) (at m : ℕ) → ((k : ℕ) → k < at → get_or text k 0 ≢ 10) → ((k : ℕ) → k < m → get_or text (at + k) 0 ≢ 10)
     → (k : ℕ) → k < at + m → get_or text k 0 ≢ 10
 none_upto text at m before there k low = ⊎_elim (before k)
-    (λ from is. let place : at + (k - at) ≡ k = omega arith in there (k - at) (omega arith) (ap (λ i. get_or text i 0) place ∙ is))
-    (cases_lt k at)
+    (λ from is. let place : at + (k - at) ≡ k = omega arith in there (k - at) (omega arith) (ap (λ i. get_or text i 0) place ∙ is)) (cases_lt k at)
 
 module _ (text : List ℕ) (at n word : ℕ) (feeds : AreFeeds text at n word) where
   unset : (k : ℕ) → k < n → nat_eq (bit_at word k) 1 ≡ false → get_or text (at + k) 0 ≢ 10
-  unset k low clear is = false≢true (sym clear ∙ feeds.inside k low ∙ eq-eqb _ 10 is)
+  unset k low clear is = grind (arith, false≢true, eq-eqb)
 
   pub no_feed : word ≡ 0 → (k : ℕ) → k < n → get_or text (at + k) 0 ≢ 10
-  no_feed none k low = unset k low (ap (λ w. nat_eq (bit_at w k) 1) none ∙ ap (λ b. nat_eq b 1) (bit_at-zero k))
+  no_feed none k low = grind (arith, unset, bit_at-zero)
 
   pub first_feed : word < 2 ^ 64 → word ≢ 0 → (trailing_zeros w64 word < n) × (get_or text (at + trailing_zeros w64 word) 0 ≡ 10) ×
       ((k : ℕ) → k < trailing_zeros w64 word → get_or text (at + k) 0 ≢ 10)
   first_feed fits some =
       let t = trailing_zeros w64 word in
       let lowest = bit_at-trailing_zeros w64 word (omega arith) fits in
-      let is : nat_eq (bit_at word t) 1 ≡ true = ap (λ b. nat_eq b 1) lowest.1 in
-      let small : t < n = ⊎_elim (λ h. h) (λ far. absurd (false≢true (sym (feeds.past t far) ∙ is))) (cases_lt t n) in (
-        small,
-        eqb-true (get_or text (at + t) 0) 10 (sym (feeds.inside t small) ∙ is),
-        λ k below. unset k (omega arith) (ap (λ b. nat_eq b 1) (lowest.2 k below)),
-      )
+      grind (arith, false≢true, cases_lt, eqb-true, unset)
 
   -- The word shifted past some of the bytes is about the others.
   pub later_feeds : (by : ℕ) → by ≤ n → AreFeeds text (at + by) (n - by) (word / 2 ^ by)

@@ -3,7 +3,7 @@
 -- no such byte follows a line feed, then no line of the bytes begins with one. The search looks at each line feed and the byte after it: in
 -- a block of 64 by two words of bits, which have no bit in common if no such line begins there, and after that one by one. It counts line
 -- feeds on the way, because bytes that end with a line feed have one line for each line feed.
-use Rattle.std.proofs.Common.{◌≡◌, ◌≢◌, ℕ, suc, zero, ◌+◌, ◌-◌, ◌/◌, ◌^◌, ◌<◌, ◌≤◌, ◌==◌, Bool, true, false, cond, List, [], ◌∷◌, ◌++◌, length, map, take, drop, get_or, sym, ap, subst, ◌∙◌, arith, inl, inr, Fits, ⊎_elim, append_assoc, length-drop, length-take-le, take-append-drop, get_or-take, get_or-drop}
+use Rattle.std.proofs.Common.{◌≡◌, ◌≢◌, ℕ, suc, zero, ◌+◌, ◌-◌, ◌/◌, ◌^◌, ◌<◌, ◌≤◌, ◌==◌, Bool, true, false, cond, List, [], ◌∷◌, ◌++◌, length, take, drop, get_or, sym, ap, subst, ◌∙◌, arith, inl, inr, Fits, ⊎_elim, append_assoc, length-drop, length-take-le, take-append-drop, get_or-take, get_or-drop}
 use Rattle.std.specs.Prelude.{count_by}
 use Rattle.std.specs.Int.{w64, trailing_zeros}
 use Rattle.std.proofs.lemmas.Bool.{cases_Bool, cases_lt, cond-true, cond-false, eq-eqb, eqb-true, ne_eqb}
@@ -52,9 +52,7 @@ line_ends (b ∷ bs) more = ⊎_elim
     (λ yes. ap (λ k. get_or (b ∷ bs) (k - 1) 0) (cond-true _ _ _ yes) ∙ eqb-true b 10 yes)
     (λ no.
     let long : line_len (b ∷ bs) ≡ suc (line_len bs) = cond-false _ _ _ no in
-    let some = line_len-bounds bs (omega arith) in
-    let place : line_len (b ∷ bs) - 1 ≡ suc (line_len bs - 1) = omega arith in
-    ap (λ k. get_or (b ∷ bs) k 0) place ∙ line_ends bs (omega arith))
+    grind (arith, line_len-bounds, line_ends bs (omega arith)))
     (cases_Bool (b == 10))
 
 all_outside : (class : ℕ → Bool) (m : ℕ) (bs : List ℕ) → length bs ≤ m → NoStart class bs (length bs) → AllBeginOutside class (lines_in bs)
@@ -71,12 +69,10 @@ all_outside class (suc m) (b ∷ bs) fits h =
           let place : n + 0 ≡ n - 1 + 1 = omega arith in
           ap class (get_or-drop n all 0 0) ∙ ap (λ k. class (get_or all k 0)) place ∙ h.others (n - 1) (omega arith) (line_ends all (omega arith));
       others = λ j inside feed.
-          let place : n + (j + 1) ≡ n + j + 1 = omega arith in
-          ap class (get_or-drop n all (j + 1) 0 ∙ ap (λ k. get_or all k 0) place) ∙ h.others (n + j) (omega arith) (sym (get_or-drop n all j 0) ∙ feed);
+          grind (arith, get_or-drop);
     } in
     let first = outside_front class (take n all) rest (rw (take-append-drop n all) (h.first (omega arith))) in
-    subst (λ ls. AllBeginOutside class (map without_terminator ls)) (sym (lines-step all (omega arith)))
-    (outside_content class (take n all) first, all_outside class m rest (omega arith) later)
+    grind (arith, lines-step, outside_content, all_outside class m rest (omega arith) later)
 
 -- An empty text has no line.
 pub nothing_begins : (class : ℕ → Bool) (text : List ℕ) → length text ≡ 0 → AllBeginOutside class (lines_in text)
@@ -98,19 +94,7 @@ feeds_are_lines (b ∷ c ∷ bs) ends =
     let all = b ∷ c ∷ bs in
     let rest = feeds_are_lines (c ∷ bs) (ends_tail b c bs ends) in
     let count = sum_by-cons (λ x. cond (is_feed x) 1 0) b (c ∷ bs) in
-    let first = ap length (lines-step all (omega arith)) in
-    let next = ap length (lines-step (c ∷ bs) (omega arith)) in
-    ⊎_elim
-    (λ yes.
-    let long : length (lines_of (drop (line_len all) all)) ≡ length (lines_of (c ∷ bs)) = ap (λ k. length (lines_of (drop k all))) (cond-true _ _ _ yes) in
-    let one : cond {A = ℕ} (is_feed b) 1 0 ≡ 1 = ap (λ t. cond {A = ℕ} t 1 0) yes in
-    omega arith)
-    (λ no.
-    let long : length (lines_of (drop (line_len all) all)) ≡ length (lines_of (drop (line_len (c ∷ bs)) (c ∷ bs))) =
-    ap (λ k. length (lines_of (drop k all))) (cond-false _ _ _ no) in
-    let none : cond {A = ℕ} (is_feed b) 1 0 ≡ 0 = ap (λ t. cond {A = ℕ} t 1 0) no in
-    omega arith)
-    (cases_Bool (b == 10))
+    grind (arith, lines-step, cond-true, cond-false, cases_Bool)
 
 -- ---- the search
 
@@ -128,15 +112,13 @@ module _ (class : ℕ → Bool) (text : List ℕ) where
         (λ late.
         let k = j - at in
         let place : at + k ≡ j = omega arith in
-        ap (λ i. class (get_or text (i + 1) 0)) (sym place) ∙ next k (omega arith) (ap (λ i. get_or text i 0) place ∙ feed))
+        grind arith)
         (cases_lt j at);
   }
 
   -- There are at most as many line feeds as bytes.
   pub few_before : (at before : ℕ) → IsScanned class text at before → before ≤ length text
-  few_before at before s =
-      let within = s.within in
-      omega (arith, count_by-le-length is_feed (take at text), length-take-le at text within)
+  few_before at before s = grind (arith, count_by-le-length, length-take-le)
 
   -- The scan goes on by one byte if that is no line feed with a byte of the class after it.
   scan_byte : (at before after : ℕ) → at + 1 < length text → IsScanned class text at before → (get_or text at 0 ≡ 10 → class (get_or text (at + 1) 0) ≡ false)
@@ -153,7 +135,7 @@ module _ (class : ℕ → Bool) (text : List ℕ) where
   -- The scan goes on past bytes that are no line feeds.
   scan_on : (at before more : ℕ) → at + more < length text → IsScanned class text at before → ((k : ℕ) → k < more → get_or text (at + k) 0 ≢ 10)
       → IsScanned class text (at + more) before
-  scan_on at before zero within s none = let here : at + 0 ≡ at = omega arith in rw here s
+  scan_on at before zero within s none = grind arith
   scan_on at before (suc more) within s none =
       let here : at + suc more ≡ at + more + 1 = omega arith in
       rw here (scan_other (at + more) before (omega arith) (scan_on at before more (omega arith) s (λ k low. none k (omega arith))) (none more (omega arith)))
@@ -170,22 +152,7 @@ module _ (class : ℕ → Bool) (text : List ℕ) where
   pub start_after : (at before : ℕ) → at + 1 < length text → IsScanned class text at before → get_or text at 0 ≡ 10
       → class (get_or text (at + 1) 0) ≡ true → IsFirstStart class text (record { at = at + 1; before = before + 1 })
   start_after at before more s feed starts =
-      let front = take (at + 1) text in
-      let size : length front ≡ at + 1 = length-take-le (at + 1) text (omega arith) in
-      let last : length front - 1 ≡ at = omega arith in
-      let ends : get_or front (length front - 1) 0 ≡ 10 = ap (λ k. get_or front k 0) last ∙ get_or-take (at + 1) text at 0 (omega arith) ∙ feed in
-      record {
-        within = more;
-        starts = starts;
-        cut = record { parts = sym (take-append-drop (at + 1) text); whole = λ _. whole_ended front ends };
-        others = all_outside class (length front) front (omega arith) (record {
-          first = λ some. ap class (get_or-take (at + 1) text 0 0 (omega arith)) ∙ s.none.first (omega arith);
-          others = λ j low is.
-              ap class (get_or-take (at + 1) text (j + 1) 0 (omega arith))
-              ∙ s.none.others j (omega arith) (sym (get_or-take (at + 1) text j 0 (omega arith)) ∙ is);
-        });
-        count = ap (λ n. n + 1) s.count ∙ sym (count_by_more_yes is_feed text at 0 (omega arith) (eq-eqb _ _ feed)) ∙ sym (feeds_are_lines front (inr ends));
-      }
+      grind (arith, whole_ended, all_outside, count_by_more_yes, eq-eqb, feeds_are_lines, length-take-le, get_or-take, take-append-drop)
 
 -- ---- line feeds by their bits
 
@@ -199,14 +166,11 @@ pub record IsAmong (class : ℕ → Bool) (text : List ℕ) (end at before word 
 
 pub among_first : {class : ℕ → Bool} {text : List ℕ} {at before word : ℕ} → at + 33 ≤ length text → IsScanned class text at before
     → AreFeeds text at 32 word → IsAmong class text (at + 32) at before word
-among_first {at = at} room scanned feeds =
-    let whole : 32 ≡ at + 32 - at = omega arith in
-    record { room = omega arith; upto = omega arith; near = omega arith; scanned = scanned; feeds = rw (sym whole) feeds }
+among_first {at = at} room scanned feeds = grind arith
 
 module _ {class : ℕ → Bool} {text : List ℕ} {end at before word : ℕ} (a : IsAmong class text end at before word) where
   pub among_none : word ≡ 0 → IsScanned class text end before
   among_none none =
-      let room = a.room in let upto = a.upto in
       let whole : at + (end - at) ≡ end = omega arith in
       subst (λ n. IsScanned class text n before) whole
       (scan_on class text at before (end - at) (omega arith) a.scanned (no_feed text at (end - at) word a.feeds none))
@@ -216,14 +180,12 @@ module _ {class : ℕ → Bool} {text : List ℕ} {end at before word : ℕ} (a 
         × IsScanned class text (at + trailing_zeros w64 word) before
     among_next =
         let (low, feed, none) = first_feed text at (end - at) word a.feeds (omega arith) some in
-        let room = a.room in let upto = a.upto in let near = a.near in
         (omega arith, omega arith, feed, scan_on class text at before (trailing_zeros w64 word) (omega arith) a.scanned none)
 
     pub among_start : class (get_or text (at + (trailing_zeros w64 word + 1)) 0) ≡ true
         → IsFirstStart class text (record { at = at + (trailing_zeros w64 word + 1); before = before + 1 })
     among_start starts =
         let (low, small, feed, scanned) = among_next in
-        let room = a.room in
         let place : at + (trailing_zeros w64 word + 1) ≡ at + trailing_zeros w64 word + 1 = omega arith in
         rw place (start_after class text (at + trailing_zeros w64 word) before (omega arith) scanned feed (rw (sym place) starts))
 
@@ -240,5 +202,5 @@ module _ {class : ℕ → Bool} {text : List ℕ} {end at before word : ℕ} (a 
           upto = omega arith;
           near = omega arith;
           scanned = rw place (scan_feed class text (at + t) before (omega arith) scanned feed (rw (sym place) other));
-          feeds = subst (λ n. AreFeeds text (at + (t + 1)) n (word / 2 ^ (t + 1))) left (later_feeds text at (end - at) word a.feeds (t + 1) (omega arith));
+          feeds = grind (arith, later_feeds);
         }
