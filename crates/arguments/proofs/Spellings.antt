@@ -101,7 +101,7 @@ make_spelled p (x ∷ xs) ha = record {
 
 are_digits : (ds : Text) → AllDigits 10 ds → list_all (λ d. nat_lt (digit_value d) 10) ds ≡ true
 are_digits [] h = refl
-are_digits (d ∷ ds) h = rw (lt-ltb (digit_value d) 10 h.0, are_digits ds h.1) refl
+are_digits (d ∷ ds) h = grind (arith, are_digits ds h.1)
 
 -- the first digit of a number in decimal isn't 0, and the value of its digits is the number
 record IsDecimalText (n : ℕ) (text : Text) : Type 0 where
@@ -114,12 +114,7 @@ is_decimal : {n : ℕ} → IsLevelNumber n → IsDecimalText n (decimal n)
 is_decimal {n} h =
     let fits : n < 2 ^ 64 = omega arith in
     let numeral = decimal_is_IsNumeral n fits in
-    record {
-      first = first_decimal n (omega arith) fits;
-      some = numeral.0.0;
-      digits = numeral.0.1;
-      value = numeral.1;
-    }
+    grind (arith, first_decimal)
 
 tested : {n y : ℕ} {ys : Text} → IsLevelNumber n → IsDecimalText n (y ∷ ys) → IsTestedNumber y ys
 tested h is = grind (arith, ne_eqb, lt-ltb, are_digits, le-leb)
@@ -142,8 +137,7 @@ dead_spelled p (x ∷ xs) (y ∷ ys) ha h is =
 pub spelled : {words : List Text} (request : Request) → SpellsRequest words request → IsTakenAs words request
 spelled (audit levels answers) h = subst (λ ws. IsTakenAs ws (audit levels answers)) (sym h.1) (audit_spelled h.0 levels answers h.2 h.3)
 spelled (make levels) h = subst (λ ws. IsTakenAs ws (make levels)) (sym h.1) (make_spelled h.0 levels h.2)
-spelled (dead levels n) h =
-    subst (λ ws. IsTakenAs ws (dead levels n)) (sym h.1) (dead_spelled h.0 levels (decimal n) h.2 h.3 (is_decimal h.3))
+spelled (dead levels n) h = subst (λ ws. IsTakenAs ws (dead levels n)) (sym h.1) (dead_spelled h.0 levels (decimal n) h.2 h.3 (is_decimal h.3))
 
 -- clap finds the texts of a subcommand in the words themselves
 pub rows_found : {A : Type 0} (app : App) (words : List Text) (rows : Option (Text × List Row)) → app ≡ program_app

@@ -31,8 +31,7 @@ next : {V : Type 0} (items : V → List Command) (apps : List App) (a : App) (li
 next items apps a list (Err e) command says are is local = tt
 next items apps a (Err e) (Ok r) command says are is local = absurd says
 next items apps a (Ok l) (Ok r) (Err e) says are is local = absurd says
-next items apps a (Ok l) (Ok r) (Ok c) says are is local =
-    subst (Are (apps ++ a ∷ [])) (sym says) (one_more apps (items l) c are (is, local))
+next items apps a (Ok l) (Ok r) (Ok c) says are is local = subst (Are (apps ++ a ∷ [])) (sym says) (one_more apps (items l) c are (is, local))
 
 abbrev with_all : App → List App → App
 with_all a [] = a
