@@ -14,9 +14,6 @@ same_seeds : (seeds : List Cell) (span : Option Span) → seeds_within seeds spa
 same_seeds seeds None = refl
 same_seeds seeds (Some span) = ap listed (sym (same_cells (part seeds span)))
 
-pub returns-clause-line : goal.returns-clause-line
-returns-clause-line c = c.index.ensures ∙ sym (at_any c.args.self.now.lines.items c.args.line _ _ c.requires)
-
 pub returns-clause-within : goal.returns-clause-within
 returns-clause-within c =
     let line = c.index.result.now in

@@ -3,12 +3,6 @@ use Rattle.closure.specs.Arena.{seeds_among, seeds_within}
 use Rattle.closure.proofs.arena.Arena.pattern.Goals as goal
 use Rattle.closure.proofs.arena.Arena.pattern.Goals.{in-None, in-Some}
 
-pub part-requires : goal.part-requires
-part-requires c = rw c.deref.ensures.value (c.line-line.ensures.within.seeds_in c.in-Some.span c.in-Some.is)
-
-pub part-requires-2 : goal.part-requires-2
-part-requires-2 c = rw c.deref-2.ensures.value c.line-line.ensures.within.boxes_in
-
 pub returns-clause-pattern : goal.returns-clause-pattern
 returns-clause-pattern c =
     let seeds : seeds_among c.match-line.seeds ≡ seeds_within c.args.self.now.seeds.items c.line-line.result.seeds =
