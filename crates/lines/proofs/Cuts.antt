@@ -36,7 +36,12 @@ cut_none text = search (whole_none)
 
 -- A text is cut after each line feed.
 pub cut_after : (text : List ℕ) (at : ℕ) → 0 < at → at ≤ length text → slice_index text (at - 1) ≡ 10 → IsLineCut text (take at text) (drop at text)
-cut_after text at some within feed = grind (arith, whole_ended, length-take-le, take-append-drop, get_or-take)
+cut_after text at some within feed =
+    let size = length-take-le at text within in
+    record {
+      parts = sym (take-append-drop at text);
+      whole = λ _. whole_ended (take at text) (ap (λ n. slice_index (take at text) (n - 1)) size ∙ get_or-take at text (at - 1) 0 (omega arith) ∙ feed);
+    }
 
 -- The lines of a text are the lines of the front and then the lines of the rest.
 pub cut_lines : (text front rest : List ℕ) → IsLineCut text front rest → lines_of text ≡ lines_of front ++ lines_of rest
@@ -48,7 +53,11 @@ cut_lines_in text front rest cut = grind (arith, cut_lines, map-append)
 
 -- A cut of the rest is a further cut of the text.
 pub cut_more : (text front rest piece left : List ℕ) → IsLineCut text front rest → IsLineCut rest piece left → IsLineCut text (front ++ piece) left
-cut_more text front rest piece left cut next = grind (arith, whole_both, append_assoc, length-append)
+cut_more text front rest piece left cut next = record {
+  parts = cut.parts ∙ ap (λ l. front ++ l) next.parts ∙ sym (append_assoc front piece left);
+  whole = λ some.
+      whole_both front piece (cut.whole (omega (arith, ap length next.parts, length-append piece left))) (next.whole some);
+}
 
 -- The front with a further piece has the lines of both.
 pub more_lines : (text front rest piece left : List ℕ) → IsLineCut text front rest → IsLineCut rest piece left →

@@ -146,7 +146,7 @@ module _ (class : ℕ → Bool) (text : List ℕ) where
 
   -- If the text begins with a byte of the class, its first line is the one that is looked for.
   pub start_at_once : 0 < length text → class (get_or text 0 0) ≡ true → IsFirstStart class text (record { at = 0; before = 0 })
-  start_at_once some starts = search (cut_none, lines_in-nil, lines-nil)
+  start_at_once some starts = search (cut_none, lines-nil)
 
   -- If a byte of the class follows the next line feed, the line that begins there is the one that is looked for.
   pub start_after : (at before : ℕ) → at + 1 < length text → IsScanned class text at before → get_or text at 0 ≡ 10

@@ -19,7 +19,6 @@ pub struct Start {
 
 /// Finds the first line that begins with a byte of a class.
 #[inline]
-#[tactic(auto, using(crate::proofs::Starts::few_before, crate::proofs::Starts::scan_start, crate::proofs::Starts::scan_feed, crate::proofs::Starts::scan_other, crate::proofs::Starts::scan_end))]
 pub fn first_start<C: Class>(text: &[u8], class: C) -> Option<Start>
     ensures some { IfSome result (λ start. IsFirstStart (C.holds class) text.now start) }
     ensures none { IfNone result (AllBeginOutside (C.holds class) (lines_in text.now)) }
