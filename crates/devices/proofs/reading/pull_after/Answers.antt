@@ -54,3 +54,16 @@ returns-in-Ok-clause-bytes g c =
 pub returns-in-Err-clause-front : goal.returns-in-Err-clause-front
 returns-in-Err-clause-front g c = ap (take c.args.taken) (text_is g (goal.at.returns-in-Err-clause-front g c).After-pull) ∙
     front c.args.text.now.items c.pull.new.buffer c.args.taken c.requires.within
+
+pub returns-in-Ok-clause-limit : goal.returns-in-Ok-clause-limit
+returns-in-Ok-clause-limit g c =
+    omega (arith, length-take {A = ℕ}, c.make_room.ensures.limit, c.deref_mut.ensures.len, ap length c.deref_mut.ensures.value)
+
+pub returns-in-Err-clause-limit : goal.returns-in-Err-clause-limit
+returns-in-Err-clause-limit g c = omega (arith, length-take {A = ℕ}, c.make_room.ensures.limit, c.deref_mut.ensures.len, ap length c.deref_mut.ensures.value)
+
+pub slice_bounds-pull-count : goal.slice_bounds-pull-count
+slice_bounds-pull-count g c =
+    let text = c.make_room.new.text.items in
+    let before = c.args.text.now.items in
+    omega (arith, ap length c.make_room.ensures.front, length-take c.args.taken text, length-take c.args.taken before, ap length c.deref_mut.ensures.value)
