@@ -6,6 +6,7 @@ ghost use Rattle.reach.specs.RowsOf.{InRows};
 ghost use Rattle.reach.specs.Reached.{IsBetween, IsMoved};
 
 use crate::fills::{fill, join};
+use crate::worklist::word_of;
 use cellset::first_bits;
 
 // Returns whether a row has this column.
@@ -114,6 +115,16 @@ fn word_after<const N: usize>(row: &[u64; N], i: usize) -> u64
     ensures { result ≡ slice_index row.now (i + 1) }
 {
     if i + 1 < N { row[i + 1] } else { 0 }
+}
+
+// Returns 64 columns of a row, from this one on.
+#[inline(always)]
+pub(crate) fn columns_from<const N: usize>(row: &[u64; N], column: usize) -> [u64; 1]
+    requires { column < 64 * N }
+    ensures { (k : ℕ) → HasBit result k ↔ ((k < 64) × HasBit row.now (column + k)) }
+{
+    let (i, bit) = (word_of::<N>(column), column % 64);
+    [row[i] >> bit | word_after(row, i) << 1 << (63 - bit)]
 }
 
 // Returns a row, or an empty one past the last.

@@ -1,10 +1,10 @@
 //! The eight cells around a cell, in one look at three rows.
-ghost use Rattle.std.specs.Prelude.{◌<◌, ◌≤◌};
+ghost use Rattle.std.specs.Prelude.{◌*◌, ◌<◌, ◌≤◌, length};
 ghost use Rattle.cellset.specs.Cell.{cell_at};
-ghost use Rattle.reach.specs.Rings.{IsRing};
+ghost use Rattle.reach.specs.Rings.{AreAround, IsRing};
 ghost use Rattle.reach.specs.RowsOf.{InRows};
 
-use crate::columns::{has_bit, row_at};
+use crate::columns::{columns_from, has_bit, row_at};
 
 /// Which of the eight cells around a cell are in a set.
 #[derive(Clone, Copy)]
@@ -19,24 +19,37 @@ pub struct Ring {
     pub down_left: bool,
 }
 
-// Returns which cells around a cell are in the rows. Row 0 and column 0 are empty, and so is a row past the last.
+// Returns the rows and columns around a cell, three of each. Row 0 and column 0 are empty, and so is a row past the last.
 #[inline(always)]
-pub(crate) fn read_ring<const N: usize>(rows: &[[u64; N]], row: usize, column: usize) -> Ring
-    requires row { (1 ≤ row) × (row < 256) }
-    requires column { (1 ≤ column) × (column < 256) }
-    ensures { IsRing (InRows rows.now) (cell_at column row) result }
+pub(crate) fn read_around<const N: usize>(
+    rows: &[[u64; N]],
+    row: usize,
+    column: usize,
+) -> [[u64; 1]; 3]
+    requires row { (1 ≤ row) × (row < length rows.now) }
+    requires column { (1 ≤ column) × (column < 64 * N) }
+    ensures { AreAround (InRows rows.now) (cell_at column row) result }
 {
-    let above = row_at(rows, row - 1);
-    let here = row_at(rows, row);
-    let below = row_at(rows, row + 1);
+    [
+        columns_from(&rows[row - 1], column - 1),
+        columns_from(&rows[row], column - 1),
+        columns_from(&row_at(rows, row + 1), column - 1),
+    ]
+}
+
+// Returns which cells around the middle of three rows are in them.
+#[inline(always)]
+pub(crate) fn read_ring(around: &[[u64; 1]; 3]) -> Ring
+    ensures { IsRing (InRows around.now) (cell_at 1 1) result }
+{
     Ring {
-        left: has_bit(&here, column - 1),
-        left_up: has_bit(&above, column - 1),
-        up: has_bit(&above, column),
-        up_right: has_bit(&above, column + 1),
-        right: has_bit(&here, column + 1),
-        right_down: has_bit(&below, column + 1),
-        down: has_bit(&below, column),
-        down_left: has_bit(&below, column - 1),
+        left: has_bit(&around[1], 0),
+        left_up: has_bit(&around[0], 0),
+        up: has_bit(&around[0], 1),
+        up_right: has_bit(&around[0], 2),
+        right: has_bit(&around[1], 2),
+        right_down: has_bit(&around[2], 2),
+        down: has_bit(&around[2], 1),
+        down_left: has_bit(&around[2], 0),
     }
 }

@@ -10,11 +10,11 @@ ghost use Rattle.reach.specs.RowsOf.{InRows};
 ghost use Rattle.reach.specs.RowSet.{AreRowsOf, AreRowsQueued};
 ghost use Rattle.reach.specs.Reached.{Reached};
 ghost use Rattle.reach.specs.Region.{IsAtEdge};
-ghost use Rattle.reach.specs.Rings.{IsRing};
+ghost use Rattle.reach.specs.Rings.{AreAround};
 
 use crate::columns::{any, both, columns, has_bit, insert, remove, without};
 use crate::grow::grow;
-use crate::rings::{Ring, read_ring};
+use crate::rings::read_around;
 use crate::step::StepBy;
 use crate::worklist::Worklist;
 use cellset::{Cell, CellSet, Shape};
@@ -103,13 +103,13 @@ impl<const N: usize> RowsOf<N> {
         is_at_edge(&self.rows, self.shape)
     }
 
-    /// Returns which of the cells around a cell of the grid are in the rows.
+    /// Returns the rows and columns around a cell of the grid, three of each.
     #[inline(always)]
-    pub fn ring(&self, cell: Cell) -> Ring
+    pub fn around(&self, cell: Cell) -> [[u64; 1]; 3]
         requires { IsOn self.now.extent cell }
-        ensures { IsRing (Has self.now.members) cell result }
+        ensures { AreAround (Has self.now.members) cell result }
     {
-        read_ring(&self.rows, cell.row() as usize, cell.column() as usize)
+        read_around(&self.rows, cell.row() as usize, cell.column() as usize)
     }
 
     /// Adds a cell of the grid.

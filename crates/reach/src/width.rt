@@ -13,7 +13,7 @@ ghost use Rattle.reach.specs.Region.{IsAtEdge};
 ghost use Rattle.reach.specs.Rings.{IsRing};
 ghost use Rattle.reach.specs.RowSet.{AreRowsQueued};
 
-use crate::rings::Ring;
+use crate::rings::{Ring, read_ring};
 use crate::rows::RowsOf;
 use crate::step::Step;
 use crate::worklist::Worklist;
@@ -155,7 +155,8 @@ impl Rows {
         requires { IsOn self.now.extent cell }
         ensures { IsRing (Has self.now.members) cell result }
     {
-        by_width!(&self.rows, rows => rows.ring(cell))
+        let around = by_width!(&self.rows, rows => rows.around(cell));
+        read_ring(&around)
     }
 
     /// Adds a cell of the grid.

@@ -58,10 +58,10 @@ impl<const M: usize> Worklist<M> {
     }
 }
 
-// Returns the index of the word that has a row. It is a constant for a single word.
-fn word_of<const M: usize>(row: usize) -> usize
-    requires { row < 64 * M }
-    ensures { result ≡ row / 64 }
+// Returns the index of the word that has a bit. It is a constant for a single word.
+pub(crate) fn word_of<const M: usize>(bit: usize) -> usize
+    requires { bit < 64 * M }
+    ensures { result ≡ bit / 64 }
 {
-    if M == 1 { 0 } else { row / 64 }
+    if M == 1 { 0 } else { bit / 64 }
 }
