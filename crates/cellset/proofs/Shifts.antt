@@ -102,7 +102,11 @@ both_before words n bits lt k before = grind (arith, joined_apart, first_before)
 pub both_from : (words : List ℕ) (n bits : ℕ) → n / 64 + 1 < length words → bits < 2 ^ 64 → (k : ℕ) → n ≤ k
     → has_bit (both_set words n bits) k ≡ (has_bit words k || bit bits (k - n))
 both_from words n bits lt fits k from =
+    let down = bits / 2 ^ (64 - n % 64) in
     either (cases_eq (k / 64) (n / 64 + 1))
     (λ e.
-    grind (arith, joined_here, joined_apart, bit_down, length-set))
-    (λ ne. grind (arith, joined_apart, first_from))
+    let there : 64 - n % 64 + k % 64 ≡ k - n = omega (arith, from, e) in
+    joined_here (first_set words n bits) (n / 64 + 1) down k (rw length-set lt) e
+    ∙ (λ i. joined_apart words (n / 64) (up n bits) k (λ f. omega (arith, e, f)) i || (bit_down bits (64 - n % 64) (k % 64) ∙ ap (bit bits) there) i))
+    (λ ne. joined_apart (first_set words n bits) (n / 64 + 1) down k ne
+    ∙ first_from words n bits (omega (arith, lt)) fits k from (λ other. omega (arith, from, ne, other)))

@@ -46,7 +46,6 @@ impl CellSet for BitSet {
         Ok(BitSet { shape, words })
     }
 
-    #[tactic(auto, using(crate::proofs::BitSets::empty_members, crate::proofs::WordLoops::none_in_zeros))]
     fn renew(&mut self, _alloc: Global, shape: Shape) -> Result<(), AllocError> {
         self.words.resize(words_for(shape), 0)?;
         self.words.fill(0);
@@ -84,7 +83,6 @@ impl CellSet for BitSet {
         words::count(&self.words)
     }
 
-    #[tactic(auto, using(crate::proofs::BitSets::empty_members, crate::proofs::WordLoops::none_in_zeros))]
     fn clear(&mut self) {
         self.words.fill(0);
     }

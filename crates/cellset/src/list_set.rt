@@ -54,7 +54,6 @@ impl CellSet for ListSet {
         find(&self.cells, cell).is_ok()
     }
 
-    #[tactic(auto, using(crate::proofs::SortedCells::found_has, crate::proofs::SortedCells::gap_lacks, crate::proofs::SortedCells::insert_members, crate::proofs::Members::insert_again))]
     fn insert(&mut self, cell: Cell) -> bool {
         let Err(at) = find(&self.cells, cell) else {
             return false;
@@ -65,7 +64,6 @@ impl CellSet for ListSet {
         true
     }
 
-    #[tactic(auto, using(crate::proofs::SortedCells::found_has, crate::proofs::SortedCells::gap_lacks, crate::proofs::SortedCells::remove_members, crate::proofs::Members::remove_absent))]
     fn remove(&mut self, cell: Cell) -> bool {
         let Ok(at) = find(&self.cells, cell) else {
             return false;
