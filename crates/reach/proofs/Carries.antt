@@ -1,6 +1,6 @@
 -- How a row of words is filled word by word. Upward, a run goes on in the next word if it reached the last bit of this one;
 -- downward, it goes on in the word before if it reached the first bit.
-use Rattle.std.proofs.Common.{◌≡◌, ℕ, ◌+◌, ◌-◌, ◌*◌, ◌/◌, ◌%◌, ◌^◌, ◌<◌, ◌≤◌, List, length, get_or, refl, ◌∙◌, inl, inr, arith}
+use Rattle.std.proofs.Common.{◌≡◌, ℕ, ◌+◌, ◌-◌, ◌*◌, ◌/◌, ◌%◌, ◌^◌, ◌<◌, ◌≤◌, List, length, get_or, refl, ◌∙◌, inl, inr, arith, subst}
 use Rattle.std.specs.Prelude.{◌↔◌, bit_or}
 use Rattle.std.proofs.Math.ListN.{set, length-set}
 use Rattle.std.proofs.lemmas.Bool.{cases_lt}
@@ -9,6 +9,7 @@ use Rattle.reach.specs.Bits.{Bit, HasBit, Run, FromBelow, FromAbove}
 use Rattle.reach.proofs.Words.{no_bit_zero, bit_below, bit_or_cases, bit_or_l, bit_or_r, bit_shl, bit_shl_from, bit_shr, bit_shr_from}
 use Rattle.reach.proofs.Runs.{run_within, run_then}
 use Rattle.reach.proofs.Many.{wrote_same, wrote_other, wrote_cases, moved}
+use borrow.Author.Count.{below_more}
 
 -- ---- a place among the words, and its bit in a word
 pub to_word : (words : List ℕ) (i b k : ℕ) → b < 64 → k ≡ 64 * i + b → HasBit words k → Bit (get_or words i 0) b
@@ -55,25 +56,25 @@ module _ (free seeds : List ℕ) where
       → IsUpTo row i carry → IsUpTo (set row i got) (i + 1) (got / 2 ^ 63)
   upward_more row i carry got within fits word_fits filled u = record {
     long = length-set row i got ∙ u.long;
-    fit = grind arith;
+    fit = below_more (λ j. get_or seeds j 0 < 2 ^ 64) i u.fit (subst (λ (w : ℕ). w < 2 ^ 64) (u.rest i (omega arith)) word_fits);
     small = omega arith;
     done = λ k h. elim (cases_lt k (64 * i)) [
       | inl old ↦ (
         (λ b. wrote_cases row i got (k / 64) (k % 64) within b (λ e _. absurd (omega arith)) (λ _ kept. (u.done k old).0 kept)),
-        (λ b. grind (arith, wrote_other)),
+        (λ b. wrote_other row i got (k / 64) (k % 64) (omega arith) ((u.done k old).1 b)),
       )
       | inr new ↦
           let word : k / 64 ≡ i = omega arith in
           let place : k ≡ 64 * i + k % 64 = omega arith in (
             (λ b. wrote_cases row i got (k / 64) (k % 64) within b (λ _ g. there (k % 64) k (omega arith) place g) (λ ne _. absurd (ne word))),
-            (λ b. grind (arith, wrote_same, back)),
+            (λ b. wrote_same row i got (k / 64) (k % 64) within word (back (k % 64) k (omega arith) place b)),
           )
     ];
     rest = λ j h. get_or-set_other row i j got 0 (omega arith) ∙ u.rest j (omega arith);
     came = λ b h.
         let last = bit_shr got 63 b h in
         let in_word = bit_below got 64 (63 + b) fits last in
-        grind (arith, there);
+        (omega arith, omega arith, there (63 + b) (64 * (i + 1) - 1) in_word (omega arith) last);
     comes = λ _ h. bit_shr_from got 63 0 (back (63 + 0) (64 * (i + 1) - 1) (omega arith) (omega arith) h);
   }
     where
@@ -85,11 +86,18 @@ module _ (free seeds : List ℕ) where
           (λ old. record {
             seed = 64 * i + f.seed;
             below = omega arith;
-            is_seed = grind arith;
+            is_seed = of_word seeds i f.seed (64 * i + f.seed) (omega arith) refl (subst (λ (w : ℕ). Bit w f.seed) (u.rest i (omega arith)) old);
             run = run_of_word free i f.seed b (64 * i + f.seed) k below refl e f.run;
           })
           (λ c.
-          grind (arith, run_then, run_of_word))
+          let (first, some, before) = u.came f.seed c in
+          let low' = before.below in
+          record {
+            seed = before.seed;
+            below = omega arith;
+            is_seed = before.is_seed;
+            run = run_then (HasBit free) before.seed (64 * i - 1) k before.run (run_of_word free i f.seed b (64 * i - 1 + 1) k below (omega arith) e f.run);
+          })
 
       back : (b k : ℕ) → b < 64 → k ≡ 64 * i + b → Below k → Bit got b
       back b k below e h =
@@ -136,19 +144,19 @@ module _ (free seeds : List ℕ) where
     done = λ k h. elim (cases_lt k (64 * (i + 1))) [
       | inr old ↦ (
         (λ b. wrote_cases row i got (k / 64) (k % 64) within b (λ e _. absurd (omega arith)) (λ _ kept. (d.done k old).0 kept)),
-        (λ b. grind (arith, wrote_other)),
+        (λ b. wrote_other row i got (k / 64) (k % 64) (omega arith) ((d.done k old).1 b)),
       )
       | inl new ↦
           let word : k / 64 ≡ i = omega arith in
           let place : k ≡ 64 * i + k % 64 = omega arith in (
             (λ b. wrote_cases row i got (k / 64) (k % 64) within b (λ _ g. there (k % 64) k (omega arith) place g) (λ ne _. absurd (ne word))),
-            (λ b. grind (arith, wrote_same, back)),
+            (λ b. wrote_same row i got (k / 64) (k % 64) within word (back (k % 64) k (omega arith) place b)),
           )
     ];
     rest = λ j h. get_or-set_other row i j got 0 (omega arith) ∙ d.rest j (omega arith);
     came = λ b h.
         let (below, high, first) = bit_shl got 63 64 b h in
-        grind (arith, there);
+        (omega arith, there (b - 63) (64 * i) (omega arith) (omega arith) first);
     comes = λ h. bit_shl_from got 63 64 63 (omega arith) (omega arith) (back (63 - 63) (64 * i) (omega arith) (omega arith) h);
   }
     where
@@ -161,16 +169,19 @@ module _ (free seeds : List ℕ) where
           (λ old. record {
             seed = 64 * i + f.seed;
             above = omega arith;
-            is_seed = grind arith;
+            is_seed = of_word seeds i f.seed (64 * i + f.seed) in_word refl (subst (λ (w : ℕ). Bit w f.seed) (d.rest i (omega arith)) old);
             run = run_of_word free i b f.seed k (64 * i + f.seed) in_word e refl f.run;
           })
           (λ c.
           let (last, after) = d.came f.seed c in
+          let high' = after.above in
+          let next : 64 * (i + 1) ≡ 64 * i + f.seed + 1 = omega arith in
           record {
             seed = after.seed;
             above = omega arith;
             is_seed = after.is_seed;
-            run = grind arith;
+            run = run_then (HasBit free) k (64 * i + f.seed) after.seed (run_of_word free i b f.seed k (64 * i + f.seed) in_word e refl f.run)
+                (subst (λ (n : ℕ). Run (HasBit free) n after.seed) next after.run);
           })
 
       back : (b k : ℕ) → b < 64 → k ≡ 64 * i + b → Above k → Bit got b

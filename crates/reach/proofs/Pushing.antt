@@ -66,7 +66,10 @@ module _ (n : ℕ) (free row mids moved right left once twice : List ℕ) (free_
       let end = below_end k after in
       let here : HasBit moved k = (is_moved k).1 (is_filled k h (to_mid k mid)) in
       let e : k ≡ k + 1 - 1 = omega arith in
-      grind arith
+      let f : k ≡ k - 1 + 1 = omega (arith, some) in
+      let on : HasBit right (k + 1) = (is_right (k + 1)).1 (end, (omega arith, subst (HasBit moved) e here)) in
+      let back : HasBit left (k - 1) = (is_left (k - 1)).1 (omega (arith, end), subst (HasBit moved) f here) in
+      ((is_twice (k - 1)).1 (inr (back, back)), (is_twice (k + 1)).1 (inl ((is_once (k + 1)).1 (inr (on, on)))))
 
 -- ---- steps
 

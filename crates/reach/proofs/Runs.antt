@@ -3,7 +3,7 @@
 -- begins at a bit ends right before the bit `step` places on, so what is near that bit is near this one at twice the
 -- step, and two such runs make one of twice the length. If every free bit right below a seed is a seed itself, no run leaves
 -- the seeds.
-use Rattle.std.proofs.Common.{◌≡◌, ℕ, ◌+◌, ◌-◌, ◌*◌, ◌/◌, ◌^◌, ◌<◌, ◌≤◌, zero, suc, inl, inr, arith}
+use Rattle.std.proofs.Common.{◌≡◌, ℕ, ◌+◌, ◌-◌, ◌*◌, ◌/◌, ◌^◌, ◌<◌, ◌≤◌, zero, suc, inl, inr, arith, subst}
 use Rattle.std.specs.Prelude.{◌⊎◌, ◌↔◌, bit_and, bit_or}
 use Rattle.std.specs.Int.{bit_not, w64}
 use Rattle.std.proofs.lemmas.Bool.{cases_lt}
@@ -60,28 +60,48 @@ down_twice free seeds got run step d = record {
       let r = d.run_begins k (bit_and_l run _ k new) in
       let n = d.got_near (step + k) (bit_shr got step k (bit_and_r run _ k new)) in
       let some = d.some in let above = n.from.above in let near = n.near in
+      let next : step + k ≡ k + step - 1 + 1 = omega arith in
       record {
-        from = grind (arith, run_then);
+        from = record {
+          seed = n.from.seed;
+          above = omega arith;
+          is_seed = n.from.is_seed;
+          run = run_then (Bit free) k (k + step - 1) n.from.seed r (subst (λ i. Run (Bit free) i n.from.seed) next n.from.run);
+        };
         near = omega arith;
       });
   near_got = λ k n.
-      let near = n.near in let some = d.some in
+      let above = n.from.above in let near = n.near in let some = d.some in
       elim (cases_lt n.from.seed (k + step)) [
         | inl h ↦ bit_or_l got _ k (d.near_got k (record { from = n.from; near = h }))
         | inr h ↦
             bit_or_r got _ k (bit_and_from run _ k
-            (grind arith)
+            (d.begins_run k (run_within (Bit free) k n.from.seed k (k + step - 1) (omega arith) (omega arith) n.from.run))
             (bit_shr_from got step k (d.near_got (step + k) (record {
-              from = grind arith;
+              from = record {
+                seed = n.from.seed;
+                above = omega arith;
+                is_seed = n.from.is_seed;
+                run =
+                    run_within (Bit free) k n.from.seed (step + k) n.from.seed (omega arith) (omega arith) n.from.run;
+              };
               near = omega arith;
             }))))
       ];
   run_begins = λ k h.
       let r = d.run_begins k (bit_and_l run _ k h) in
       let s = d.run_begins (step + k) (bit_shr run step k (bit_and_r run _ k h)) in
-      grind arith;
+      let some = d.some in
+      let next : step + k ≡ k + step - 1 + 1 = omega arith in
+      let last : step + k + step - 1 ≡ k + step * 2 - 1 = omega arith in
+      subst (λ j. Run (Bit free) k j) last (run_then (Bit free) k (k + step - 1) (step + k + step - 1) r
+      (subst (λ i. Run (Bit free) i (step + k + step - 1)) next s));
   begins_run = λ k r.
-      bit_and_from run _ k (grind arith) (bit_shr_from run step k (grind arith));
+      let some = d.some in
+      bit_and_from run _ k
+      (d.begins_run k (run_within (Bit free) k (k + step * 2 - 1) k (k + step - 1) (omega arith) (omega arith) r))
+      (bit_shr_from run step k (d.begins_run (step + k) (run_within (Bit free) k (k + step * 2 - 1) (step + k) (step + k + step - 1) (omega arith)
+      (omega arith) r)));
 }
 
 pub down_end : (free seeds got run step : ℕ) → free < 2 ^ 64 → 64 ≤ step → IsDoublingDown free seeds got run step → (k : ℕ)
