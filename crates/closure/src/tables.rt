@@ -25,7 +25,7 @@ use cellset::{Cell, CellSet};
 use reach::Rows;
 use std::alloc::{AllocError, Global};
 
-// By index of a cell, the groups whose first box in reading order it is.
+// By index of a cell, groups that have a box there. Each group is in the bucket of one of its boxes.
 #[derive(Drop)]
 pub(crate) struct Buckets {
     // By group, the index of its bucket.
@@ -178,7 +178,7 @@ impl<'a, S: CellSet> Tables<'a, S> {
     }
 }
 
-// Puts each group into the bucket of its first box.
+// Puts each group into the bucket of one of its boxes, the one with the fewest groups so far.
 fn fill_buckets<S: CellSet>(
     alloc: Global,
     board: &Board<S>,
@@ -189,25 +189,29 @@ fn fill_buckets<S: CellSet>(
     ensures { IfOk result (AreBuckets board.now groups.now) }
 {
     let cells = 256 * (usize::from(board.shape().height()) + 1);
+    let mut sizes = vec![in alloc; 0u32; cells]?;
     let mut keys = Vec::with_capacity(alloc, groups.spans.len())?;
     for group in 0..groups.spans.len() {
-        keys.push_reserved(to_u32(first_of(groups.boxes(group)))?);
+        let key = smallest_bucket(&sizes, groups.boxes(group));
+        sizes[key] = sizes[key].saturating_add(1);
+        keys.push_reserved(to_u32(key)?);
     }
     let chains = chain(alloc, &keys, cells)?;
     Ok(Buckets { keys, chains })
 }
 
-// Returns the index of the first of the boxes in reading order.
-fn first_of(boxes: &[Cell]) -> usize
-    requires { 0 < length boxes.now }
+// Returns the index of the bucket with the fewest groups among those of the boxes.
+fn smallest_bucket(sizes: &[u32], boxes: &[Cell]) -> usize
+    requires some { 0 < length boxes.now }
+    requires within { (c : GridCell) → Has (cells_in boxes.now) c → index_of c < length sizes.now }
     ensures { (c : GridCell) × Has (cells_in boxes.now) c × (result ≡ index_of c) }
 {
-    let mut first = index_of(boxes[0]);
+    let mut smallest = index_of(boxes[0]);
     for cell in boxes {
         let at = index_of(*cell);
-        if at < first {
-            first = at;
+        if sizes[at] < sizes[smallest] {
+            smallest = at;
         }
     }
-    first
+    smallest
 }

@@ -1,27 +1,57 @@
--- The invariant says that each group so far is in the bucket of one of its boxes. `first_of` returns the index of a box, and which box that
--- is doesn't matter to any proof. A group has a box (`listed_some` in `Lookups.antt`), and its boxes lie on the grid, so their indexes are
--- within the table (`index_in`). After the loop every group has a key below the length of the table, so the groups can be chained by their
--- keys.
+-- The invariant says that each group so far is in the bucket of one of its boxes. `smallest_bucket` returns the index of a box, and which
+-- box that is doesn't matter to any proof. A group has a box (`listed_some` in `Lookups.antt`), and its boxes lie on the grid, so their
+-- indexes are within the table (`index_in`). After the loop every group has a key below the length of the table, so the groups can be
+-- chained by their keys.
 use Rattle.std.proofs.Common.{◌<◌, length, slice_index, ap, arith}
+use Rattle.std.specs.Vec.{vec_len}
+use Rattle.std.proofs.Math.ListN.{length-set}
 use Rattle.closure.proofs.Lists.{length_more}
-use Rattle.closure.proofs.Lookups.{bucket_more, key_within, listed_some}
+use Rattle.closure.proofs.Lookups.{bucket_more, index_in, key_within, listed_some}
 use Rattle.closure.proofs.tables.fill_buckets.Goals as goal
+use Rattle.closure.proofs.tables.fill_buckets.Goals.{After-smallest_bucket-key}
 
-pub first_of-requires : goal.first_of-requires
-first_of-requires g c =
+pub smallest_bucket-key-requires-clause-some : goal.smallest_bucket-key-requires-clause-some
+smallest_bucket-key-requires-clause-some g c =
     let test = c.loop-group-test.true in
     let count = c.len-group-end.ensures in
     rw c.boxes.ensures (listed_some c.args.board.now c.args.groups.now c.requires.lawful c.requires.groups c.loop-group.group (omega arith))
 
+pub smallest_bucket-key-requires-clause-within : goal.smallest_bucket-key-requires-clause-within
+smallest_bucket-key-requires-clause-within g c = λ q has.
+    let test = c.loop-group-test.true in
+    let count = c.len-group-end.ensures in
+    rw (c.deref.ensures.value, c.loop-group.invariant.sizes) (index_in c.args.board.now c.args.groups.now c.requires.lawful c.requires.groups
+    c.loop-group.group (omega arith) c.shape.ensures.formed.sides q (rw c.boxes.ensures at has))
+
+-- the key is within the sizes
+low : (g : _) (c : After-smallest_bucket-key g) → c.smallest_bucket-key.result < vec_len c.loop-group.sizes
+low g c =
+    let box = c.smallest_bucket-key.ensures in
+    let test = c.loop-group-test.true in
+    let count = c.len-group-end.ensures in
+    rw (c.loop-group.sizes.ok.0, c.loop-group.invariant.sizes, box.2) (index_in c.args.board.now c.args.groups.now c.requires.lawful c.requires.groups c.loop-group.group (omega arith)
+    c.shape.ensures.formed.sides box.0 (rw c.boxes.ensures at box.1))
+
+pub index-requires : goal.index-requires
+index-requires g c = low g (goal.at.index-requires g c).After-smallest_bucket-key
+
+pub index_mut-requires : goal.index_mut-requires
+index_mut-requires g c = low g (goal.at.index_mut-requires g c).After-smallest_bucket-key
+
 pub loop-group-preserved : goal.loop-group-preserved
-loop-group-preserved g c = grind (arith, bucket_more, length_more)
+loop-group-preserved g c = record {
+  sizes = grind (arith, length-set);
+  long = grind (arith, length_more);
+  roomy = grind arith;
+  each = grind (arith, bucket_more);
+}
 
 pub chain-requires : goal.chain-requires
 chain-requires g c = λ j lt.
     let inv = c.loop-group.invariant in
     let test = c.loop-group-test.false in
     let count = c.len-group-end.ensures in
-    let keys = c.deref.ensures.value in
+    let keys = c.deref-2.ensures.value in
     let long = inv.long in
     let end = c.loop-group.auto.group-end in
     let keys_long = ap (λ l. length l) keys in
