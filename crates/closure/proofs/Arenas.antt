@@ -1,15 +1,11 @@
 -- The lines of an arena as patterns. The coordinates of a line name just its cells, so the boxes of its pattern are the set of its boxes in
 -- the arena.
 use Rattle.std.proofs.Common.{◌≡◌, ℕ, ◌<◌, List, [], ◌∷◌, length, refl, ◌∙◌, ap, arith}
-use Rattle.std.specs.Prelude.{map}
+use Rattle.std.{specs.Prelude.map, specs.List.Contains, proofs.lemmas.List.get_or-map, proofs.lemmas.List.length-map}
 use Rattle.std.specs.FinSet as set
-use Rattle.std.specs.List.{Contains}
-use Rattle.std.proofs.lemmas.List.{get_or-map, length-map}
 use Rattle.cellset.specs.declared.cell.Cell.{Cell}
-use Rattle.closure.specs.Pattern.{cell_of, cells_of, pattern_of}
+use Rattle.closure.specs.{Pattern.cell_of, Pattern.cells_of, Pattern.pattern_of, Sides.cells_in, declared.arena.Arena.Arena}
 use Rattle.closure.specs.Arena.{boxes_at, coord_of, line_at, line_in, lines_in, list_in, pattern_at}
-use Rattle.closure.specs.Sides.{cells_in}
-use Rattle.closure.specs.declared.arena.Arena.{Arena}
 use Rattle.closure.proofs.CellLists.{at_any}
 
 -- Cells are the cells of their coordinates.

@@ -2,17 +2,14 @@
 -- about every member. A loop over the list builds the set of the elements that it has passed, and each turn adds one. The set of the cells
 -- of coordinates is that of a list of cells.
 use Rattle.std.proofs.Common.{◌≡◌, ℕ, zero, suc, ◌+◌, ◌≤◌, ◌<◌, List, [], ◌∷◌, ◌++◌, length, get_or, take, refl, sym, ◌∙◌, ap, subst, inl, inr, arith}
-use Rattle.std.specs.Prelude.{map}
+use Rattle.std.specs.{Prelude.map, List.All, List.Contains}
 use Rattle.std.specs.FinSet as set
-use Rattle.std.specs.List.{All, Contains}
 use Rattle.std.proofs.lemmas.List.{get_or-map, length-map, map_push, take_more, take_all}
 use Rattle.std.proofs.lemmas.List.Elements.{All-head, All-tail, All-same, Contains-append_right}
-use Rattle.cellset.specs.CellSet.{Has}
-use Rattle.cellset.specs.declared.cell.Cell.{Cell}
+use Rattle.cellset.specs.{Cell.cell_cmp, CellSet.Has, CellSet.Lacks, declared.cell.Cell.Cell}
 use Rattle.cellset.proofs.Members.{cells_total, exact_cells, inserted, kept_by_insert, has_insert, has_empty}
 use Rattle.answers.specs.declared.pattern.Coord.{Coord}
-use Rattle.closure.specs.Pattern.{cell_of, cells_of}
-use Rattle.closure.specs.Sides.{cells_in}
+use Rattle.closure.specs.{Pattern.cell_of, Pattern.cells_of, Sides.cells_in}
 
 -- A read within a list doesn't depend on what a read past its end gives.
 pub at_any : {X : Type 0} (xs : List X) (i : ℕ) (d e : X) → i < length xs → get_or xs i d ≡ get_or xs i e
@@ -55,6 +52,18 @@ list_more xs i d lt = ap cells_in (take_more xs i d lt) ∙ set.from_list_push c
 
 pub list_all : (xs : List Cell) (n : ℕ) → length xs ≤ n → cells_in (take n xs) ≡ cells_in xs
 list_all xs n past = ap cells_in (take_all n xs past)
+
+-- ---- what loops over cells need, in forms that `grind` takes up
+pub read_in : (xs : List Cell) (i : ℕ) → i < length xs → (get_or xs i no_cell ≡ get_or xs i no_cell) × Has (cells_in xs) (get_or xs i no_cell)
+read_in xs i lt = (refl, in_list xs i no_cell lt)
+
+pub empty_lacks : (c : Cell) → Lacks set.empty c
+empty_lacks c = set.contains-empty cell_cmp c
+
+pub next_in : (xs : List Cell) (i : ℕ) → i < length xs → cells_in (take (i + 1) xs) ≡ set.insert (cells_in (take i xs)) (get_or xs i no_cell)
+next_in xs i lt = list_more xs i no_cell lt
+
+pub ruleset over_cells = (read_in, next_in, list_all, has_insert, empty_lacks)
 
 -- ---- lists of coordinates
 -- The cell of each coordinate is in the set of a list of coordinates.

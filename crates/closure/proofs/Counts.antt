@@ -2,14 +2,10 @@
 -- of every set of cells, since the members can be removed one by one. A new cell makes the number one more, and a removed member makes
 -- it one less. So a subset has at most as many members, and two sets have together as many as their union and their intersection.
 use Rattle.std.proofs.Common.{◌≡◌, ◌≢◌, ◌+◌, ◌≤◌, true, ◌||◌, cond, List, [], ◌∷◌, sym, ◌∙◌, ap, subst, inl, inr, arith}
-use Rattle.std.proofs.lemmas.Bool.{false≢true}
+use Rattle.std.{proofs.lemmas.Bool.false≢true, specs.FinSet.items, specs.FinSet.contains-items, specs.FinSet.len-empty, specs.List.list_any}
 use Rattle.std.specs.FinSet as set
-use Rattle.std.specs.FinSet.{items, contains-items, len-empty}
-use Rattle.std.specs.List.{list_any}
-use Rattle.cellset.specs.Cell.{cell_cmp}
-use Rattle.cellset.specs.CellSet.{Cells, Has, Lacks}
-use Rattle.cellset.specs.declared.cell.Cell.{Cell}
-use Rattle.cellset.proofs.Members.{cells_total, same, same_or_other, has_or_lacks, not_both, inserted, kept_by_insert, has_insert, kept_by_remove, has_remove, has_empty, same_members, lacks_where}
+use Rattle.cellset.specs.{Cell.cell_cmp, CellSet.Cells, CellSet.Has, CellSet.Lacks, declared.cell.Cell.Cell}
+use Rattle.cellset.proofs.Members.{cells_total, same, same_or_other, has_or_lacks, not_both, inserted, kept_by_insert, has_insert, kept_by_remove, has_remove, has_empty, same_members, insert_again, lacks_where, union_empty, union_insert}
 use Rattle.closure.proofs.Sets.{other_member, removed_lacks, put_back, has_intersection, in_intersection, has_union, in_union_left, in_union_right}
 
 pub len-insert_new : (s : Cells) (c : Cell) → Lacks s c → set.len (set.insert s c) ≡ set.len s + 1
@@ -36,15 +32,13 @@ module _ (P : Cells → Type 0) (none : P set.empty) (more : (s : Cells) (k : Ce
   of_every_set s = within_list (items s) s (λ q h. sym (contains-items s q) ∙ h)
 
 -- ---- a subset has at most as many members
-IsFewer : Cells → Type 0
+abbrev IsFewer : Cells → Type 0
 IsFewer s = (t : Cells) → ((c : Cell) → Has s c → Has t c) → set.len s ≤ set.len t
 
 none_fewer : IsFewer set.empty
-unfolding IsFewer
 none_fewer t within = let none = len-empty cell_cmp in omega arith
 
 more_fewer : (s : Cells) (k : Cell) → Lacks s k → IsFewer s → IsFewer (set.insert s k)
-unfolding IsFewer
 more_fewer s k lacks fewer t within =
     let rest = fewer (set.remove t k) (λ c h. kept_by_remove t k c (other_member s c k h lacks) (within c (kept_by_insert s k c h))) in
     let one_more = len-insert_new s k lacks in
@@ -52,86 +46,53 @@ more_fewer s k lacks fewer t within =
     omega arith
 
 pub len-within : (s t : Cells) → ((c : Cell) → Has s c → Has t c) → set.len s ≤ set.len t
-unfolding IsFewer
 len-within s = of_every_set IsFewer none_fewer more_fewer s
 
 -- ---- two sets have together as many members as their union and their intersection
-Adds : Cells → Cells → Type 0
+abbrev Adds : Cells → Cells → Type 0
 Adds s t = set.len (set.union s t) + set.len (set.intersection s t) ≡ set.len s + set.len t
 
 none_adds : (s : Cells) → Adds s set.empty
-unfolding Adds
 none_adds s =
-    let same_union : set.union s set.empty ≡ s = same_members _ s
-    (λ c h. elim (has_union s set.empty c h) [ inl has ↦ has | inr none ↦ has_empty c none ])
-    (λ c h. in_union_left s set.empty c h) in
     let no_common : set.intersection s set.empty ≡ set.empty = same_members _ set.empty
     (λ c h. (has_intersection s set.empty c h).1) (λ c h. has_empty c h) in
-    let union_len = ap set.len same_union in
+    let union_len = ap set.len (union_empty s) in
     let common_len = ap set.len no_common in
     let none = len-empty cell_cmp in
     omega arith
 
--- If the second of two sets gets a cell of the first one, the union stays, and they have one more cell in common.
+-- If the second of two sets gets a cell of the first one, they have one more cell in common.
+pub common_more : (s t : Cells) (k : Cell) → Has s k → Lacks t k → set.len (set.intersection s (set.insert t k)) ≡ set.len (set.intersection s t) + 1
+common_more s t k has lacks = ap set.len more ∙
+    len-insert_new (set.intersection s t) k (lacks_where (set.intersection s t) k (λ h. not_both t k (has_intersection s t k h).1 lacks))
+  where
+    more : set.intersection s (set.insert t k) ≡ set.insert (set.intersection s t) k
+    more = same_members _ _ (λ c h. grind (arith, has_intersection, has_insert, inserted, kept_by_insert, in_intersection))
+        (λ c h. grind (arith, has_intersection, has_insert, inserted, kept_by_insert, in_intersection))
+
+-- Then the union stays.
 shared_adds : (s t : Cells) (k : Cell) → Has s k → Lacks t k → Adds s t → Adds s (set.insert t k)
-unfolding Adds
 shared_adds s t k has lacks adds =
-    let same_union : set.union s (set.insert t k) ≡ set.union s t = same_members _ _
-    (λ c h. elim (has_union s (set.insert t k) c h) [
-      | inl in_s ↦ in_union_left s t c in_s
-      | inr new ↦ elim (has_insert t k c new) [
-        | inl e ↦ in_union_left s t c (rw e has)
-        | inr in_t ↦ in_union_right s t c in_t
-      ]
-    ])
-    (λ c h. elim (has_union s t c h) [ inl in_s ↦ in_union_left s _ c in_s | inr in_t ↦ in_union_right s _ c (kept_by_insert t k c in_t) ]) in
-    let one_common : set.intersection s (set.insert t k) ≡ set.insert (set.intersection s t) k = same_members _ _
-    (λ c h. let both = has_intersection s (set.insert t k) c h in elim (has_insert t k c both.1) [
-      | inl e ↦ rw e (inserted (set.intersection s t) k)
-      | inr in_t ↦ kept_by_insert (set.intersection s t) k c (in_intersection s t c both.0 in_t)
-    ])
-    (λ c h. elim (has_insert (set.intersection s t) k c h) [
-      | inl e ↦ rw e (in_intersection s (set.insert t k) k has (inserted t k))
-      | inr old ↦ let both = has_intersection s t c old in in_intersection s (set.insert t k) c both.0 (kept_by_insert t k c both.1)
-    ]) in
-    let union_len = ap set.len same_union in
-    let not_common = lacks_where (set.intersection s t) k (λ h. not_both t k (has_intersection s t k h).1 lacks) in
-    let common_len = ap set.len one_common ∙ len-insert_new (set.intersection s t) k not_common in
+    let union_len = ap set.len (sym (union_insert s t k) ∙ insert_again (set.union s t) k (in_union_left s t k has)) in
+    let common_len = common_more s t k has lacks in
     let t_len = len-insert_new t k lacks in
     omega arith
 
 -- If the second of two sets gets a cell that the first one lacks, the union has one more, and the intersection stays.
 apart_adds : (s t : Cells) (k : Cell) → Lacks s k → Lacks t k → Adds s t → Adds s (set.insert t k)
-unfolding Adds
 apart_adds s t k off lacks adds =
-    let one_more : set.union s (set.insert t k) ≡ set.insert (set.union s t) k = same_members _ _
-    (λ c h. elim (has_union s (set.insert t k) c h) [
-      | inl in_s ↦ kept_by_insert (set.union s t) k c (in_union_left s t c in_s)
-      | inr new ↦ elim (has_insert t k c new) [
-        | inl e ↦ rw e (inserted (set.union s t) k)
-        | inr in_t ↦ kept_by_insert (set.union s t) k c (in_union_right s t c in_t)
-      ]
-    ])
-    (λ c h. elim (has_insert (set.union s t) k c h) [
-      | inl e ↦ rw e (in_union_right s (set.insert t k) k (inserted t k))
-      | inr old ↦ elim (has_union s t c old) [ inl in_s ↦ in_union_left s _ c in_s | inr in_t ↦ in_union_right s _ c (kept_by_insert t k c in_t) ]
-    ]) in
     let same_common : set.intersection s (set.insert t k) ≡ set.intersection s t = same_members _ _
-    (λ c h. let both = has_intersection s (set.insert t k) c h in elim (has_insert t k c both.1) [
-      | inl e ↦ not_both s k (rw e at both.0) off
-      | inr in_t ↦ in_intersection s t c both.0 in_t
-    ])
-    (λ c h. let both = has_intersection s t c h in in_intersection s (set.insert t k) c both.0 (kept_by_insert t k c both.1)) in
+    (λ c h. grind (arith, has_intersection, has_insert, in_intersection, not_both))
+    (λ c h. grind (arith, has_intersection, kept_by_insert, in_intersection)) in
     let not_there = lacks_where (set.union s t) k (λ h. elim (has_union s t k h) [ inl in_s ↦ not_both s k in_s off | inr in_t ↦ not_both t k in_t lacks ]) in
-    let union_len = ap set.len one_more ∙ len-insert_new (set.union s t) k not_there in
+    let union_len = ap set.len (sym (union_insert s t k)) ∙ len-insert_new (set.union s t) k not_there in
     let common_len = ap set.len same_common in
     let t_len = len-insert_new t k lacks in
     omega arith
 
-pub len-union : (s t : Cells) → set.len (set.union s t) + set.len (set.intersection s t) ≡ set.len s + set.len t
-unfolding Adds
-len-union s t = of_every_set (Adds s) (none_adds s) (λ u k lacks adds. has_or_lacks s k (λ has. shared_adds s u k has lacks adds)
+pub len_union : (s t : Cells) → set.len (set.union s t) + set.len (set.intersection s t) ≡ set.len s + set.len t
+len_union s t = of_every_set (Adds s) (none_adds s) (λ u k lacks adds. has_or_lacks s k (λ has. shared_adds s u k has lacks adds)
     (λ off. apart_adds s u k off lacks adds)) t
 
-pub len-union_right : (s t : Cells) → set.len t ≤ set.len (set.union s t)
-len-union_right s t = search (len-within, in_union_right)
+pub len_union_right : (s t : Cells) → set.len t ≤ set.len (set.union s t)
+len_union_right s t = search (len-within, in_union_right)

@@ -2,16 +2,11 @@
 -- the region of the entry, that is the pattern's region. So a list of entries, one for each pattern in turn, covers what the list of
 -- patterns covers.
 use Rattle.std.proofs.Common.{◌≡◌, ◌≢◌, ℕ, zero, suc, ◌+◌, ◌<◌, List, [], ◌∷◌, ◌++◌, length, get_or, take, refl, inl, inr, arith, ◌⊎◌}
-use Rattle.std.specs.Prelude.{◌↔◌}
-use Rattle.std.specs.List.{All, AllZip, Contains}
-use Rattle.std.proofs.lemmas.List.{take_more}
+use Rattle.std.{specs.Prelude.◌↔◌, specs.List.All, specs.List.AllZip, specs.List.Contains, proofs.lemmas.List.take_more}
 use Rattle.std.proofs.lemmas.List.Elements.{All-cons, Contains-append_right}
-use Rattle.cellset.specs.CellSet.{Has}
-use Rattle.cellset.specs.declared.cell.Cell.{Cell}
-use Rattle.cellset.proofs.Members.{not_both, lacks_where}
+use Rattle.cellset.{specs.CellSet.Has, specs.declared.cell.Cell.Cell, proofs.Members.not_both, proofs.Members.lacks_where}
 use Rattle.board.specs.Game.{Level, State}
-use Rattle.closure.specs.Pattern.{Pattern, Covers, IsCovered}
-use Rattle.closure.proofs.CellLists.{each_in, in_list}
+use Rattle.closure.{specs.Pattern.Pattern, specs.Pattern.Covers, specs.Pattern.IsCovered, proofs.CellLists.each_in, proofs.CellLists.in_list}
 use Rattle.closure.specs.Scan.{EntryCells, EntryCovers, EntriesCover, IsEntryOf}
 
 -- An element of a list is its first one or one of the rest.
@@ -37,36 +32,29 @@ module _ (level : Level) (s : State) where
         },
   )
 
-  covered_by : (patterns : List Pattern) (entries : List EntryCells) → AllZip (IsEntryOf level) patterns entries → EntriesCover level.room entries s
-      → IsCovered level patterns s
-  covered_by [] [] all (entry, (k, lt, is), covers) = absurd (omega arith)
-  covered_by (p ∷ ps) [] all found = absurd all
-  covered_by [] (e ∷ es) all found = absurd all
-  covered_by (p ∷ ps) (e ∷ es) (head, rest) (entry, listed, covers) =
-      elim (first_or_rest e es entry listed) [
-        | inl same ↦ (p, (0, omega arith, refl), (entry_covers p e head).0 (rw same covers))
-        | inr later ↦
-            let found = covered_by ps es rest (entry, later, covers) in
-            (found.0, Contains-append_right (p ∷ []) ps found.0 found.1, found.2)
-      ]
-
-  covers_by : (patterns : List Pattern) (entries : List EntryCells) → AllZip (IsEntryOf level) patterns entries → IsCovered level patterns s
-      → EntriesCover level.room entries s
-  covers_by [] [] all (pattern, (k, lt, is), covers) = absurd (omega arith)
-  covers_by (p ∷ ps) [] all found = absurd all
-  covers_by [] (e ∷ es) all found = absurd all
-  covers_by (p ∷ ps) (e ∷ es) (head, rest) (pattern, listed, covers) =
-      elim (first_or_rest p ps pattern listed) [
-        | inl same ↦ (e, (0, omega arith, refl), (entry_covers p e head).1 (rw same covers))
-        | inr later ↦
-            let found = covers_by ps es rest (pattern, later, covers) in
-            (found.0, Contains-append_right (e ∷ []) es found.0 found.1, found.2)
-      ]
+-- If what holds of an item holds of the item beside it in another list, some item of the one has it exactly if some item of the other does.
+some_beside : {X Y : Type 0} (R : X → Y → Type 0) (P : X → Type 0) (Q : Y → Type 0) → ((x : X) (y : Y) → R x y → Q y ↔ P x) → (xs : List X) (ys : List Y)
+    → AllZip R xs ys → ((y : Y) × Contains ys y × Q y) ↔ ((x : X) × Contains xs x × P x)
+some_beside R P Q each [] [] all = (λ (z, (k, lt, is), holds). absurd (omega arith), λ (z, (k, lt, is), holds). absurd (omega arith))
+some_beside R P Q each (x ∷ xs) [] all = absurd all
+some_beside R P Q each [] (y ∷ ys) all = absurd all
+some_beside R P Q each (x ∷ xs) (y ∷ ys) (head, rest) =
+    let later = some_beside R P Q each xs ys rest in (
+      λ (z, listed, holds). elim (first_or_rest y ys z listed) [
+        | inl same ↦ (x, (0, omega arith, refl), (each x y head).0 (rw same holds))
+        | inr after ↦ let found = later.0 (z, after, holds) in (found.0, Contains-append_right (x ∷ []) xs found.0 found.1, found.2)
+      ],
+      λ (z, listed, holds). elim (first_or_rest x xs z listed) [
+        | inl same ↦ (y, (0, omega arith, refl), (each x y head).1 (rw same holds))
+        | inr after ↦ let found = later.1 (z, after, holds) in (found.0, Contains-append_right (y ∷ []) ys found.0 found.1, found.2)
+      ],
+    )
 
 -- the entries cover what the patterns cover
 pub entries_cover : (level : Level) (patterns : List Pattern) (entries : List EntryCells) → AllZip (IsEntryOf level) patterns entries → (s : State)
     → EntriesCover level.room entries s ↔ IsCovered level patterns s
-entries_cover level patterns entries all s = search (covered_by, covers_by)
+entries_cover level patterns entries all s =
+    some_beside (IsEntryOf level) (λ p. Covers level p s) (λ e. EntryCovers level.room e s) (entry_covers level s) patterns entries all
 
 -- the entries are on the grid of the level
 pub entries_grid : (level : Level) (patterns : List Pattern) (entries : List EntryCells) → AllZip (IsEntryOf level) patterns entries

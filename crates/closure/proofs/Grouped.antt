@@ -5,26 +5,16 @@ use Rattle.std.proofs.Common.{◌≡◌, Bool, true, false, ℕ, zero, suc, ◌<
 use Rattle.std.specs.Prelude.{◌↔◌, cond, nat_eq, slice_index}
 use Rattle.std.specs.FinSet as set
 use Rattle.std.proofs.lemmas.Bool.{cond-true, eq-eqb, eqb-true}
-use Rattle.cellset.specs.Cell.{IsOn, neighbor}
-use Rattle.cellset.specs.CellSet.{Cells, Has, Lacks}
-use Rattle.cellset.specs.declared.cell.Cell.{Cell}
+use Rattle.cellset.specs.{Cell.IsOn, Cell.neighbor, CellSet.Cells, CellSet.Has, CellSet.Lacks, declared.cell.Cell.Cell}
 use Rattle.cellset.proofs.Members.{has_empty}
-use Rattle.reach.specs.Region.{InRegion, IsFree}
+use Rattle.reach.specs.{Region.InRegion, Region.IsFree, Reached.Reached, Reached.at_seed, Reached.by_step, Reached.WalksTo}
 use Rattle.reach.specs.Region as region
-use Rattle.reach.specs.Reached.{Reached, at_seed, by_step, WalksTo}
-use Rattle.board.specs.Game.{Level, State, IsFloor}
-use Rattle.board.specs.Board.{IsWellFormed}
+use Rattle.board.specs.{Game.Level, Game.State, Game.IsFloor, Board.IsWellFormed}
 use Rattle.closure.specs.Pattern.{Pattern, Seeds, whole_room, listed, seed_cells, Covers, InPatternRegion, IsCovered}
-use Rattle.closure.specs.Closed.{IsLawful, AreLawful, IsListedSeed}
-use Rattle.closure.specs.Arena.{pattern_at}
-use Rattle.closure.specs.Sides.{cells_in}
-use Rattle.closure.specs.declared.groups.Groups.{Groups}
+use Rattle.closure.specs.{Closed.IsLawful, Closed.AreLawful, Closed.IsListedSeed, Arena.pattern_at, Sides.cells_in, declared.groups.Groups.Groups}
 use Rattle.closure.specs.Groups.{HasLine, IsGrouped, IsSeed, IsSeedOf, SeedsAreIn, boxes_of, list_of, position_at, seeds_with}
-use Rattle.closure.specs.Tables.{GroupCovers}
-use Rattle.closure.proofs.Arenas.{boxes_is, list_long, listed_at}
-use Rattle.closure.proofs.CellLists.{at_any}
-use Rattle.closure.proofs.Regions.{region_lacks}
-use Rattle.closure.proofs.Sets.{has_difference, has_union, in_difference, in_union_left, in_union_right}
+use Rattle.closure.{specs.Tables.GroupCovers, proofs.Arenas.boxes_is, proofs.Arenas.list_long, proofs.Arenas.listed_at, proofs.CellLists.at_any}
+use Rattle.closure.proofs.{Regions.region_lacks, Sets.has_difference, Sets.has_union, Sets.in_difference, Sets.in_union_left, Sets.in_union_right}
 
 -- ---- seeds
 -- The seeds of a group are the seeds of the patterns with its number.
@@ -68,6 +58,10 @@ pub seeds_more : (s : Seeds) (P Q : Cell → Type 0) → ((c : Cell) → P c →
 seeds_more whole_room P Q into all = absurd all
 seeds_more (listed cells) P Q into all = search
 
+-- Another fact of the pattern of the same line.
+pub on_line : {groups : Groups} {g : ℕ} {P Q : Pattern → Type 0} (line : HasLine groups g P) → Q (pattern_at (list_of groups) line.line) → HasLine groups g Q
+on_line line fact = record { line = line.line; within = line.within; grouped = line.grouped; fact = fact }
+
 -- ---- positions
 module _ (level : Level) (groups : Groups) (grouped : IsGrouped groups) where
   module _ (g : ℕ) where
@@ -95,20 +89,10 @@ module _ (level : Level) (groups : Groups) (grouped : IsGrouped groups) where
     pub line_of : (c : Cell) → InPatternRegion level (position_at level groups g) c → HasLine groups g (λ p. InPatternRegion level p c)
     line_of c (region.at_seed seed free) =
         let line = line_of_seed c seed in
-        record {
-          line = line.line;
-          within = line.within;
-          grouped = line.grouped;
-          fact = region.at_seed line.fact (rw (line_boxes line.line line.within line.grouped) free);
-        }
+        on_line line (region.at_seed line.fact (rw (line_boxes line.line line.within line.grouped) free))
     line_of c (region.beside {c = b} d before free) =
         let line = line_of b before in
-        record {
-          line = line.line;
-          within = line.within;
-          grouped = line.grouped;
-          fact = region.beside d line.fact (rw (line_boxes line.line line.within line.grouped) free);
-        }
+        on_line line (region.beside d line.fact (rw (line_boxes line.line line.within line.grouped) free))
 
   -- the list covers a state exactly if the position of a group does
   pub covered_by_group : (s : State) → IsCovered level (list_of groups) s → (g : ℕ) × GroupCovers level groups g s
@@ -209,12 +193,7 @@ module _ (level : Level) (formed : IsWellFormed level) (groups : Groups) (groupe
       let p = pattern_at (list_of groups) line.line in
       let both = (free c).0 seed.0 in
       let lacks = rw (← (line_boxes level groups grouped g line.line line.within line.grouped)) at both.1 in
-      region.at_seed (seed_of_line level groups grouped g c (record {
-        line = line.line;
-        within = line.within;
-        grouped = line.grouped;
-        fact = seed_is level p.boxes p.seeds c both.0 lacks line.fact;
-      })) (is_free c seed.0)
+      region.at_seed (seed_of_line level groups grouped g c (on_line line (seed_is level p.boxes p.seeds c both.0 lacks line.fact))) (is_free c seed.0)
   there c (by_step b before step) =
       subst In (sym step.next) (region.beside step.dir (there b before) (is_free (neighbor b step.dir) (rw step.next at step.free)))
 
@@ -222,10 +201,7 @@ module _ (level : Level) (formed : IsWellFormed level) (groups : Groups) (groupe
   back c (region.at_seed seed f) =
       let line = line_of_seed level groups grouped g c seed in
       let p = pattern_at (list_of groups) line.line in
-      at_seed (
-        position_free c (region.at_seed seed f),
-        record { line = line.line; within = line.within; grouped = line.grouped; fact = seed_of level p.boxes p.seeds c line.fact },
-      )
+      at_seed (position_free c (region.at_seed seed f), on_line line (seed_of level p.boxes p.seeds c line.fact))
   back c (region.beside {c = b} q before f) =
       by_step b (back b before) (record { dir = q; next = refl; free = position_free (neighbor b q) (region.beside q before f) })
 

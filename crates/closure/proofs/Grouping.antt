@@ -1,25 +1,14 @@
 -- Groups as they are built, and their floods. Each line so far has a group, and each group a line. The flood of a group finds what walks
 -- reach from its free seeds, whether a line of it says `*` or all list seeds.
 use Rattle.std.proofs.Common.{◌≡◌, ℕ, ◌⊎◌, ◌≤◌, ◌+◌, ◌<◌, List, [], ◌∷◌, ◌++◌, length, sym, ◌∙◌, ap, inl, inr, arith}
-use Rattle.std.specs.Prelude.{◌↔◌, map, slice_index}
-use Rattle.std.proofs.lemmas.List.{get_or-map, length-map}
+use Rattle.std.{specs.Prelude.◌↔◌, specs.Prelude.map, specs.Prelude.slice_index, proofs.lemmas.List.get_or-map, proofs.lemmas.List.length-map}
 use Rattle.std.proofs.lemmas.Bool.{cases_lt}
-use Rattle.cellset.specs.CellSet.{Cells, Has}
-use Rattle.cellset.specs.declared.cell.Cell.{Cell}
-use Rattle.reach.specs.Reached.{Reached, at_seed, by_step, WalksTo}
-use Rattle.reach.proofs.Chains.{reached_more}
-use Rattle.closure.specs.Arena.{boxes_at, line_at}
-use Rattle.closure.specs.Around.{IsFlooded, IsOnePiece}
-use Rattle.closure.specs.Groups.{AreGroups, HasSeedsFrom, HasSeedsOnly, HasStar, IsSeedOf}
-use Rattle.closure.specs.Spans.{AreSpans, IsWithin, part, span_at}
-use Rattle.closure.specs.declared.groups.Groups.{Groups}
-use Rattle.closure.specs.declared.arena.Arena.{Arena}
-use Rattle.closure.specs.declared.arena.StoredLine.{StoredLine}
-use Rattle.closure.specs.declared.arena.Span.{Span}
-use Rattle.closure.proofs.Grouped.{seed_among}
-use Rattle.closure.proofs.Lists.{each_more, length_more, new_item, old_item}
-use Rattle.closure.proofs.Pieces.{reached_whole}
-use Rattle.closure.proofs.Spans.{no_span}
+use Rattle.cellset.specs.{CellSet.Cells, CellSet.Has, declared.cell.Cell.Cell}
+use Rattle.reach.{specs.Reached.Reached, specs.Reached.at_seed, specs.Reached.by_step, specs.Reached.WalksTo, proofs.Chains.reached_more}
+use Rattle.closure.specs.{Arena.boxes_at, Arena.line_at, Around.IsFlooded, Around.IsOnePiece, Spans.AreSpans, Spans.IsWithin, Spans.part, Spans.span_at}
+use Rattle.closure.specs.{Groups.AreGroups, Groups.HasSeedsFrom, Groups.HasSeedsOnly, Groups.HasStar, Groups.IsSeedOf, declared.groups.Groups.Groups}
+use Rattle.closure.{specs.declared.arena.Arena.Arena, specs.declared.arena.StoredLine.StoredLine, specs.declared.arena.Span.Span, proofs.Grouped.on_line, proofs.Grouped.seed_among}
+use Rattle.closure.proofs.{Lists.each_more, Lists.length_more, Lists.new_item, Lists.old_item, Pieces.reached_whole, Spans.no_span}
 
 -- ---- one line more
 module _ (arena : Arena) (j : ℕ) (lt : j < length arena.lines.items) where
@@ -110,15 +99,7 @@ module _ (groups : Groups) (g : ℕ) (free region : Cells) where
 
   -- If a line says `*`, each free cell is a seed.
   pub flooded_star : region ≡ free → HasStar groups g → IsFlooded groups g free region
-  flooded_star is star = all_flooded is (λ c has. at_seed (
-    has,
-    record {
-      line = star.line;
-      within = star.within;
-      grouped = star.grouped;
-      fact = rw star.fact tt;
-    },
-  ))
+  flooded_star is star = all_flooded is (λ c has. at_seed (has, on_line star (rw star.fact tt)))
 
   -- If the free cells are in one piece, a flood from a seed reaches all of them.
   pub flooded_whole : region ≡ free → IsOnePiece (Has free) → (x : Cell) → Seed x → IsFlooded groups g free region

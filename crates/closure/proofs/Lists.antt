@@ -1,6 +1,14 @@
--- Lists to which an item is added.
-use Rattle.std.proofs.Common.{◌≡◌, ℕ, zero, suc, ◌+◌, ◌<◌, List, [], ◌∷◌, ◌++◌, length, get_or, refl, arith}
-use Rattle.std.proofs.lemmas.Bool.{cases_lt}
+-- Items of lists, and lists to which an item is added.
+use Rattle.std.proofs.Common.{◌≡◌, ℕ, zero, suc, ◌+◌, ◌<◌, List, [], ◌∷◌, ◌++◌, length, get_or, refl, ◌∙◌, ap, arith}
+use Rattle.std.{specs.Prelude.map, specs.List.Contains, proofs.lemmas.Bool.cases_lt, proofs.lemmas.List.get_or-map, proofs.lemmas.List.length-map}
+use Rattle.std.proofs.lemmas.List.Elements.{Contains-append_right}
+
+-- What stands within a list is one of its items.
+pub middle : {X : Type 0} (before : List X) (x : X) (after : List X) → Contains (before ++ x ∷ after) x
+middle before x after = Contains-append_right before (x ∷ after) x (0, omega arith, refl)
+
+pub mapped : {X Y : Type 0} (f : X → Y) (xs : List X) (x : X) → Contains xs x → Contains (map f xs) (f x)
+mapped f xs x (k, lt, is) = let long = length-map xs f in (k, omega arith, get_or-map f xs k x (f x) lt ∙ ap f is)
 
 pub old_item : {X : Type 0} (xs : List X) (x : X) (i : ℕ) (d : X) → i < length xs → get_or (xs ++ x ∷ []) i d ≡ get_or xs i d
 old_item [] x i d lt = absurd (omega arith)

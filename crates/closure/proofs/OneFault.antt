@@ -2,54 +2,38 @@
 -- Two lines that are each the first at fault are one: the lines before a first one are fine, and a line at fault isn't. The reasons
 -- exclude each other, as each says that the reasons before it don't hold. Of two pushes one comes before the other, or they are by one
 -- player in one direction, and no uncovered push comes before a first one. The same argument serves for leaks.
-use Rattle.std.proofs.Common.{◌≡◌, ◌≢◌, ◌⊎◌, ℕ, List, [], ◌∷◌, ◌++◌, append_assoc, refl, sym, ◌∙◌, ap, subst, inl, inr, ⊎_elim, arith}
-use Rattle.std.specs.Prelude.{Result, Ok, Err, IfOk, IfErr, IsOkUnless}
-use Rattle.std.specs.List.{Contains}
+use Rattle.std.proofs.Common.{◌≡◌, ◌≢◌, ◌⊎◌, ℕ, List, [], ◌∷◌, ◌++◌, append_assoc, refl, sym, ◌∙◌, ap, inl, inr, ⊎_elim, arith}
+use Rattle.std.specs.{Prelude.Result, Prelude.Ok, Prelude.Err, Prelude.IfOk, Prelude.IfErr, Prelude.IsOkUnless, List.Contains}
 use Rattle.std.proofs.lemmas.Bool.{cases_lt}
-use Rattle.std.proofs.lemmas.List.Elements.{Contains-append_right}
-use Rattle.cellset.specs.CellSet.{Cells}
-use Rattle.cellset.specs.declared.cell.Cell.{Cell}
-use Rattle.cellset.specs.declared.dir.Dir.{Dir}
-use Rattle.cellset.proofs.Members.{not_both}
-use Rattle.cellset.proofs.Places.{places}
-use Rattle.cellset.proofs.ReadingOrder.{before_or_after}
-use Rattle.reach.specs.Pushes.{dir_rank}
-use Rattle.reach.specs.declared.pushes.Push.{Push as PushOut}
-use Rattle.reach.proofs.PushOrder.{same_dir, push_before_or_after}
+use Rattle.cellset.{specs.CellSet.Cells, specs.declared.cell.Cell.Cell, specs.declared.dir.Dir.Dir, proofs.Members.not_both, proofs.Places.places}
+use Rattle.cellset.proofs.{ReadingOrder.before_or_after, Truth.either}
+use Rattle.reach.{specs.Pushes.dir_rank, specs.declared.pushes.Push.Push as PushOut, proofs.PushOrder.same_dir, proofs.PushOrder.push_before_or_after}
 use Rattle.board.specs.Game.{Level}
 use Rattle.answers.specs.Body.{PatternLine, ZoneLine}
-use Rattle.closure.specs.declared.fault.LineWhy.{LineWhy}
-use Rattle.closure.specs.declared.fault.LineWhy.TheVariants.{Board, Wall, Seed, Goals}
-use Rattle.closure.specs.declared.fault.CheckFault.{CheckFault}
-use Rattle.closure.specs.declared.fault.CheckFault.TheVariants.{Line, Start, Push, Memory}
-use Rattle.closure.specs.declared.fault.ZoneLineWhy.{ZoneLineWhy}
+use Rattle.closure.specs.declared.fault.LineWhy.{LineWhy, TheVariants.Board, TheVariants.Wall, TheVariants.Seed, TheVariants.Goals}
+use Rattle.closure.specs.declared.fault.CheckFault.{CheckFault, TheVariants.Line, TheVariants.Start, TheVariants.Push, TheVariants.Memory}
+use Rattle.closure.specs.{declared.fault.ZoneLineWhy.ZoneLineWhy, declared.fault.ZoneFault.ZoneFault, Zone.IsZoneOnBoard, Zone.IsZoneOffWalls, Zone.IsRefuting}
 use Rattle.closure.specs.declared.fault.ZoneLineWhy.TheVariants as zone_why
-use Rattle.closure.specs.declared.fault.ZoneFault.{ZoneFault}
 use Rattle.closure.specs.declared.fault.ZoneFault.TheVariants as zone_fault
-use Rattle.closure.specs.Pattern.{Pattern, pattern_of, patterns_of, cells_of}
+use Rattle.closure.{specs.Pattern.Pattern, specs.Pattern.pattern_of, specs.Pattern.patterns_of, specs.Pattern.cells_of, proofs.Lists.middle}
 use Rattle.closure.specs.Closed.{IsOnBoard, IsOffWalls, HasFairSeeds, IsLawful, AreLawful, CoversPushesOf, Closed}
-use Rattle.closure.specs.Zone.{IsZoneOnBoard, IsZoneOffWalls, IsRefuting}
 use Rattle.closure.specs.FirstFault.{IsUnlawful, IsFirstFaultyLine, IsFirstUncovered, HasFirstUncovered, IsFirstPatternFault, IsUnlawfulZone, IsFirstLeak, IsFirstZoneFault}
-use Rattle.closure.proofs.FirstLines.{unlawful_not, line_listed, fault_not_closed}
+use Rattle.closure.proofs.FirstLines.{unlawful_not, line_listed, fault_not_closed, memory_or}
 
 -- ---- one line
-listed : (before : List PatternLine) (line : PatternLine) (after : List PatternLine) → Contains (before ++ line ∷ after) line
-listed [] line after = (0, omega arith, refl)
-listed (x ∷ xs) line after = Contains-append_right (x ∷ []) (xs ++ line ∷ after) line (listed xs line after)
-
 listed_before : (before : List PatternLine) (line : PatternLine) (between all : List PatternLine) → all ≡ (before ++ line ∷ []) ++ between → Contains all line
-listed_before before line between all e =
-    subst (λ l. Contains l line) (sym (e ∙ append_assoc before (line ∷ []) between)) (listed before line between)
+listed_before before line between all e = rw (e ∙ append_assoc before (line ∷ []) between) (middle before line between)
 
--- Two first lines at fault are the same line, if no line is both fine and at fault.
+-- Two first lines at fault are one line, if no line is both fine and at fault.
 same_line : (IsFine IsFaulty IsBad : PatternLine → Type 0) (lines : List PatternLine) (n m : ℕ)
     → ((l : PatternLine) → IsFine l → IsFaulty l → ⊥) → ((l : PatternLine) → IsFine l → IsBad l → ⊥)
-    → (x : IsFirstFaultyLine IsFine IsFaulty lines n) (y : IsFirstFaultyLine IsFine IsBad lines m) → x.line ≡ y.line
+    → IsFirstFaultyLine IsFine IsFaulty lines n → IsFirstFaultyLine IsFine IsBad lines m → (n ≡ m) × (l : PatternLine) × IsFaulty l × IsBad l
 same_line IsFine IsFaulty IsBad lines n m not_faulty not_bad x y =
-    places x.before y.before x.line y.line x.after y.after (sym x.list ∙ y.list)
+    let here : x.line ≡ y.line = places x.before y.before x.line y.line x.after y.after (sym x.list ∙ y.list)
     (λ _ e. e)
     (λ between e. absurd (not_faulty x.line (y.fine x.line (listed_before x.before x.line between y.before e)) x.faulty))
-    (λ between e. absurd (not_bad y.line (x.fine y.line (listed_before y.before y.line between x.before e)) y.faulty))
+    (λ between e. absurd (not_bad y.line (x.fine y.line (listed_before y.before y.line between x.before e)) y.faulty)) in
+    (sym x.number_is ∙ ap (λ l. l.line) here ∙ y.number_is, y.line, rw here at x.faulty, y.faulty)
 
 -- ---- one reason
 module _ (level : Level) (p : Pattern) where
@@ -118,12 +102,10 @@ module _ (level : Level) (lines : List PatternLine) where
   line_one : (n m : ℕ) (why other : LineWhy) → IsFirstPatternFault level lines (Line n why) → IsFirstPatternFault level lines (Line m other) →
       (n ≡ m) × (why ≡ other)
   line_one n m why other x y =
-      let here = same_line (λ l. IsLawful level (pattern_of l)) (λ l. IsUnlawful level (pattern_of l) why) (λ l. IsUnlawful level (pattern_of l) other) lines
-      n m
-      (λ l fine faulty. unlawful_not level (pattern_of l) why faulty fine) (λ l fine faulty. unlawful_not level (pattern_of l) other faulty fine) x y in (
-        sym x.number_is ∙ ap (λ l. l.line) here ∙ y.number_is,
-        why_one level (pattern_of y.line) why other (rw here at x.faulty) y.faulty,
-      )
+      let (number, l, a, b) = same_line (λ l. IsLawful level (pattern_of l)) (λ l. IsUnlawful level (pattern_of l) why)
+      (λ l. IsUnlawful level (pattern_of l) other) lines n m (λ l fine faulty. unlawful_not level (pattern_of l) why faulty fine)
+      (λ l fine faulty. unlawful_not level (pattern_of l) other faulty fine) x y in
+      (number, why_one level (pattern_of l) why other a b)
 
   covers_not : (c : Cell) (d : Dir) (l : PatternLine) → CoversPushesOf level (patterns_of lines) (pattern_of l) →
       HasFirstUncovered level (patterns_of lines) (pattern_of l) c d → ⊥
@@ -133,10 +115,10 @@ module _ (level : Level) (lines : List PatternLine) where
       (n ≡ m) × (c ≡ k) × (d ≡ e)
   at_one_push n m c k d e (_, _, x) (_, _, y) =
       let IsAt : Cell → Dir → PatternLine → Type 0 = λ c d l. HasFirstUncovered level (patterns_of lines) (pattern_of l) c d in
-      let here = same_line (λ l. CoversPushesOf level (patterns_of lines) (pattern_of l)) (IsAt c d) (IsAt k e) lines n m (covers_not c d) (covers_not k e) x
-      y in
-      let one = push_one level (patterns_of lines) (pattern_of y.line) c k d e (rw here at x.faulty) y.faulty in
-      (sym x.number_is ∙ ap (λ l. l.line) here ∙ y.number_is, one.0, one.1)
+      let (number, l, a, b) = same_line (λ l. CoversPushesOf level (patterns_of lines) (pattern_of l)) (IsAt c d) (IsAt k e) lines n m
+      (covers_not c d) (covers_not k e) x y in
+      let one = push_one level (patterns_of lines) (pattern_of l) c k d e a b in
+      (number, one.0, one.1)
 
   pub one_pattern_fault : (a b : CheckFault) → IsFirstPatternFault level lines a → IsFirstPatternFault level lines b → a ≡ b
   one_pattern_fault (Line n why) (Line m other) x y = let one = line_one n m why other x y in λ i. Line (one.0 i) (one.1 i)
@@ -199,10 +181,8 @@ module _ {A : Type 0} (level : Level) (lines : List PatternLine) where
       IfErr r (λ fault. fault ≢ Memory → IsFirstPatternFault level lines fault)
       → (fault : CheckFault) → IsFirstPatternFault level lines fault → (r ≡ Err fault) ⊎ (r ≡ Err Memory)
   first_unless_memory P (Ok a) ok err fault is = grind (arith, fault_not_closed)
-  first_unless_memory P (Err (Line n why)) ok err fault is = inl (ap Err (one_pattern_fault level lines (Line n why) fault (err (λ e. cc)) is))
-  first_unless_memory P (Err Start) ok err fault is = inl (ap Err (one_pattern_fault level lines Start fault (err (λ e. cc)) is))
-  first_unless_memory P (Err (Push n c d)) ok err fault is = inl (ap Err (one_pattern_fault level lines (Push n c d) fault (err (λ e. cc)) is))
-  first_unless_memory P (Err Memory) ok err fault is = inr refl
+  first_unless_memory P (Err found) ok err fault is =
+      either (memory_or found) (λ e. inr (ap Err e)) (λ other. inl (ap Err (one_pattern_fault level lines found fault (err other) is)))
 
 -- If the result of a check is right, a zone with a fault gets this fault, unless memory runs out.
 module _ {A : Type 0} (level : Level) (line : ZoneLine) where

@@ -1,58 +1,50 @@
 -- Lists to which lines are added one after another. As long as all lines are lawful, the list has them. The first line that isn't lawful is
 -- the first fault of the lines so far, and of those with any line more.
-use Rattle.std.proofs.Common.{◌≡◌, true, false, List, [], ◌∷◌, ◌++◌, ℕ, append_assoc, refl, sym, ◌∙◌, ap, inl, inr, arith}
-use Rattle.std.specs.Prelude.{MatchOption, Option, None, Some}
-use Rattle.std.specs.Option.{is_some}
-use Rattle.std.specs.List.{Contains}
-use Rattle.std.proofs.lemmas.Bool.{false≢true}
-use Rattle.std.proofs.lemmas.List.{map-append}
-use Rattle.std.proofs.lemmas.List.Elements.{Contains-append_cases, Contains-append_right}
+use Rattle.std.proofs.Common.{◌≡◌, true, false, List, [], ◌∷◌, ◌++◌, ℕ, append_assoc, refl, sym, ◌∙◌, ap, inl, inr}
+use Rattle.std.{specs.Prelude.MatchOption, specs.Prelude.Option, specs.Prelude.None, specs.Prelude.Some, specs.Option.is_some, proofs.lemmas.Bool.false≢true}
+use Rattle.std.proofs.lemmas.List.{map_push, Elements.Contains-push_cases}
 use Rattle.board.specs.Game.{Level}
 use Rattle.answers.specs.Body.{PatternLine}
-use Rattle.closure.specs.Pattern.{pattern_of, patterns_of}
-use Rattle.closure.specs.Closed.{AreLawful, IsLawful}
-use Rattle.closure.specs.FirstFault.{IsFirstPatternFault, IsUnlawful}
-use Rattle.closure.specs.declared.fault.LineWhy.{LineWhy}
-use Rattle.closure.specs.declared.fault.CheckFault.TheVariants.{Line}
-use Rattle.closure.proofs.Entries.{first_or_rest}
+use Rattle.closure.specs.{Pattern.pattern_of, Pattern.patterns_of, Closed.AreLawful, Closed.IsLawful, FirstFault.IsFirstPatternFault, FirstFault.IsUnlawful}
+use Rattle.closure.{specs.declared.fault.LineWhy.LineWhy, specs.declared.fault.CheckFault.TheVariants.Line, proofs.Lists.mapped}
 
--- The pattern of each line of a list is one of its patterns.
-listed_pattern : (lines : List PatternLine) (l : PatternLine) → Contains lines l → Contains (patterns_of lines) (pattern_of l)
-listed_pattern [] l (k, lt, is) = absurd (omega arith)
-listed_pattern (x ∷ xs) l listed = elim (first_or_rest x xs l listed) [
-  | inl same ↦ (0, omega arith, ap pattern_of same)
-  | inr later ↦ Contains-append_right (pattern_of x ∷ []) (patterns_of xs) (pattern_of l) (listed_pattern xs l later)
-]
+-- What a list says of the lines that were added to it (`IsListOf`): it has them, and they are lawful, or the first fault is theirs.
+abbrev AreAdded : Level → List PatternLine → List PatternLine → Option (ℕ × LineWhy) → Type 0
+AreAdded level has lines fault =
+    MatchOption fault ((has ≡ lines) × AreLawful level (patterns_of lines)) (λ first. IsFirstPatternFault level lines (Line first.0 first.1))
 
-module _ (level : Level) (lines : List PatternLine) (l : PatternLine) where
-  -- Lawful patterns and one more are lawful.
-  pub lawful_more : AreLawful level (patterns_of lines) → IsLawful level (pattern_of l) → AreLawful level (patterns_of (lines ++ l ∷ []))
-  lawful_more lawful new pattern listed =
-      elim (Contains-append_cases (patterns_of lines) (pattern_of l ∷ []) pattern (rw (map-append pattern_of lines (l ∷ [])) at listed)) [
-        | inl before ↦ lawful pattern before
-        | inr last ↦ elim (first_or_rest (pattern_of l) [] pattern last) [
-          | inl same ↦ rw same at new
-          | inr none ↦ let lt = none.1 in absurd (omega arith)
-        ]
-      ]
+module _ (level : Level) (has lines : List PatternLine) (l : PatternLine) where
+  -- Lawful lines and one more are lawful.
+  pub lawful_added : (now : List PatternLine) (fault : Option (ℕ × LineWhy)) → is_some fault ≡ false → AreAdded level has lines fault
+      → (now ≡ has ++ l ∷ []) × IsLawful level (pattern_of l) → AreAdded level now (lines ++ l ∷ []) fault
+  lawful_added now None none all new = (
+    new.0 ∙ ap (λ ls. ls ++ l ∷ []) all.0,
+    λ pattern listed.
+        elim (Contains-push_cases (patterns_of lines) (pattern_of l) pattern (rw (map_push pattern_of lines l) at listed)) [
+          | inl before ↦ all.1 pattern before
+          | inr last ↦ rw last at new.1
+        ],
+  )
+  lawful_added now (Some first) none all new = absurd (false≢true (sym none))
 
   -- A line that isn't lawful is the first fault if it comes after lawful ones.
-  pub unlawful_last : (why : LineWhy) → AreLawful level (patterns_of lines) → IsUnlawful level (pattern_of l) why
-      → IsFirstPatternFault level (lines ++ l ∷ []) (Line l.line why)
-  unlawful_last why lawful new = record {
+  pub unlawful_added : (why : LineWhy) (fault : Option (ℕ × LineWhy)) → is_some fault ≡ false → AreAdded level has lines fault
+      → IsUnlawful level (pattern_of l) why → IsFirstPatternFault level (lines ++ l ∷ []) (Line l.line why)
+  unlawful_added why None none all new = record {
     before = lines;
     line = l;
     after = [];
     list = refl;
     number_is = refl;
-    fine = λ earlier listed. lawful (pattern_of earlier) (listed_pattern lines earlier listed);
+    fine = λ earlier listed. all.1 (pattern_of earlier) (mapped pattern_of lines earlier listed);
     faulty = new;
   }
+  unlawful_added why (Some first) none all new = absurd (false≢true (sym none))
 
   -- A first line that isn't lawful stays the first fault if a line comes after it.
-  pub unlawful_still : (number : ℕ) (why : LineWhy) → IsFirstPatternFault level lines (Line number why)
-      → IsFirstPatternFault level (lines ++ l ∷ []) (Line number why)
-  unlawful_still number why found = record {
+  pub still_unlawful : (fault : Option (ℕ × LineWhy)) → is_some fault ≡ true → AreAdded level has lines fault → AreAdded level has (lines ++ l ∷ []) fault
+  still_unlawful None some all = absurd (false≢true some)
+  still_unlawful (Some first) some found = record {
     before = found.before;
     line = found.line;
     after = found.after ++ l ∷ [];
@@ -61,17 +53,3 @@ module _ (level : Level) (lines : List PatternLine) (l : PatternLine) where
     fine = found.fine;
     faulty = found.faulty;
   }
-
--- ---- whether a line so far isn't lawful
-module _ {A : Type 0} (None_holds More_holds : Type 0) (P Q : A → Type 0) where
-  pub of_none : (o : Option A) → is_some o ≡ false → MatchOption o None_holds P → None_holds
-  of_none None none holds = holds
-  of_none (Some x) none holds = absurd (false≢true (sym none))
-
-  pub as_none : (o : Option A) → is_some o ≡ false → None_holds → MatchOption o None_holds P
-  as_none None none holds = holds
-  as_none (Some x) none holds = absurd (false≢true (sym none))
-
-  pub of_some : (o : Option A) → is_some o ≡ true → ((x : A) → P x → Q x) → MatchOption o None_holds P → MatchOption o More_holds Q
-  of_some None some more holds = absurd (false≢true some)
-  of_some (Some x) some more holds = more x holds

@@ -1,14 +1,12 @@
 -- Members of sets of cells. The library says by a test which cells the result of an operation has. These lemmas say it by cases, so that a
 -- proof goes from members to members. Two sets with the same members are one value, so an equation between sets follows from cases in
 -- both directions.
-use Rattle.std.proofs.Common.{◌≡◌, ◌≢◌, Bool, true, not, ◌&&◌, refl, sym, ◌∙◌, ap, inl, inr, ◌⊎◌}
-use Rattle.std.specs.Prelude.{◌==◌}
-use Rattle.std.proofs.lemmas.Bool.{eqb-true, false≢true}
+use Rattle.std.proofs.Common.{◌≡◌, ◌≢◌, Bool, true, not, ◌&&◌, ◌||◌, false, refl, sym, ◌∙◌, ap, inl, inr, ◌⊎◌}
+use Rattle.std.{specs.Prelude.◌==◌, proofs.lemmas.Bool.eqb-true, proofs.lemmas.Bool.false≢true}
 use Rattle.std.specs.FinSet as set
-use Rattle.std.specs.FinSet.{contains, contains-union, contains-intersection, contains-difference}
-use Rattle.cellset.specs.CellSet.{Cells, Has, Lacks}
-use Rattle.cellset.specs.declared.cell.Cell.{Cell}
-use Rattle.cellset.proofs.Members.{cells_total, same, same_itself, same_or_other, not_both, inserted, kept_by_insert, has_insert, kept_by_remove, has_remove, has_empty, same_members, lacks_where}
+use Rattle.std.specs.FinSet.{contains, contains-insert, contains-remove, contains-union, contains-intersection, contains-difference}
+use Rattle.cellset.specs.{CellSet.Cells, CellSet.Has, CellSet.Lacks, declared.cell.Cell.Cell}
+use Rattle.cellset.proofs.Members.{cells_total, same, same_cells, same_itself, same_or_other, not_both, inserted, kept_by_insert, has_insert, kept_by_remove, has_remove, has_empty, remove_inserted, same_members, lacks_where}
 use Rattle.cellset.proofs.Truth.{left_true, right_true, or_cases, and_parts, not_true}
 
 pub other_member : (s : Cells) (c k : Cell) → Has s c → Lacks s k → c ≢ k
@@ -53,6 +51,11 @@ has_difference s t c h = let parts = and_parts _ _ (sym (contains-difference cel
 pub in_difference : (s t : Cells) (c : Cell) → Has s c → Lacks t c → Has (set.difference s t) c
 in_difference s t c h l = contains-difference cells_total s t c ∙ and_both _ _ h (ap not l)
 
+less_more : (a b e : Bool) → (not e && (a && not b)) ≡ (a && not (e || b))
+less_more true b true = refl
+less_more false b true = refl
+less_more a b false = refl
+
 -- A set less no cells is the set. A set less one cell more is the difference less this cell.
 pub difference_none : (s : Cells) → set.difference s set.empty ≡ s
 difference_none s = same_members _ s
@@ -60,38 +63,17 @@ difference_none s = same_members _ s
     (λ c h. in_difference s set.empty c h (lacks_where set.empty c (λ e. has_empty c e)))
 
 pub difference_more : (s t : Cells) (k : Cell) → set.remove (set.difference s t) k ≡ set.difference s (set.insert t k)
-difference_more s t k = same_members _ _
-    (λ c h.
-    let old = has_remove (set.difference s t) k c h in
-    let parts = has_difference s t c old.1 in
-    in_difference s (set.insert t k) c parts.0 (lacks_where (set.insert t k) c (λ new. elim (has_insert t k c new)
-    [ inl e ↦ old.0 e | inr in_t ↦ not_both t c in_t parts.1 ])))
-    (λ c h.
-    let parts = has_difference s (set.insert t k) c h in
-    kept_by_remove (set.difference s t) k c (other_where (set.insert t k) c k parts.1 (inserted t k))
-    (in_difference s t c parts.0 (lacks_where t c (λ in_t. not_both (set.insert t k) c (kept_by_insert t k c in_t) parts.1))))
+difference_more s t k = same_cells _ _ (λ c. simp (contains-remove cells_total, contains-difference cells_total, contains-insert cells_total)
+    (less_more (contains s c) (contains t c) (same c k)))
 
 -- Cells that compare equal are one cell.
 pub same_cell : (a b : Cell) → true ≡ ((a.row == b.row) && (a.column == b.column)) → a ≡ b
 same_cell a b h =
     let parts = and_parts (a.row == b.row) (a.column == b.column) (sym h) in
-    let rows : a.row ≡ b.row = eqb-true a.row b.row parts.0 in
-    let columns : a.column ≡ b.column = eqb-true a.column b.column parts.1 in
-    λ i. record { row = rows i; column = columns i }
+    λ i. record { row = eqb-true a.row b.row parts.0 i; column = eqb-true a.column b.column parts.1 i }
 
 -- If a member is moved to a cell that is none and back, the set is as it was.
 pub moved_back : (s : Cells) (from to : Cell) → Has s from → Lacks s to → set.insert (set.remove (set.insert (set.remove s from) to) to) from ≡ s
 moved_back s from to has lacks =
-    let there = set.insert (set.remove s from) to in
-    same_members _ s
-    (λ c h. elim (has_insert (set.remove there to) from c h) [
-      | inl e ↦ rw e has
-      | inr kept ↦
-          let old = has_remove there to c kept in
-          elim (has_insert (set.remove s from) to c old.1) [ inl e ↦ absurd (old.0 e) | inr rest ↦ (has_remove s from c rest).1 ]
-    ])
-    (λ c h. same_or_other c from {G = Has (set.insert (set.remove there to) from) c}
-    (λ e. rw e (inserted (set.remove there to) from))
-    (λ f. kept_by_insert (set.remove there to) from c
-    (kept_by_remove there to c (other_member s c to h lacks)
-    (kept_by_insert (set.remove s from) to c (kept_by_remove s from c (λ e. false≢true (sym f ∙ (ap (λ x. same x from) e ∙ same_itself from))) h)))))
+    ap (λ t. set.insert t from) (remove_inserted (set.remove s from) to (lacks_where _ to (λ h. not_both s to (has_remove s from to h).1 lacks)))
+    ∙ put_back s from has

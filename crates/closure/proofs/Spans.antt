@@ -1,21 +1,14 @@
 -- Spans of a vector of cells that grows. A span within the old cells has the same part of the new ones. So the lines of an arena stay the
 -- lines that they were, and so does what the arena keeps of them; one line more may have all that was added.
 use Rattle.std.proofs.Common.{◌≡◌, Bool, true, false, if◌then◌else◌, ℕ, ◌≤◌, refl, List, [], ◌∷◌, ◌++◌, length, get_or, ◌∙◌, ap, subst, inl, inr, arith}
-use Rattle.std.specs.Prelude.{Option, None, Some, map, option_map, slice_range}
-use Rattle.std.specs.List.{All, Contains}
-use Rattle.std.proofs.lemmas.Bool.{cases_lt}
+use Rattle.std.specs.{Prelude.Option, Prelude.None, Prelude.Some, Prelude.map, Prelude.option_map, Prelude.slice_range, List.All, List.Contains}
+use Rattle.std.proofs.lemmas.{Bool.cases_lt, Option.none-some}
 use Rattle.std.proofs.lemmas.List.{append-nil, drop-append-le, drop_at, get_or-map, length-append, length-drop, length-map, map_push, take-append-le, take_all}
-use Rattle.std.proofs.lemmas.Option.{none-some}
 use Rattle.std.proofs.lemmas.List.Elements.{All-contains_itself, All-head, All-tail, Contains-push_cases}
 use Rattle.cellset.specs.declared.cell.Cell.{Cell}
-use Rattle.answers.specs.declared.pattern.Coord.{Coord}
-use Rattle.answers.specs.Body.{PatternLine}
-use Rattle.closure.specs.Pattern.{cell_of}
-use Rattle.closure.specs.Arena.{coord_of, line_in}
-use Rattle.closure.specs.Spans.{AreSpans, AreWithin, IsWithin, part}
-use Rattle.closure.specs.declared.arena.StoredLine.{StoredLine}
-use Rattle.closure.specs.declared.arena.Span.{Span}
-use Rattle.closure.proofs.Lists.{length_more, new_item, old_item}
+use Rattle.answers.specs.{declared.pattern.Coord.Coord, Body.PatternLine}
+use Rattle.closure.specs.{Pattern.cell_of, Arena.coord_of, Arena.line_in, Spans.AreSpans, Spans.AreWithin, Spans.IsWithin, Spans.part, declared.arena.Span.Span}
+use Rattle.closure.{specs.declared.arena.StoredLine.StoredLine, proofs.Lists.length_more, proofs.Lists.new_item, proofs.Lists.old_item}
 
 abbrev pub no_span : Span
 no_span = record { from = 0; to = 0 }

@@ -4,23 +4,14 @@
 -- trap comes to a cell of the trap, since no push within the room leads out of it, and any other push leaves the box on the trap there.
 use Rattle.std.proofs.Common.{◌≡◌, ◌≢◌, List, sym, ◌∙◌, ap, subst, inl}
 use Rattle.std.specs.FinSet as set
-use Rattle.cellset.specs.Cell.{neighbor, opposite}
-use Rattle.cellset.specs.CellSet.{Cells, CellsOn, Has, Lacks, only}
-use Rattle.cellset.specs.declared.cell.Cell.{Cell}
+use Rattle.cellset.specs.{Cell.neighbor, Cell.opposite, CellSet.Cells, CellSet.CellsOn, CellSet.Has, CellSet.Lacks, CellSet.only, declared.cell.Cell.Cell}
 use Rattle.cellset.proofs.Members.{has_empty, has_insert, has_only, has_remove, inserted, kept_by_insert, kept_by_remove, lacks_only, lacks_where, same_or_other}
-use Rattle.cellset.proofs.Neighbors.{neighbor_back}
-use Rattle.cellset.proofs.Truth.{either}
+use Rattle.cellset.proofs.{Neighbors.neighbor_back, Truth.either}
 use Rattle.reach.specs.declared.pushes.Push.{Push}
-use Rattle.board.specs.Game.{Level, State, IsFloor, moved, start}
-use Rattle.board.specs.Board.{IsWellFormed}
-use Rattle.closure.specs.Pattern.{Pattern, InPatternRegion, IsCovered, PushesOut, after_push}
-use Rattle.closure.specs.Closed.{AreLawful, Closed}
-use Rattle.closure.specs.Sides.{cells_in}
-use Rattle.closure.specs.Trap.{AreOff, AreTrapped, IsTrapOf, single}
-use Rattle.closure.proofs.Grouped.{region_in_room}
-use Rattle.closure.proofs.Regions.{region_on, room_outside}
-use Rattle.closure.proofs.Sets.{other_member, other_where}
-use Rattle.closure.proofs.Spanning.{other_cell}
+use Rattle.board.specs.{Game.Level, Game.State, Game.IsFloor, Game.moved, Game.start, Board.IsWellFormed}
+use Rattle.closure.specs.{Pattern.Pattern, Pattern.InPatternRegion, Pattern.IsCovered, Pattern.PushesOut, Pattern.after_push, Closed.AreLawful, Closed.Closed}
+use Rattle.closure.{specs.Sides.cells_in, specs.Trap.AreOff, specs.Trap.AreTrapped, specs.Trap.IsTrapOf, specs.Trap.single, proofs.Grouped.region_in_room}
+use Rattle.closure.proofs.{Regions.region_on, Regions.room_outside, Sets.other_member, Sets.other_where, Spanning.other_cell}
 
 -- No box is on a trap without cells.
 pub none_off : (trap : Cells) → trap ≡ set.empty → (boxes : List Cell) → AreOff trap boxes

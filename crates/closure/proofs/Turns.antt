@@ -3,10 +3,8 @@
 use Rattle.std.proofs.Common.{◌≡◌, [], sym, subst, inl, inr}
 use Rattle.std.specs.Prelude.{◌⊎◌, ◌↔◌}
 use Rattle.std.specs.FinSet as set
-use Rattle.cellset.specs.CellSet.{Cells, Has, Lacks}
-use Rattle.cellset.specs.declared.cell.Cell.{Cell}
+use Rattle.cellset.{specs.CellSet.Cells, specs.CellSet.Has, specs.CellSet.Lacks, specs.declared.cell.Cell.Cell, proofs.Truth.either}
 use Rattle.cellset.proofs.Members.{inserted, kept_by_insert, has_insert, has_empty, lacks_where, not_both}
-use Rattle.cellset.proofs.Truth.{either}
 use Rattle.closure.specs.Pattern.{cells_of}
 
 -- A turn adds its cell if another set has it, and adds nothing if that set lacks it.
@@ -20,7 +18,7 @@ pub none_in : (In Other : Cell → Type 0) (q : Cell) → (Other q → ⊥) → 
 none_in In Other q never c = (λ h. inl h, λ h. either h (λ old. old) (λ new. absurd (never (rw new.0 at new.1))))
 
 -- ---- the cells of a list, one after another
-lacks_insert : (s : Cells) (k c : Cell) → (c ≡ k → ⊥) → Lacks s c → Lacks (set.insert s k) c
+pub lacks_insert : (s : Cells) (k c : Cell) → (c ≡ k → ⊥) → Lacks s c → Lacks (set.insert s k) c
 lacks_insert s k c ne lacks = lacks_where (set.insert s k) c (λ has. either (has_insert s k c has) ne (λ h. not_both s c h lacks))
 
 module _ (passed after : Cells) (q : Cell) (one_more : after ≡ set.insert passed q) where

@@ -5,38 +5,20 @@
 use Rattle.std.proofs.Common.{◌≡◌, ◌≤◌, List, [], ◌∷◌, sym, ◌∙◌, ap, subst, inl, inr, arith}
 use Rattle.std.specs.Prelude.{Result, Ok, Err, IfOk, OnOk}
 use Rattle.std.specs.FinSet as set
-use Rattle.cellset.specs.Cell.{neighbor, opposite}
-use Rattle.cellset.specs.CellSet.{Cells, Has, Lacks}
-use Rattle.cellset.specs.declared.cell.Cell.{Cell}
-use Rattle.cellset.specs.declared.dir.Dir.{Dir}
-use Rattle.cellset.proofs.Members.{has_or_lacks, not_both, inserted, kept_by_insert, has_insert, kept_by_remove, has_remove, same_members, lacks_where}
+use Rattle.cellset.specs.{Cell.neighbor, Cell.opposite, CellSet.Cells, CellSet.Has, CellSet.Lacks, declared.cell.Cell.Cell, declared.dir.Dir.Dir}
+use Rattle.cellset.proofs.Members.{has_or_lacks, not_both, kept_by_insert, kept_by_remove, has_remove, lacks_where}
 use Rattle.cellset.proofs.Neighbors.{neighbor_back}
-use Rattle.board.specs.Game.{Level, State, IsFloor, moved, start, Walks, Pushes, Plays, Solvable}
-use Rattle.board.specs.Board.{IsWellFormed}
-use Rattle.closure.specs.Zone.{count_in, IsClosedZone, IsRefuting}
-use Rattle.closure.proofs.Counts.{len-insert_new, len-remove_member, len-within}
-use Rattle.closure.proofs.Sets.{has_intersection, in_intersection}
-use Rattle.closure.proofs.Moves.{AreOnFloor, moved_on_floor}
+use Rattle.board.specs.{Game.Level, Game.State, Game.IsFloor, Game.moved, Game.start, Game.Walks, Game.Pushes, Game.Plays, Game.Solvable, Board.IsWellFormed}
+use Rattle.closure.{specs.Zone.count_in, specs.Zone.IsClosedZone, specs.Zone.IsRefuting, proofs.Counts.common_more, proofs.Counts.len-within}
+use Rattle.closure.proofs.{Sets.has_intersection, Sets.in_intersection, Sets.put_back, Sets.removed_lacks, Moves.AreOnFloor, Moves.moved_on_floor}
 
 -- a box that moves within the zone doesn't change the number of boxes in it
 moved_inside : (zone boxes : Cells) (from to : Cell) → Has zone from → Has zone to → Has boxes from → Lacks boxes to →
     count_in zone (moved boxes from to) ≡ count_in zone boxes
 moved_inside zone boxes from to in_from in_to box free =
-    let before = set.intersection zone boxes in
-    let after : set.intersection zone (moved boxes from to) ≡ set.insert (set.remove before from) to = same_members _ _
-    (λ c h. let both = has_intersection zone (moved boxes from to) c h in elim (has_insert (set.remove boxes from) to c both.1) [
-      | inl e ↦ rw e (inserted (set.remove before from) to)
-      | inr rest ↦ let old = has_remove boxes from c rest in
-          kept_by_insert (set.remove before from) to c (kept_by_remove before from c old.0 (in_intersection zone boxes c both.0 old.1))
-    ])
-    (λ c h. elim (has_insert (set.remove before from) to c h) [
-      | inl e ↦ rw e (in_intersection zone (moved boxes from to) to in_to
-          (inserted (set.remove boxes from) to))
-      | inr rest ↦ let old = has_remove before from c rest in let both = has_intersection zone boxes c old.1 in
-          in_intersection zone (moved boxes from to) c both.0 (kept_by_insert (set.remove boxes from) to c (kept_by_remove boxes from c old.0 both.1))
-    ]) in
-    let not_there = lacks_where (set.remove before from) to (λ h. not_both boxes to (has_intersection zone boxes to (has_remove before from to h).1).1 free) in
-    ap set.len after ∙ len-insert_new (set.remove before from) to not_there ∙ sym (len-remove_member before from (in_intersection zone boxes from in_from box))
+    let rest = set.remove boxes from in
+    common_more zone rest to in_to (lacks_where rest to (λ h. not_both boxes to (has_remove boxes from to h).1 free)) ∙
+    sym (common_more zone rest from in_from (removed_lacks boxes from)) ∙ ap (count_in zone) (put_back boxes from box)
 
 -- a box that moves from outside the zone makes the boxes in it no fewer
 moved_outside : (zone boxes : Cells) (from to : Cell) → Lacks zone from → count_in zone boxes ≤ count_in zone (moved boxes from to)

@@ -1,22 +1,12 @@
 -- The lines of an arena, which has the boxes and the seeds of all of them as cells.
-use Rattle.std.specs.Borrow.{Bor}
+use Rattle.std.specs.{Borrow.Bor, List.Contains}
 use Rattle.std.specs.Prelude.{◌≡◌, ℕ, ◌⊎◌, length, List, Option, None, Some, map, option_map, slice_index_or}
 use Rattle.std.specs.FinSet as set
-use Rattle.std.specs.List.{Contains}
-use Rattle.cellset.specs.Shape.{Extent}
-use Rattle.cellset.specs.Cell.{IsOn}
-use Rattle.cellset.specs.CellSet.{Has}
-use Rattle.cellset.specs.declared.cell.Cell.{Cell}
-use Rattle.answers.specs.declared.pattern.Coord.{Coord}
-use Rattle.answers.specs.Body.{PatternLine}
-use Rattle.closure.specs.Pattern.{Pattern, Seeds, whole_room, listed, patterns_of}
-use Rattle.closure.specs.Closed.{IsListedSeed}
-use Rattle.closure.specs.Sides.{cells_in}
-use Rattle.closure.specs.declared.cell_patterns.CellPattern.{CellPattern}
-use Rattle.closure.specs.Spans.{IsWithin, part}
-use Rattle.closure.specs.declared.arena.StoredLine.{StoredLine}
-use Rattle.closure.specs.declared.arena.Arena.{Arena}
-use Rattle.closure.specs.declared.arena.Span.{Span}
+use Rattle.cellset.specs.{Shape.Extent, Cell.IsOn, CellSet.Has, declared.cell.Cell.Cell}
+use Rattle.answers.specs.{declared.pattern.Coord.Coord, Body.PatternLine}
+use Rattle.closure.specs.{Pattern.Pattern, Pattern.Seeds, Pattern.whole_room, Pattern.listed, Pattern.patterns_of, Closed.IsListedSeed, Sides.cells_in}
+use Rattle.closure.specs.{declared.cell_patterns.CellPattern.CellPattern, Spans.IsWithin, Spans.part, declared.arena.StoredLine.StoredLine}
+use Rattle.closure.specs.declared.arena.{Arena.Arena, Span.Span}
 
 -- ---- lines
 -- the coordinate of a cell

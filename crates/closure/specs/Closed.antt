@@ -5,14 +5,10 @@
 --                 its patterns
 -- A level with a closed list isn't solvable: the list covers each state that pushes reach, and each state that it
 -- covers has a box off the goals.
-use Rattle.std.specs.Prelude.{◌⊎◌, List}
-use Rattle.std.specs.List.{Contains}
-use Rattle.cellset.specs.Cell.{IsOn}
-use Rattle.cellset.specs.CellSet.{Has, Lacks}
-use Rattle.cellset.specs.declared.cell.Cell.{Cell}
+use Rattle.std.specs.{Prelude.◌⊎◌, Prelude.List, List.Contains}
+use Rattle.cellset.specs.{Cell.IsOn, CellSet.Has, CellSet.Lacks, declared.cell.Cell.Cell}
 use Rattle.reach.specs.declared.pushes.Push.{Push}
-use Rattle.board.specs.Game.{Level, start, Solvable}
-use Rattle.board.specs.Board.{IsWellFormed}
+use Rattle.board.specs.{Game.Level, Game.start, Game.Solvable, Board.IsWellFormed}
 use Rattle.closure.specs.Pattern.{Pattern, Seeds, whole_room, listed, IsCovered, PushesOut, after_push}
 
 -- a listed seed

@@ -6,23 +6,15 @@
 -- An unlawful line comes before a start that isn't covered, and the start before a push out whose result isn't covered.
 -- An unlawful zone comes before a leak, and a leak before a zone with no more boxes than goals. The first leak is the first
 -- by its cell in reading order, and then by direction.
-use Rattle.std.specs.Prelude.{◌≡◌, ℕ, ◌<◌, ◌≤◌, ◌⊎◌, List, ◌∷◌, ◌++◌}
-use Rattle.std.specs.List.{Contains}
-use Rattle.cellset.specs.Cell.{IsOn, Before}
-use Rattle.cellset.specs.CellSet.{Cells, Has, Lacks}
-use Rattle.cellset.specs.declared.cell.Cell.{Cell}
-use Rattle.cellset.specs.declared.dir.Dir.{Dir}
-use Rattle.reach.specs.Pushes.{PushBefore, dir_rank}
-use Rattle.reach.specs.declared.pushes.Push.{Push as PushOut}
+use Rattle.std.specs.{Prelude.◌≡◌, Prelude.ℕ, Prelude.◌<◌, Prelude.◌≤◌, Prelude.◌⊎◌, Prelude.List, Prelude.◌∷◌, Prelude.◌++◌, List.Contains}
+use Rattle.cellset.specs.{Cell.IsOn, Cell.Before, CellSet.Cells, CellSet.Has, CellSet.Lacks, declared.cell.Cell.Cell, declared.dir.Dir.Dir}
+use Rattle.reach.specs.{Pushes.PushBefore, Pushes.dir_rank, declared.pushes.Push.Push as PushOut}
 use Rattle.board.specs.Game.{Level, start}
 use Rattle.answers.specs.Body.{PatternLine, ZoneLine}
-use Rattle.closure.specs.declared.fault.LineWhy.{LineWhy}
-use Rattle.closure.specs.declared.fault.LineWhy.TheVariants.{Board, Wall, Seed, Goals}
-use Rattle.closure.specs.declared.fault.CheckFault.{CheckFault}
-use Rattle.closure.specs.declared.fault.CheckFault.TheVariants.{Line, Start, Push, Memory}
-use Rattle.closure.specs.declared.fault.ZoneLineWhy.{ZoneLineWhy}
+use Rattle.closure.specs.declared.fault.LineWhy.{LineWhy, TheVariants.Board, TheVariants.Wall, TheVariants.Seed, TheVariants.Goals}
+use Rattle.closure.specs.declared.fault.CheckFault.{CheckFault, TheVariants.Line, TheVariants.Start, TheVariants.Push, TheVariants.Memory}
+use Rattle.closure.specs.declared.fault.{ZoneLineWhy.ZoneLineWhy, ZoneFault.ZoneFault}
 use Rattle.closure.specs.declared.fault.ZoneLineWhy.TheVariants as zone_why
-use Rattle.closure.specs.declared.fault.ZoneFault.{ZoneFault}
 use Rattle.closure.specs.declared.fault.ZoneFault.TheVariants as zone_fault
 use Rattle.closure.specs.Pattern.{Pattern, cells_of, pattern_of, patterns_of, IsCovered, PushesOut, after_push}
 use Rattle.closure.specs.Zone.{count_in, Leaks, IsClosedZone, IsZoneOnBoard, IsZoneOffWalls, IsRefuting}

@@ -1,18 +1,11 @@
 -- Groups: the lines of equal boxes. The position of a group is one pattern, of these boxes and of the seeds of all its lines.
 use Rattle.std.specs.Prelude.{◌≡◌, ℕ, ◌<◌, ◌≤◌, List, [], ◌∷◌, length, slice_index, cond, nat_eq}
 use Rattle.std.specs.FinSet as set
-use Rattle.cellset.specs.CellSet.{Cells, Has}
-use Rattle.cellset.specs.declared.cell.Cell.{Cell}
+use Rattle.cellset.specs.{CellSet.Cells, CellSet.Has, declared.cell.Cell.Cell}
 use Rattle.board.specs.Game.{Level}
-use Rattle.closure.specs.Pattern.{Pattern, Seeds, whole_room, listed, seed_cells}
-use Rattle.closure.specs.Sides.{cells_in}
-use Rattle.closure.specs.Chains.{AreChains}
-use Rattle.closure.specs.declared.group_regions.Region.{Region}
-use Rattle.closure.specs.declared.groups.Groups.{Groups}
-use Rattle.closure.specs.Arena.{boxes_at, line_at, list_in, pattern_at}
-use Rattle.closure.specs.Spans.{AreSpans, part, span_at}
-use Rattle.closure.specs.declared.arena.Arena.{Arena}
-use Rattle.closure.specs.declared.arena.Span.{Span}
+use Rattle.closure.specs.{Pattern.Pattern, Pattern.Seeds, Pattern.whole_room, Pattern.listed, Pattern.seed_cells, Sides.cells_in, Chains.AreChains}
+use Rattle.closure.specs.{declared.group_regions.Region.Region, declared.groups.Groups.Groups, Arena.boxes_at, Arena.line_at, Arena.list_in, Arena.pattern_at}
+use Rattle.closure.specs.{Spans.AreSpans, Spans.part, Spans.span_at, declared.arena.Arena.Arena, declared.arena.Span.Span}
 
 -- `of` has the group of each of the first n lines, and `spans` the boxes of each group, which are the boxes of one of these lines
 pub record AreGroups (arena : Arena) (of : List ℕ) (spans : List Span) (n : ℕ) : Type 0 where

@@ -8,18 +8,12 @@
 --   push out            the player in the region pushes a box of the pattern to a cell that is neither a wall nor a
 --                       box of the pattern; other boxes are disregarded
 --   its result          the player on the box's old cell, and the pattern's boxes with that box moved
-use Rattle.std.specs.Prelude.{List, Option, None, Some, map}
+use Rattle.std.specs.{Prelude.List, Prelude.Option, Prelude.None, Prelude.Some, Prelude.map, List.Contains}
 use Rattle.std.specs.FinSet as set
-use Rattle.std.specs.List.{Contains}
-use Rattle.cellset.specs.Cell.{cell_at}
-use Rattle.cellset.specs.CellSet.{Cells, Has}
-use Rattle.cellset.specs.declared.cell.Cell.{Cell}
-use Rattle.reach.specs.Region.{InRegion}
-use Rattle.reach.specs.Pushes.{IsPushOut}
-use Rattle.reach.specs.declared.pushes.Push.{Push}
+use Rattle.cellset.specs.{Cell.cell_at, CellSet.Cells, CellSet.Has, declared.cell.Cell.Cell}
+use Rattle.reach.specs.{Region.InRegion, Pushes.IsPushOut, declared.pushes.Push.Push}
 use Rattle.board.specs.Game.{Level, State, moved}
-use Rattle.answers.specs.declared.pattern.Coord.{Coord}
-use Rattle.answers.specs.Body.{PatternLine}
+use Rattle.answers.specs.{declared.pattern.Coord.Coord, Body.PatternLine}
 
 -- the cell of a coordinate
 abbrev pub cell_of : Coord → Cell

@@ -1,15 +1,10 @@
 -- What a scan keeps of a list of patterns.
 --   entry        the cells of a pattern's boxes, and its region, which is left out for `*`
-use Rattle.std.specs.Prelude.{◌≡◌, ◌≢◌, ◌↔◌, ℕ, List, Option, unwrap_or, refl}
-use Rattle.std.specs.List.{All, Contains}
+use Rattle.std.specs.{Prelude.◌≡◌, Prelude.◌≢◌, Prelude.◌↔◌, Prelude.ℕ, Prelude.List, Prelude.Option, Prelude.unwrap_or, Prelude.refl, List.All, List.Contains}
 use Rattle.std.specs.Coded.{Coded, code_by, coded×, coded_ℕ, coded_list, coded_option}
-use Rattle.cellset.specs.Shape.{Extent}
-use Rattle.cellset.specs.Coding.{coded_cell, coded_cells}
-use Rattle.cellset.specs.CellSet.{Cells, Has, Lacks}
-use Rattle.cellset.specs.declared.cell.Cell.{Cell}
+use Rattle.cellset.specs.{Shape.Extent, Coding.coded_cell, Coding.coded_cells, CellSet.Cells, CellSet.Has, CellSet.Lacks, declared.cell.Cell.Cell}
 use Rattle.board.specs.Game.{Level, State}
-use Rattle.closure.specs.Pattern.{Pattern, InPatternRegion}
-use Rattle.closure.specs.Sides.{cells_in}
+use Rattle.closure.specs.{Pattern.Pattern, Pattern.InPatternRegion, Sides.cells_in}
 
 -- an entry with its grid
 pub record EntryCells : Type 0 where

@@ -2,8 +2,7 @@
 use Rattle.std.specs.Prelude.{◌≡◌, ℕ, ◌<◌, ◌≤◌, List, Some, length, map, slice_index_or, slice_range}
 use Rattle.std.specs.List.{Contains}
 use Rattle.cellset.specs.declared.cell.Cell.{Cell}
-use Rattle.closure.specs.declared.arena.StoredLine.{StoredLine}
-use Rattle.closure.specs.declared.arena.Span.{Span}
+use Rattle.closure.specs.declared.arena.{StoredLine.StoredLine, Span.Span}
 
 -- the cells of a span
 abbrev pub part : List Cell → Span → List Cell

@@ -2,14 +2,11 @@
 --   single       the pattern of one box with `*` for its seeds
 --   trap         cells whose singles are in the list, and out of which no push within the room leads
 --   trapped      having a box on the trap
-use Rattle.std.specs.Prelude.{◌≡◌, List}
-use Rattle.std.specs.List.{Contains}
-use Rattle.cellset.specs.CellSet.{Cells, CellsOn, Has, Lacks, only}
-use Rattle.cellset.specs.declared.cell.Cell.{Cell}
+use Rattle.std.specs.{Prelude.◌≡◌, Prelude.List, List.Contains}
+use Rattle.cellset.specs.{CellSet.Cells, CellSet.CellsOn, CellSet.Has, CellSet.Lacks, CellSet.only, declared.cell.Cell.Cell}
 use Rattle.reach.specs.Reached.{IsClosedUnder, PushesTo}
 use Rattle.board.specs.Game.{Level}
-use Rattle.closure.specs.Pattern.{Pattern, whole_room}
-use Rattle.closure.specs.Sides.{cells_in}
+use Rattle.closure.specs.{Pattern.Pattern, Pattern.whole_room, Sides.cells_in}
 
 -- one box on the cell, with `*`
 abbrev pub single : Cell → Pattern

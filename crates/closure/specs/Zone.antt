@@ -9,12 +9,8 @@
 -- goal of its own in the zone.
 use Rattle.std.specs.Prelude.{ℕ, ◌<◌}
 use Rattle.std.specs.FinSet as set
-use Rattle.cellset.specs.Cell.{IsOn, neighbor, opposite}
-use Rattle.cellset.specs.CellSet.{Cells, Has, Lacks}
-use Rattle.cellset.specs.declared.cell.Cell.{Cell}
-use Rattle.cellset.specs.declared.dir.Dir.{Dir}
-use Rattle.board.specs.Game.{Level, IsFloor, Solvable}
-use Rattle.board.specs.Board.{IsWellFormed}
+use Rattle.cellset.specs.{Cell.IsOn, Cell.neighbor, Cell.opposite, CellSet.Cells, CellSet.Has, CellSet.Lacks, declared.cell.Cell.Cell, declared.dir.Dir.Dir}
+use Rattle.board.specs.{Game.Level, Game.IsFloor, Game.Solvable, Board.IsWellFormed}
 
 -- the number of cells of a set in the zone
 abbrev pub count_in : Cells → Cells → ℕ

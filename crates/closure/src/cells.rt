@@ -2,11 +2,8 @@
 ghost use Rattle.std.specs.Prelude.{◌≡◌, ◌≢◌, ◌+◌, ◌*◌, ◌<◌, ◌↔◌, ◌++◌, IfOk, IsTrue, List, MatchBool, MatchOption, length, map};
 ghost use Rattle.std.specs.FinSet as finset;
 ghost use Rattle.std.specs.List.{All};
-ghost use Rattle.cellset.specs.Cell.{IsOn};
-ghost use Rattle.cellset.specs.CellSet.{Has, Lacks};
-ghost use Rattle.cellset.specs.declared.cell.Cell.{Cell as GridCell};
-ghost use Rattle.closure.specs.Pattern.{cell_of, cells_of};
-ghost use Rattle.closure.specs.Sides.{cell_no, cells_in};
+ghost use Rattle.cellset.specs.{Cell.IsOn, CellSet.Has, CellSet.Lacks, declared.cell.Cell.Cell as GridCell};
+ghost use Rattle.closure.specs.{Pattern.cell_of, Pattern.cells_of, Sides.cell_no, Sides.cells_in};
 
 use crate::arena::{Span, to_u32};
 use answers::Coord;
@@ -60,6 +57,7 @@ pub(crate) fn add_cells(
 }
 
 // Returns whether each of the cells is a member.
+#[tactic(auto, using(crate::proofs::CellLists::over_cells))]
 pub(crate) fn are_in<S: CellSet>(cells: &[Cell], set: &S) -> bool
     requires { (c : GridCell) → Has (cells_in cells.now) c → IsOn (S.extent set.now) c }
     ensures { MatchBool result
@@ -75,6 +73,7 @@ pub(crate) fn are_in<S: CellSet>(cells: &[Cell], set: &S) -> bool
 }
 
 // Returns whether none of the cells is a member.
+#[tactic(auto, using(crate::proofs::CellLists::over_cells))]
 pub(crate) fn are_outside<S: CellSet>(cells: &[Cell], set: &S) -> bool
     requires { (c : GridCell) → Has (cells_in cells.now) c → IsOn (S.extent set.now) c }
     ensures { MatchBool result
@@ -90,6 +89,7 @@ pub(crate) fn are_outside<S: CellSet>(cells: &[Cell], set: &S) -> bool
 }
 
 // Removes the cells from the set.
+#[tactic(auto, using(crate::proofs::CellLists::read_in, crate::proofs::CellLists::next_in, crate::proofs::CellLists::list_all, crate::proofs::Sets::difference_more, crate::proofs::Sets::difference_none))]
 pub(crate) fn take_out<S: CellSet>(cells: &[Cell], set: &mut S)
     requires { (c : GridCell) → Has (cells_in cells.now) c → IsOn (S.extent set.old) c }
     ensures extent { S.extent set.new ≡ S.extent set.old }
@@ -114,6 +114,7 @@ pub(crate) fn stand_beside<S: CellSet>(cells: &[Cell], player: Cell, boxes: &S) 
 }
 
 // The number of a cell among these.
+#[tactic(auto, using(crate::proofs::CellLists::next_in, crate::proofs::CellLists::list_all, crate::proofs::Turns::lacks_insert, crate::proofs::CellLists::empty_lacks))]
 pub(crate) fn number_of(cells: &[Cell], cell: Cell) -> Option<usize>
     ensures { MatchOption result (Lacks (cells_in cells.now) cell) (λ number. (number < length cells.now)
         × (cell_no cells.now number ≡ cell)) }
@@ -127,6 +128,7 @@ pub(crate) fn number_of(cells: &[Cell], cell: Cell) -> Option<usize>
 }
 
 // Replaces the members by the cells.
+#[tactic(auto, using(crate::proofs::CellLists::read_in, crate::proofs::CellLists::next_in, crate::proofs::CellLists::list_all))]
 pub(crate) fn load<S: CellSet>(cells: &[Cell], set: &mut S)
     requires { (c : GridCell) → Has (cells_in cells.now) c → IsOn (S.extent set.old) c }
     ensures extent { S.extent set.new ≡ S.extent set.old }

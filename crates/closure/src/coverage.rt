@@ -1,7 +1,6 @@
 //! Which states a list of patterns covers.
 ghost use Rattle.std.specs.Prelude.{◌≡◌, ◌↔◌, IsTrue};
-ghost use Rattle.cellset.specs.Shape.{Extent};
-ghost use Rattle.cellset.specs.Cell.{IsOn};
+ghost use Rattle.cellset.specs.{Shape.Extent, Cell.IsOn};
 ghost use Rattle.board.specs.Game.{State};
 
 use cellset::{Cell, CellSet};

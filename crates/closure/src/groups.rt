@@ -1,7 +1,6 @@
 //! Groups: lines with equal boxes.
 ghost use Rattle.std.specs.Prelude.{◌≡◌, ◌<◌, ◌⊎◌, ◌++◌, ◌∷◌, [], IfOk, IfSome, IsTrue, length};
-ghost use Rattle.closure.specs.Spans.{AreSpans, IsWithin, part as part_of, span_at};
-ghost use Rattle.closure.specs.Groups.{IsGrouped, boxes_of};
+ghost use Rattle.closure.specs.{Spans.AreSpans, Spans.IsWithin, Spans.part as part_of, Spans.span_at, Groups.IsGrouped, Groups.boxes_of};
 
 use crate::arena::{Arena, Span, part, to_u32};
 use crate::chains::{Chains, chain};

@@ -2,8 +2,7 @@
 ghost use Rattle.std.specs.Prelude.{◌≡◌, ◌↔◌, IfOk, map};
 ghost use Rattle.board.specs.Game.{State};
 ghost use Rattle.answers.specs.Grammar.{said_pattern};
-ghost use Rattle.closure.specs.Pattern.{patterns_of, IsCovered};
-ghost use Rattle.closure.specs.Closed.{AreLawful};
+ghost use Rattle.closure.specs.{Pattern.patterns_of, Pattern.IsCovered, Closed.AreLawful};
 
 use crate::cell_patterns::arena_of;
 use crate::coverage::Coverage;

@@ -1,12 +1,7 @@
 //! Which patterns may be in a list.
 ghost use Rattle.std.specs.Prelude.{IfOk, MatchBool, MatchOption};
-ghost use Rattle.cellset.specs.Cell.{IsOn};
-ghost use Rattle.cellset.specs.CellSet.{Has, Lacks};
-ghost use Rattle.cellset.specs.declared.cell.Cell.{Cell as GridCell};
-ghost use Rattle.closure.specs.Closed.{IsLawful};
-ghost use Rattle.closure.specs.FirstFault.{IsUnlawful};
-ghost use Rattle.closure.specs.Arena.{IsOnGrid, IsStored, stored_pattern};
-ghost use Rattle.closure.specs.Sides.{cells_in};
+ghost use Rattle.cellset.specs.{Cell.IsOn, CellSet.Has, CellSet.Lacks, declared.cell.Cell.Cell as GridCell};
+ghost use Rattle.closure.specs.{Closed.IsLawful, FirstFault.IsUnlawful, Arena.IsOnGrid, Arena.IsStored, Arena.stored_pattern, Sides.cells_in};
 
 use crate::arena::{Arena, StoredLine, part};
 use crate::cells::{are_in, are_outside, load, number_of};
@@ -16,6 +11,7 @@ use cellset::{Cell, CellSet, Shape};
 use std::alloc::{AllocError, Global};
 
 // Returns whether no seed is one of the boxes.
+#[tactic(auto, using(crate::proofs::CellLists::over_cells))]
 fn are_unnamed(seeds: &[Cell], boxes: &[Cell]) -> bool
     ensures { MatchBool result
         ((c : GridCell) → Has (cells_in seeds.now) c → Lacks (cells_in boxes.now) c)

@@ -2,11 +2,8 @@
 ghost use Rattle.std.specs.Prelude.{◌≡◌, ◌≢◌, ◌⊎◌, ◌++◌, ◌∷◌, [], IfOk, IfErr, OnOk, IsOkUnless, MatchOption, length, map};
 ghost use Rattle.board.specs.Game.{Solvable};
 ghost use Rattle.answers.specs.Grammar.{said_pattern};
-ghost use Rattle.closure.specs.Pattern.{pattern_of, patterns_of};
-ghost use Rattle.closure.specs.Closed.{AreLawful, Closed, IsLawful};
-ghost use Rattle.closure.specs.FirstFault.{IsFirstPatternFault, IsUnlawful};
-ghost use Rattle.closure.specs.Arena.{lines_in, list_in};
-ghost use Rattle.closure.specs.declared.fault.CheckFault.{CheckFault as Fault};
+ghost use Rattle.closure.specs.{Pattern.pattern_of, Pattern.patterns_of, Closed.AreLawful, Closed.Closed, Closed.IsLawful, Arena.lines_in, Arena.list_in};
+ghost use Rattle.closure.specs.{FirstFault.IsFirstPatternFault, FirstFault.IsUnlawful, declared.fault.CheckFault.CheckFault as Fault};
 
 use crate::arena::Arena;
 use crate::checking::check_lawful;

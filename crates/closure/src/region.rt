@@ -1,11 +1,7 @@
 //! The regions of patterns.
 ghost use Rattle.std.specs.Prelude.{◌≡◌, ◌↔◌, IfOk};
-ghost use Rattle.cellset.specs.CellSet.{Has};
-ghost use Rattle.cellset.specs.declared.cell.Cell.{Cell as GridCell};
-ghost use Rattle.closure.specs.Pattern.{InPatternRegion};
-ghost use Rattle.closure.specs.Closed.{IsLawful};
-ghost use Rattle.closure.specs.Arena.{pattern_in};
-ghost use Rattle.closure.specs.Sides.{cells_in};
+ghost use Rattle.cellset.specs.{CellSet.Has, declared.cell.Cell.Cell as GridCell};
+ghost use Rattle.closure.specs.{Pattern.InPatternRegion, Closed.IsLawful, Arena.pattern_in, Sides.cells_in};
 
 use crate::cell_patterns::CellPattern;
 use crate::cells::{load, take_out};

@@ -1,12 +1,9 @@
 //! A coverage that goes through its patterns, one after another.
-ghost use Rattle.std.specs.Prelude.{◌≡◌, ◌↔◌, IsTrue, IfOk, map};
-ghost use Rattle.std.specs.List.{All, AllZip};
+ghost use Rattle.std.specs.{Prelude.◌≡◌, Prelude.◌↔◌, Prelude.IsTrue, Prelude.IfOk, Prelude.map, List.All, List.AllZip};
 ghost use Rattle.cellset.specs.Cell.{IsOn};
 ghost use Rattle.board.specs.Game.{State};
 ghost use Rattle.answers.specs.Grammar.{said_pattern};
-ghost use Rattle.closure.specs.Arena.{list_in, pattern_in};
-ghost use Rattle.closure.specs.Pattern.{patterns_of, IsCovered};
-ghost use Rattle.closure.specs.Closed.{IsLawful, AreLawful};
+ghost use Rattle.closure.specs.{Arena.list_in, Arena.pattern_in, Pattern.patterns_of, Pattern.IsCovered, Closed.IsLawful, Closed.AreLawful};
 ghost use Rattle.closure.specs.Scan.{EntriesCover, IsEntryOf};
 
 use crate::arena::Arena;

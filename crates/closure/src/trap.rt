@@ -4,11 +4,8 @@
 //! further. This is for what `make` writes of dead squares: without it those lists take 4 to 9 times as long.
 ghost use Rattle.std.specs.Prelude.{◌≡◌, IsTrue, IfOk, MatchBool, OnOk};
 ghost use Rattle.std.specs.FinSet as finset;
-ghost use Rattle.cellset.specs.CellSet.{Has, Lacks};
-ghost use Rattle.cellset.specs.declared.cell.Cell.{Cell as GridCell};
-ghost use Rattle.closure.specs.Closed.{AreLawful};
-ghost use Rattle.closure.specs.Arena.{AreOnGrid, list_in};
-ghost use Rattle.closure.specs.Sides.{cells_in};
+ghost use Rattle.cellset.specs.{CellSet.Has, CellSet.Lacks, declared.cell.Cell.Cell as GridCell};
+ghost use Rattle.closure.specs.{Closed.AreLawful, Arena.AreOnGrid, Arena.list_in, Sides.cells_in};
 ghost use Rattle.closure.specs.Trap.{AreOff, AreSinglesIn, AreTrapped, IsTrapOf};
 
 use crate::arena::Arena;
@@ -65,6 +62,7 @@ fn add_singles(arena: &Arena, cells: &mut Rows) -> bool
 }
 
 // Returns whether one of the boxes is on the trap.
+#[tactic(auto, using(crate::proofs::CellLists::over_cells))]
 pub(crate) fn is_trapped(boxes: &[Cell], trap: &Rows) -> bool
     ensures { MatchBool result
         ((c : GridCell) × Has (cells_in boxes.now) c × Has trap.now.members c)

@@ -1,17 +1,12 @@
 //! The check of a zone.
 ghost use Rattle.std.specs.Prelude.{◌≡◌, ◌≢◌, ◌⊎◌, ◌↔◌, ◌<◌, IsTrue, IfOk, IfErr, OnOk, IsOkUnless, MatchOption};
 ghost use Rattle.std.specs.FinSet as finset;
-ghost use Rattle.cellset.specs.Cell.{IsOn};
-ghost use Rattle.cellset.specs.CellSet.{Has};
-ghost use Rattle.cellset.specs.declared.dir.Dir.{Dir as GridDir};
+ghost use Rattle.cellset.specs.{Cell.IsOn, CellSet.Has, declared.dir.Dir.Dir as GridDir};
 ghost use Rattle.reach.specs.Pushes.{dir_rank};
 ghost use Rattle.board.specs.Game.{Solvable};
-ghost use Rattle.answers.specs.Body.{ZoneLine};
-ghost use Rattle.answers.specs.Grammar.{said_zone};
-ghost use Rattle.closure.specs.Pattern.{cells_of};
+ghost use Rattle.answers.specs.{Body.ZoneLine, Grammar.said_zone};
+ghost use Rattle.closure.specs.{Pattern.cells_of, declared.fault.ZoneFault.ZoneFault as Fault, FirstFault.IsFirstLeak, FirstFault.IsFirstZoneFault};
 ghost use Rattle.closure.specs.Zone.{count_in as cells_in, Leaks, IsClosedZone, IsZoneOnBoard, IsZoneOffWalls, IsRefuting};
-ghost use Rattle.closure.specs.declared.fault.ZoneFault.{ZoneFault as Fault};
-ghost use Rattle.closure.specs.FirstFault.{IsFirstLeak, IsFirstZoneFault};
 
 use crate::cells::{add_cells, are_outside, load};
 use crate::fault::{ZoneFault, ZoneLineWhy};
@@ -155,6 +150,7 @@ fn first_leak<S: CellSet>(board: &Board<S>, zone: &S) -> Option<(Cell, Dir)>
 }
 
 // Returns how many of the cells lie in the zone: both sizes less the size of the union. `union` is a buffer.
+#[tactic(auto, using(crate::proofs::Counts::len_union, crate::proofs::Counts::len_union_right))]
 fn count_in<S: CellSet>(zone: &S, cells: &S, union: &mut S) -> usize
     requires zone { S.extent zone.now ≡ S.extent union.old }
     requires cells { S.extent cells.now ≡ S.extent union.old }

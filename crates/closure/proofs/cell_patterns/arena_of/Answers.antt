@@ -1,13 +1,8 @@
-use Rattle.std.proofs.Common.{Bool, true, false, List, [], ◌∷◌, ◌++◌, take, sym, ◌∙◌, ap, arith}
-use Rattle.std.specs.Prelude.{MatchBool, map}
-use Rattle.std.specs.List.{Contains}
-use Rattle.std.proofs.lemmas.List.{get_or-map, length-map, map_more}
+use Rattle.std.proofs.Common.{Bool, true, false, [], ◌∷◌, ◌++◌, take, sym, ◌∙◌, ap}
+use Rattle.std.{specs.Prelude.MatchBool, specs.Prelude.map, proofs.lemmas.List.map_more}
 use Rattle.answers.specs.Grammar.{said_pattern}
-use Rattle.closure.specs.Pattern.{pattern_of}
+use Rattle.closure.{specs.Pattern.pattern_of, proofs.Lists.mapped}
 use Rattle.closure.proofs.cell_patterns.arena_of.Goals as goal
-
-mapped : {X Y : Type 0} (f : X → Y) (xs : List X) (x : X) → Contains xs x → Contains (map f xs) (f x)
-mapped f xs x (k, lt, is) = let long = length-map xs f in (k, omega arith, get_or-map f xs k x (f x) lt ∙ ap f is)
 
 -- if there is no pattern off the grid, the lines are those that are added
 added : (Added Same On Off : Type 0) (all : Bool) → MatchBool all Added Same → MatchBool all On Off → (Off → ⊥) → Added

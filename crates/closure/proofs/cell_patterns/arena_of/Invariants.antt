@@ -1,5 +1,4 @@
-use Rattle.std.proofs.Common.{◌≡◌, take}
-use Rattle.std.specs.Prelude.{map}
+use Rattle.std.{proofs.Common.◌≡◌, proofs.Common.take, specs.Prelude.map}
 use Rattle.answers.specs.Grammar.{said_pattern}
 use Rattle.closure.specs.Arena.{lines_in}
 use Rattle.closure.proofs.cell_patterns.arena_of.Given as goal

@@ -1,10 +1,7 @@
-use Rattle.std.proofs.Common.{◌∙◌, ◌++◌, ap, sym}
-use Rattle.std.specs.Prelude.{map}
-use Rattle.std.proofs.lemmas.List.{append_assoc, map_more, take_all}
-use Rattle.std.proofs.lemmas.List.Elements.{All-push, All-same}
+use Rattle.std.{proofs.Common.◌∙◌, proofs.Common.◌++◌, proofs.Common.ap, proofs.Common.sym, specs.Prelude.map}
+use Rattle.std.proofs.lemmas.List.{append_assoc, map_more, take_all, Elements.All-push, Elements.All-same}
 use Rattle.cellset.specs.Cell.{IsOn}
-use Rattle.closure.specs.Pattern.{cell_of}
-use Rattle.closure.proofs.CellLists.{each_in, in_cells}
+use Rattle.closure.{specs.Pattern.cell_of, proofs.CellLists.each_in, proofs.CellLists.in_cells}
 use Rattle.closure.proofs.cells.add_cells.Goals as goal
 
 pub returns-in_default-clause-exact : goal.returns-in_default-clause-exact

@@ -1,6 +1,4 @@
-use Rattle.std.proofs.Common.{◌≡◌, ◌++◌, take}
-use Rattle.std.specs.Prelude.{map}
-use Rattle.std.specs.List.{All}
+use Rattle.std.{proofs.Common.◌≡◌, proofs.Common.◌++◌, proofs.Common.take, specs.Prelude.map, specs.List.All}
 use Rattle.cellset.specs.Cell.{IsOn}
 use Rattle.closure.specs.Pattern.{cell_of}
 use Rattle.closure.proofs.cells.add_cells.Given as goal

@@ -1,6 +1,7 @@
-use Rattle.std.proofs.Common.{◌≢◌, take}
-use Rattle.std.specs.List.{All}
+use Rattle.std.proofs.Common.{take}
+use Rattle.cellset.specs.CellSet.{Lacks}
+use Rattle.closure.specs.Sides.{cells_in}
 use Rattle.closure.proofs.cells.number_of.Given as goal
 
 abbrev pub invariant-loop-number : goal.invariant-loop-number
-invariant-loop-number l = All (λ q. q ≢ l.fn.cell) (take l.number l.cells)
+invariant-loop-number l = Lacks (cells_in (take l.number l.cells)) l.fn.cell

@@ -1,5 +1,4 @@
-use Rattle.std.proofs.Common.{◌≢◌, take}
-use Rattle.std.specs.List.{All}
+use Rattle.std.{proofs.Common.◌≢◌, proofs.Common.take, specs.List.All}
 use Rattle.cellset.specs.CellSet.{Has}
 use Rattle.closure.proofs.cells.stand_beside.Given as goal
 

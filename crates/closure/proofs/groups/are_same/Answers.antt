@@ -1,5 +1,4 @@
-use Rattle.std.proofs.Common.{◌≡◌, ◌&&◌, true, rules, tests}
-use Rattle.std.specs.Prelude.{◌==◌}
+use Rattle.std.{proofs.Common.◌≡◌, proofs.Common.◌&&◌, proofs.Common.true, proofs.Common.rules, proofs.Common.tests, specs.Prelude.◌==◌}
 use Rattle.std.proofs.lemmas.Slice.Eq.{slice_eq-Decides}
 use Rattle.cellset.specs.declared.cell.Cell.{Cell}
 use Rattle.closure.proofs.Sets.{same_cell}

@@ -1,7 +1,5 @@
 use Rattle.std.proofs.Common.{◌≡◌, ◌+◌, List, [], ◌∷◌, ◌++◌, length, ap, inl, inr, arith}
-use Rattle.closure.specs.Groups.{AreGroups}
-use Rattle.closure.specs.declared.arena.Span.{Span}
-use Rattle.closure.proofs.Grouping.{group_more, line_more, line_within}
+use Rattle.closure.{specs.Groups.AreGroups, specs.declared.arena.Span.Span, proofs.Grouping.group_more, proofs.Grouping.line_more, proofs.Grouping.line_within}
 use Rattle.closure.proofs.groups.group.Goals as goal
 
 pub group_of-requires-clause-boxes : goal.group_of-requires-clause-boxes
@@ -26,8 +24,6 @@ loop-line-preserved c =
 
 pub returns-clause-groups : goal.returns-clause-groups
 returns-clause-groups c =
-    let past = c.loop-line-test.false in
-    let end = c.loop-line.auto.line-index-end in
     let lines = ap (λ l. length l) c.deref-line-items.ensures.value in
     let all : c.loop-line.line-index ≡ length c.args.arena.lines.items = omega arith in
     record {

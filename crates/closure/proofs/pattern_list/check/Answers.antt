@@ -1,8 +1,7 @@
 -- The invariant says that the list has the first patterns. After the loop these are all patterns, and the check of the list says of any lines
 -- that it has what the function promises.
 use Rattle.std.proofs.Common.{◌∷◌, [], ◌++◌, ◌∙◌, ap, sym, take}
-use Rattle.std.specs.Prelude.{map}
-use Rattle.std.proofs.lemmas.List.{length-map, map_more, take_all}
+use Rattle.std.{specs.Prelude.map, proofs.lemmas.List.length-map, proofs.lemmas.List.map_more, proofs.lemmas.List.take_all}
 use Rattle.answers.specs.Grammar.{said_pattern}
 use Rattle.closure.proofs.pattern_list.check.Goals as goal
 
@@ -19,25 +18,15 @@ loop-pattern-preserved g c =
 pub check-requires : goal.check-requires
 check-requires g c = (_, c.loop-pattern.invariant.added)
 
-pub returns-clause-ok : goal.returns-clause-ok
-returns-clause-ok g c =
+pub returns : goal.returns
+returns g c =
     let all = take_all c.loop-pattern.pattern-index c.args.patterns.now c.loop-pattern-test.false in
-    rw (all, c.loop-pattern.invariant.level, length-map c.args.patterns.now said_pattern) at (c.check.ensures.ok _ c.loop-pattern.invariant.added)
-
-pub returns-clause-only : goal.returns-clause-only
-returns-clause-only g c =
-    let all = take_all c.loop-pattern.pattern-index c.args.patterns.now c.loop-pattern-test.false in
-    rw (all, c.loop-pattern.invariant.level) at (c.check.ensures.only _ c.loop-pattern.invariant.added)
-
-pub returns-clause-exact : goal.returns-clause-exact
-returns-clause-exact g c =
-    let all = take_all c.loop-pattern.pattern-index c.args.patterns.now c.loop-pattern-test.false in
-    rw (all, c.loop-pattern.invariant.level) at (c.check.ensures.exact _ c.loop-pattern.invariant.added)
-
-pub returns-clause-first : goal.returns-clause-first
-returns-clause-first g c = λ fault.
-    let all = take_all c.loop-pattern.pattern-index c.args.patterns.now c.loop-pattern-test.false in
-    rw (all, c.loop-pattern.invariant.level) at (c.check.ensures.first _ fault c.loop-pattern.invariant.added)
-
-pub returns-clause-unsolvable : goal.returns-clause-unsolvable
-returns-clause-unsolvable g c = rw c.loop-pattern.invariant.level at (c.check.ensures.unsolvable _ c.loop-pattern.invariant.added)
+    let level = c.loop-pattern.invariant.level in
+    let added = c.loop-pattern.invariant.added in
+    record {
+      ok = rw (all, level, length-map c.args.patterns.now said_pattern) at (c.check.ensures.ok _ added);
+      only = rw (all, level) at (c.check.ensures.only _ added);
+      exact = rw (all, level) at (c.check.ensures.exact _ added);
+      first = λ fault. rw (all, level) at (c.check.ensures.first _ fault added);
+      unsolvable = rw level at (c.check.ensures.unsolvable _ added);
+    }

@@ -1,5 +1,4 @@
-use Rattle.std.proofs.Common.{◌≡◌, take}
-use Rattle.std.specs.Prelude.{map}
+use Rattle.std.{proofs.Common.◌≡◌, proofs.Common.take, specs.Prelude.map}
 use Rattle.answers.specs.Grammar.{said_pattern}
 use Rattle.closure.specs.PatternList.{IsListOf}
 use Rattle.closure.proofs.pattern_list.check.Given as goal

@@ -2,12 +2,8 @@
 -- and so does the region that `find` returns: that is the invariant of entries. With `*` the cells of the room without a box are the
 -- region, and with listed seeds the cells of the found region are, where there is no box (`Regions.antt`). So in both cases the entry
 -- covers what its pattern covers.
-use Rattle.std.proofs.Common.{◌≡◌, sym, ◌∙◌, ap, inl}
-use Rattle.std.specs.Prelude.{Some, None}
-use Rattle.closure.specs.Arena.{pattern_in}
-use Rattle.closure.specs.Sides.{cells_in}
-use Rattle.closure.proofs.CellLists.{in_list}
-use Rattle.closure.proofs.Regions.{room_outside, region_outside}
+use Rattle.std.{proofs.Common.◌≡◌, proofs.Common.sym, proofs.Common.◌∙◌, proofs.Common.ap, proofs.Common.inl, specs.Prelude.Some, specs.Prelude.None}
+use Rattle.closure.{specs.Arena.pattern_in, specs.Sides.cells_in, proofs.CellLists.in_list, proofs.Regions.room_outside, proofs.Regions.region_outside}
 use Rattle.closure.proofs.scan.enter.Goals as goal
 use Rattle.closure.proofs.scan.enter.Goals.{in-None, in-Some+in_ok-region-in-Some}
 

@@ -1,10 +1,7 @@
 -- The invariant says that no entry so far covers the state. All entries are on the grid of the room, as are the boxes and the player, so
 -- each may be asked. An entry that covers the state is the one that has to be shown if the result is true. After the loop all entries have
 -- come, so none of them covers it.
-use Rattle.std.proofs.Common.{arith, ◌∙◌, sym}
-use Rattle.std.proofs.lemmas.Bool.{false≢true}
-use Rattle.std.proofs.lemmas.List.{take_all}
-use Rattle.std.proofs.lemmas.List.Elements.{All-more}
+use Rattle.std.proofs.{Common.arith, Common.◌∙◌, Common.sym, lemmas.Bool.false≢true, lemmas.List.take_all, lemmas.List.Elements.All-more}
 use Rattle.board.specs.Game.{State}
 use Rattle.closure.specs.Scan.{EntryCells, EntryCovers}
 use Rattle.closure.proofs.scan.is_any_covering.Goals as goal
@@ -18,18 +15,3 @@ loop-entry-preserved g c =
 
 pub returns : goal.returns
 returns g c = grind (arith, take_all, false≢true)
-
-pub covers-requires-clause-room : goal.covers-requires-clause-room
-covers-requires-clause-room g c = grind arith
-
-pub covers-requires-clause-boxes : goal.covers-requires-clause-boxes
-covers-requires-clause-boxes g c = grind arith
-
-pub covers-requires-clause-player : goal.covers-requires-clause-player
-covers-requires-clause-player g c = grind arith
-
-pub returns-then-covers : goal.returns-then-covers
-returns-then-covers g c = grind arith
-
-pub loop-entry-init : goal.loop-entry-init
-loop-entry-init g c = grind arith

@@ -1,5 +1,4 @@
-use Rattle.std.proofs.Common.{take}
-use Rattle.std.specs.List.{All}
+use Rattle.std.{proofs.Common.take, specs.List.All}
 use Rattle.closure.specs.Scan.{EntryCells, EntryCovers}
 use Rattle.closure.proofs.scan.is_any_covering.Given as goal
 

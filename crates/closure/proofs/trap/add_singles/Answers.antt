@@ -1,17 +1,12 @@
 -- The invariant says that the single of each cell is a pattern of the list. A line that is a single adds its cell, and the invariant holds
 -- again, by cases on whether a cell was there or is the new one.
-use Rattle.std.proofs.Common.{◌≡◌, ◌<◌, ◌≤◌, List, [], ◌∷◌, length, None, refl, sym, ◌∙◌, subst, inl, inr, arith}
+use Rattle.std.proofs.Common.{◌≡◌, ◌<◌, ◌≤◌, List, [], ◌∷◌, length, None, refl, ◌∙◌, inl, inr, arith}
 use Rattle.std.specs.FinSet as set
-use Rattle.cellset.specs.declared.cell.Cell.{Cell}
-use Rattle.cellset.proofs.Members.{has_empty, inserted}
-use Rattle.cellset.proofs.Truth.{either}
-use Rattle.closure.specs.Arena.{list_in, pattern_at, pattern_in}
-use Rattle.closure.specs.Pattern.{Pattern}
-use Rattle.closure.specs.Sides.{cell_no}
-use Rattle.closure.specs.Trap.{IsTrapped, single}
-use Rattle.closure.specs.declared.cell_patterns.CellPattern.{CellPattern}
-use Rattle.closure.proofs.Arenas.{list_long, listed_at}
-use Rattle.closure.proofs.FirstLines.{each_pattern, one_more}
+use Rattle.std.specs.List.{Contains}
+use Rattle.cellset.{specs.declared.cell.Cell.Cell, proofs.Members.has_empty, proofs.Members.inserted, proofs.Truth.either}
+use Rattle.closure.specs.{Arena.list_in, Arena.pattern_at, Arena.pattern_in, Pattern.Pattern, Sides.cell_no, Trap.IsTrapped, Trap.single}
+use Rattle.closure.{specs.declared.cell_patterns.CellPattern.CellPattern, proofs.Arenas.list_long, proofs.Arenas.listed_at}
+use Rattle.closure.proofs.{CellLists.in_list, CellLists.no_cell, FirstLines.each_pattern, FirstLines.one_more}
 use Rattle.closure.proofs.trap.add_singles.Goals as goal
 
 one_cell : (cells : List Cell) → 1 ≤ length cells → length cells < 2 → cells ≡ cell_no cells 0 ∷ []
@@ -29,14 +24,9 @@ loop-line-init c = record { extent = refl; singles = λ q has. has_empty q (rw c
 
 pub insert-requires : goal.insert-requires
 insert-requires c =
-    let p = c.pattern-pattern.result in
-    let box = c.in-len1-None in
-    let test = c.loop-line-test.true in
-    let len = c.len-line-end.ensures in
-    let is = is_single p _ c.pattern-pattern.ensures.pattern box.is-1 box.len_at_least box.len_below in
-    let cell = cell_no p.boxes.now 0 in
-    rw c.loop-line.invariant.extent (c.requires.on _ (listed_at c.args.arena.now c.loop-line.line (omega arith)) cell
-    (inl (rw is (inserted set.empty cell))))
+    let p = c.pattern-pattern in
+    rw c.loop-line.invariant.extent (c.requires.on _ (listed_at c.args.arena.now c.loop-line.line (omega arith)) _
+    (inl (rw (← p.ensures.pattern) (in_list p.result.boxes.now 0 no_cell c.in-len1-None.len_at_least))))
 
 pub loop-line-preserved : goal.loop-line-preserved
 loop-line-preserved c =
@@ -44,14 +34,11 @@ loop-line-preserved c =
     let old = c.loop-line.invariant in
     let p = c.pattern-pattern.result in
     let box = c.in-len1-None in
-    let test = c.loop-line-test.true in
-    let len = c.len-line-end.ensures in
     let is = is_single p _ c.pattern-pattern.ensures.pattern box.is-1 box.len_at_least box.len_below in
-    let listed = listed_at c.args.arena.now c.loop-line.line (omega arith) in
+    let single_in : Contains patterns (single (cell_no p.boxes.now 0)) = rw (← is) (listed_at c.args.arena.now c.loop-line.line (omega arith)) in
     record {
       extent = c.insert.ensures.extent ∙ old.extent;
-      singles = λ q has. either ((c.insert.ensures.members q).0 has) (old.singles q)
-          (λ e. rw (subst (λ k. pattern_at patterns c.loop-line.line ≡ single k) (sym e) is) at listed);
+      singles = λ q has. either ((c.insert.ensures.members q).0 has) (old.singles q) (λ e. rw e single_in);
       all = λ single. one_more (λ j. IsTrapped c.insert.new.self.members (pattern_at patterns j)) c.loop-line.line
           (λ j before. let trapped = old.all single j before in (trapped.0, trapped.1, (c.insert.ensures.members trapped.0).1 (inl trapped.2)))
           (cell_no p.boxes.now 0, rw is (inserted set.empty (cell_no p.boxes.now 0)), (c.insert.ensures.members _).1 (inr refl));
@@ -61,6 +48,4 @@ pub returns-clause-all : goal.returns-clause-all
 returns-clause-all c = λ single.
     let patterns = list_in c.args.arena.now in
     let long = list_long c.args.arena.now in
-    let end = c.loop-line-test.false in
-    let len = c.len-line-end.ensures in
     each_pattern (IsTrapped c.loop-line.cells.members) patterns c.loop-line.line _ (omega arith) (c.loop-line.invariant.all single)

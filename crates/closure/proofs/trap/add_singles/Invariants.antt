@@ -1,7 +1,5 @@
-use Rattle.std.proofs.Common.{ℕ, ◌≡◌, ◌<◌}
-use Rattle.std.specs.Prelude.{IsTrue}
-use Rattle.closure.specs.Arena.{list_in, pattern_at}
-use Rattle.closure.specs.Trap.{AreSinglesIn, IsTrapped}
+use Rattle.std.{proofs.Common.ℕ, proofs.Common.◌≡◌, proofs.Common.◌<◌, specs.Prelude.IsTrue}
+use Rattle.closure.specs.{Arena.list_in, Arena.pattern_at, Trap.AreSinglesIn, Trap.IsTrapped}
 use Rattle.closure.proofs.trap.add_singles.Given as goal
 
 abbrev pub invariant-loop-line : goal.invariant-loop-line

@@ -1,6 +1,5 @@
-use Rattle.closure.specs.Arena.{list_in}
+use Rattle.closure.{specs.Arena.list_in, proofs.Traps.no_trap}
 use Rattle.std.proofs.Common.{◌∙◌}
-use Rattle.closure.proofs.Traps.{no_trap}
 use Rattle.closure.proofs.trap.find_trap.Goals as goal
 
 pub add_singles-all_single-requires-clause-on : goal.add_singles-all_single-requires-clause-on

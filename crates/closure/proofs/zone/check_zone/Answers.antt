@@ -1,8 +1,7 @@
 use Rattle.std.proofs.Common.{◌≡◌}
 use Rattle.std.specs.FinSet as set
 use Rattle.answers.specs.Grammar.{said_zone}
-use Rattle.closure.specs.Pattern.{cells_of}
-use Rattle.closure.proofs.OneFault.{refuting_unless_memory, zone_first_unless_memory}
+use Rattle.closure.{specs.Pattern.cells_of, proofs.OneFault.refuting_unless_memory, proofs.OneFault.zone_first_unless_memory}
 use Rattle.closure.proofs.ZoneCounts.{unsolvable_where_refuted}
 use Rattle.closure.proofs.zone.check_zone.Goals as goal
 

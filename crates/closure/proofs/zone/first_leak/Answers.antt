@@ -2,10 +2,8 @@
 -- cell leaks, or None, which keeps the invariant. A leak that comes before the one found is of an earlier cell, which came before
 -- (`MemberLists.antt` of `cellset`), or of the same cell in an earlier direction, so there is none. After the loop every cell of the zone
 -- has come, so the zone is closed.
-use Rattle.std.proofs.Common.{arith}
 use Rattle.std.proofs.lemmas.List.Elements.{Contains-push_cases}
-use Rattle.cellset.proofs.MemberLists.{all_came, next_has, came_before, next_came}
-use Rattle.cellset.proofs.Truth.{either}
+use Rattle.cellset.proofs.{MemberLists.all_came, MemberLists.next_has, MemberLists.came_before, MemberLists.next_came, Truth.either}
 use Rattle.closure.proofs.zone.first_leak.Goals as goal
 
 pub leak_from-requires-clause-on : goal.leak_from-requires-clause-on
@@ -15,8 +13,6 @@ leak_from-requires-clause-on g c =
 
 pub returns-in-Some-leak_from : goal.returns-in-Some-leak_from
 returns-in-Some-leak_from g c =
-    let level = c.args.board.now in
-    let zone = g.S.CellSet.members c.args.zone.now in
     let whole = rw c.in-Some.ensures.steps at c.loop-cell.invariant.all in
     record {
       leaks = c.in-Some-leak_from.ensures.0;
@@ -27,8 +23,6 @@ returns-in-Some-leak_from g c =
 
 pub loop-cell-preserved : goal.loop-cell-preserved
 loop-cell-preserved g c =
-    let level = c.args.board.now in
-    let zone = g.S.CellSet.members c.args.zone.now in
     let whole = rw c.in-Some.ensures.steps at c.loop-cell.invariant.all in
     record {
       can_next = tt;
@@ -39,12 +33,7 @@ loop-cell-preserved g c =
           (λ here. c.in_default.ensures d (rw here leak));
     }
 
-pub loop-cell-init : goal.loop-cell-init
-loop-cell-init g c = grind arith
-
 pub returns : goal.returns
 returns g c = λ q d leak.
-    let level = c.args.board.now in
-    let zone = g.S.CellSet.members c.args.zone.now in
     let whole = rw c.in-None.ensures.steps.0 at c.loop-cell.invariant.all in
-    c.loop-cell.invariant.passed q (((all_came level.shape zone c.loop-cell.yielded whole).exact q).1 leak.inside) d leak
+    c.loop-cell.invariant.passed q (((all_came _ _ c.loop-cell.yielded whole).exact q).1 leak.inside) d leak

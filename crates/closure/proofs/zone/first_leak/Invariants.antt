@@ -1,8 +1,5 @@
-use Rattle.std.proofs.Common.{◌++◌}
-use Rattle.std.specs.List.{Contains}
-use Rattle.cellset.specs.Members.{AreMembersOf}
-use Rattle.cellset.specs.declared.cell.Cell.{Cell}
-use Rattle.cellset.specs.declared.dir.Dir.{Dir}
+use Rattle.std.{proofs.Common.◌++◌, specs.List.Contains}
+use Rattle.cellset.specs.{Members.AreMembersOf, declared.cell.Cell.Cell, declared.dir.Dir.Dir}
 use Rattle.closure.specs.Zone.{Leaks}
 use Rattle.closure.proofs.zone.first_leak.Given as goal
 

@@ -1,13 +1,8 @@
 use Rattle.std.proofs.Common.{◌≡◌, refl, sym, ◌∙◌, ap}
 use Rattle.std.specs.Prelude.{Option, None, Some, List, map, option_map}
 use Rattle.cellset.specs.declared.cell.Cell.{Cell}
-use Rattle.closure.specs.Pattern.{listed, pattern_of, seeds_of}
-use Rattle.closure.specs.Arena.{coord_of, line_at, line_in, seeds_within}
-use Rattle.closure.specs.Spans.{part}
-use Rattle.closure.specs.declared.arena.Span.{Span}
-use Rattle.closure.proofs.Arenas.{line_pattern, same_cells}
-use Rattle.closure.proofs.CellLists.{at_any}
-use Rattle.closure.proofs.Spans.{boxes_within}
+use Rattle.closure.specs.{Pattern.listed, Pattern.pattern_of, Pattern.seeds_of, Arena.coord_of, Arena.line_at, Arena.line_in, Arena.seeds_within, Spans.part}
+use Rattle.closure.{specs.declared.arena.Span.Span, proofs.Arenas.line_pattern, proofs.Arenas.same_cells, proofs.CellLists.at_any, proofs.Spans.boxes_within}
 use Rattle.closure.proofs.arena.Arena.line.Goals as goal
 
 same_seeds : (seeds : List Cell) (span : Option Span) → seeds_within seeds span ≡ seeds_of (option_map (λ s. map coord_of (part seeds s)) span)

@@ -1,7 +1,6 @@
 use Rattle.std.proofs.Common.{◌≡◌, refl}
-use Rattle.closure.specs.Arena.{seeds_among, seeds_within}
+use Rattle.closure.{specs.Arena.seeds_among, specs.Arena.seeds_within, proofs.arena.Arena.pattern.Goals.in-None, proofs.arena.Arena.pattern.Goals.in-Some}
 use Rattle.closure.proofs.arena.Arena.pattern.Goals as goal
-use Rattle.closure.proofs.arena.Arena.pattern.Goals.{in-None, in-Some}
 
 pub returns-clause-pattern : goal.returns-clause-pattern
 returns-clause-pattern c =

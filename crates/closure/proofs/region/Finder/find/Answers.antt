@@ -2,8 +2,7 @@
 -- `Regions.antt`). With listed seeds it is what the flood reaches from them past walls and boxes. The pattern is lawful, so its boxes and
 -- seeds lie on the grid and can be put into the sets.
 use Rattle.std.proofs.Common.{inl, inr}
-use Rattle.closure.specs.Sides.{cells_in}
-use Rattle.closure.proofs.Regions.{room_region}
+use Rattle.closure.{specs.Sides.cells_in, proofs.Regions.room_region}
 use Rattle.closure.proofs.region.Finder.find.Goals as goal
 
 pub load-requires-in-Some : goal.load-requires-in-Some

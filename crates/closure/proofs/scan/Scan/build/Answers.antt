@@ -1,15 +1,12 @@
-use Rattle.std.proofs.Common.{sym, ◌∙◌, subst}
-use Rattle.closure.specs.Arena.{list_in}
-use Rattle.closure.specs.Closed.{AreLawful}
-use Rattle.closure.specs.Pattern.{patterns_of}
-use Rattle.closure.proofs.Entries.{entries_cover, entries_grid}
+use Rattle.std.proofs.Common.{sym, ◌∙◌}
+use Rattle.closure.{specs.Arena.list_in, proofs.Entries.entries_cover, proofs.Entries.entries_grid}
 use Rattle.closure.proofs.scan.Scan.build.Goals as goal
 
 pub arena_of-requires : goal.arena_of-requires
 arena_of-requires g c = λ pattern listed q named. rw c.shape.ensures.value ((c.requires pattern listed).board q named)
 
 pub enter_all-requires : goal.enter_all-requires
-enter_all-requires g c = subst (λ l. AreLawful c.args.board.now (patterns_of l)) (sym c.in_ok-arena.ensures) c.requires
+enter_all-requires g c = rw c.in_ok-arena.ensures c.requires
 
 pub invariant_of-result : goal.invariant_of-result
 invariant_of-result g c = record {
