@@ -9,11 +9,12 @@ use Rattle.std.proofs.lemmas.Bool.{cases_eq, cases_lt, cases_Bool, false≢true,
 use Rattle.std.proofs.lemmas.List.{append-nil, get_or_append_left, get_or_past, get_or_push, length_push}
 use Rattle.std.proofs.lemmas.List.Sums.{sum_by_push}
 use Rattle.std.specs.List.{count_by}
+use Rattle.std.specs.Prelude.{◌↔◌}
 use Rattle.std.specs.FinSet as set
 use Rattle.std.specs.FinSet.{contains, contains-insert, contains-empty, contains-union, len-insert, len-empty}
 use Rattle.cellset.specs.Shape.{Extent}
 use Rattle.cellset.specs.Cell.{cell_at, cell_cmp}
-use Rattle.cellset.specs.CellSet.{Cells, Has}
+use Rattle.cellset.specs.CellSet.{Cells, Has, Lacks}
 use Rattle.cellset.specs.RowBits.{row_cell, IsRowOn, cells_of_row}
 use Rattle.cellset.specs.declared.cell.Cell.{Cell}
 use Rattle.cellset.proofs.Members.{cells_total, same_cells, same, same_itself, same_or_other}
@@ -203,6 +204,11 @@ module _ (is_kind : ℕ → Bool) (no_floor : is_kind space ≡ false) where
   pub row_drawn : (done : List (List ℕ)) (line : List ℕ) (row parts : ℕ) (old new : Cells) → length done + 1 ≡ row → length line < 64 * parts
       → IsDrawn is_kind done old → IsRowDrawn is_kind line row parts old new → IsDrawn is_kind (done ++ line ∷ []) new
   row_drawn done line row parts old new at long was drawn = search (counted, row_drawn_shows)
+
+-- ---- the floor loses the cells that the walls gain
+pub floor_less : {On Was Now : Type 0} (walls row : Cells) (q : Cell) → (Was ↔ (On × Lacks walls q)) → (Now ↔ (Was × Lacks row q))
+    → Now ↔ (On × Lacks (set.union walls row) q)
+floor_less walls row q was now = grind (arith, contains-union, cells_total)
 
 -- ---- the four sets
 module _ {S : Type 0} (members : S → Cells) where

@@ -2,10 +2,8 @@
 -- (`part_added` in `Drawing.antt`). All bits are of columns of the row, so their cells are on the grid (`word_on`). After the last part
 -- every column of the row is added, and no other row has changed (`row_drawn`). The walls that are added are taken from the floor.
 use Rattle.std.proofs.Common.{◌*◌, ◌<◌, length, take, refl, ◌∙◌, arith, length-take-le}
-use Rattle.std.specs.FinSet.{contains-union}
-use Rattle.cellset.proofs.Members.{cells_total}
 use Rattle.board.specs.Characters.{is_wall, is_player, is_box, is_goal}
-use Rattle.board.proofs.Drawing.{word_on, part_added, row_drawn}
+use Rattle.board.proofs.Drawing.{word_on, part_added, row_drawn, floor_less}
 use Rattle.board.proofs.sketch.draw_row.Goals as goal
 
 pub insert_row-requires : goal.insert_row-requires
@@ -46,7 +44,7 @@ loop-part-preserved g c =
         box = c.insert_row-in-loop-part-2.ensures.extent ∙ was.rows.box;
         player = c.insert_row-in-loop-part-3.ensures.extent ∙ was.rows.player;
         floor_extent = c.remove_row.ensures.extent ∙ was.rows.floor_extent;
-        floor = λ q. grind (arith, contains-union, cells_total);
+        floor = λ q. rw c.insert_row.ensures.members (floor_less _ _ q (was.rows.floor q) (c.remove_row.ensures.members q));
         region_extent = was.rows.region_extent;
         region = was.rows.region;
       };
