@@ -2,7 +2,7 @@
 -- its byte.
 -- A byte that is written belongs to a cell of the grid, so no other cell near the grid has its place, and the field shows the boxes with
 -- or without this one. A push writes two bytes. The field of a new level is drawn by lanes (`Lanes.antt`), first without boxes.
-use Rattle.std.proofs.Common.{◌≡◌, ◌≢◌, ◌⊎◌, ℕ, Bool, true, false, cond, not, ◌&&◌, ◌||◌, ◌+◌, ◌-◌, ◌*◌, ◌/◌, ◌%◌, ◌^◌, ◌≤◌, ◌<◌, List, length, min, set, get_or, length-set}
+use Rattle.std.proofs.Common.{◌≡◌, ◌≢◌, ◌⊎◌, ℕ, Bool, true, false, cond, not, ◌&&◌, ◌||◌, ◌+◌, ◌-◌, ◌*◌, ◌/◌, ◌%◌, ◌^◌, ◌≤◌, ◌<◌, List, length, min, set, get_or, length-set, subst}
 use Rattle.std.proofs.Common.{refl, sym, ◌∙◌, ap, inl, inr, arith}
 use Rattle.std.specs.Prelude.{◌↔◌}
 use Rattle.std.proofs.lemmas.List.{get_or-set_same, get_or-set_other}
@@ -13,7 +13,7 @@ use Rattle.cellset.specs.Shape.{Extent, HasSides}
 use Rattle.cellset.specs.Bits.{bit}
 use Rattle.cellset.specs.Cell.{neighbor, IsOn, cell_at, cell_cmp}
 use Rattle.cellset.specs.CellSet.{Cells, Has, Lacks}
-use Rattle.cellset.specs.RowBits.{IsRowOf}
+use Rattle.cellset.specs.RowBits.{IsRowOf, row_cell}
 use Rattle.cellset.specs.declared.cell.Cell.{Cell}
 use Rattle.cellset.specs.declared.dir.Dir.{Dir}
 use Rattle.cellset.specs.declared.dir.Dir.TheVariants.{L, U, R, D}
@@ -178,7 +178,11 @@ module _ (level : Level) (formed : IsWellFormed level) where
         drawn k small =
             let q = cell_at (64 * part + s + k) row in
             let there : 64 * part + (s + k) ≡ 64 * part + s + k = omega arith in
-            grind (arith, low_bits, bit_down, shown_by)
+            let same_cell : row_cell row part (s + k) ≡ q = λ i. cell_at (there i) row in
+            let bit_is : bit (left % 65536) k ≡ cells.contains floor q = low_bits left k small ∙ ap (λ w. bit w k) goes ∙ bit_down word s k
+            ∙ row_is (s + k) (omega (arith, fits, small)) ∙ ap (cells.contains floor) same_cell in
+            subst (λ n. IsShown level cells.empty q n × ((IsFloor level q → ⊥) → n ≡ WALL)) (sym (lanes k small))
+            (shown_by q (bit (left % 65536) k) (sym bit_is))
 
   -- once all places are passed, all cells are drawn
   pub drawn_end : (field : List ℕ) → IsDrawnBelow level (256 * min (level.shape.height + 2) 256) field → IsFieldOf level cells.empty field

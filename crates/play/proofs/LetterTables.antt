@@ -78,7 +78,7 @@ is_read {b} lt =
         step_by h (λ is s. let (step, kind) = said b s in inr (inr (inl (U, is, step, kind)))) (λ mu h.
         step_by h (λ is s. let (step, kind) = said b s in inr (inr (inl (R, is, step, kind)))) (λ mr h.
         step_by h (λ is s. let (step, kind) = said b s in inr (inr (inl (D, is, step, kind)))) (λ md h.
-        grind (arith, said, none)))))))))
+        let (step, kind) = said b h in inr (inr (inr (letter, none b nl nu nr nd ml mu mr md, step, kind)))))))))))
 
 -- ---- what a byte adds
 abbrev adds : ℕ → ℕ → Bool

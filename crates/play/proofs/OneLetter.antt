@@ -101,11 +101,11 @@ module _ (level : Level) (done field : List ℕ) (run : Run) (before : Progress 
   ahead_within (inr (inr (inr (_, _, step, kind_is)))) = grind (arith, still, near_on)
 
   ahead_shown : (d : Dir) → letter.step ≡ stride d → IsShown level before.state.boxes (neighbor before.state.player d) (get_or field ahead 0)
-  ahead_shown d step = grind (arith, ahead_is, near_neighbor)
+  ahead_shown d step = rw (ahead_is d step) (before.shown.shown _ (near_neighbor level.shape d before.stands.player.0))
 
   beyond_shown : (d : Dir) → letter.step ≡ stride d → IsOn level.shape (neighbor before.state.player d)
       → IsShown level before.state.boxes (neighbor (neighbor before.state.player d) d) (get_or field beyond 0)
-  beyond_shown d step on = grind (arith, beyond_is, near_neighbor)
+  beyond_shown d step on = rw (beyond_is d step on) (before.shown.shown _ (near_neighbor level.shape d on))
 
   -- ---- a letter that is a legal step
   -- a walk or a blank is played by moving the player to the free cell ahead
