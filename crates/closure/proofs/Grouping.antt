@@ -85,7 +85,7 @@ module _ (arena : Arena) (of : List ℕ) (spans : List Span) (n g : ℕ) (so_far
       (omega arith) (ap (part arena.boxes.items) (fresh g is))
 
 -- ---- the region of a group
-module _ (groups : Groups) (g : ℕ) (free region : Cells) where
+module _ (groups : Groups) (g : ℕ) (free : Cells) where
   abbrev Seed : Cell → Type 0
   Seed c = Has free c × IsSeedOf groups g c
 
@@ -94,18 +94,18 @@ module _ (groups : Groups) (g : ℕ) (free region : Cells) where
   walked_free c (by_step b before step) = step.free
 
   -- A flood that reaches each free cell finds all that is free.
-  all_flooded : region ≡ free → ((c : Cell) → Has free c → Reached (WalksTo (Has free)) Seed c) → IsFlooded groups g free region
-  all_flooded is reached c = grind (arith, walked_free)
+  all_flooded : ((c : Cell) → Has free c → Reached (WalksTo (Has free)) Seed c) → IsFlooded groups g free free
+  all_flooded reached c = (reached c, walked_free c)
 
   -- If a line says `*`, each free cell is a seed.
-  pub flooded_star : region ≡ free → HasStar groups g → IsFlooded groups g free region
-  flooded_star is star = all_flooded is (λ c has. at_seed (has, on_line star (rw star.fact tt)))
+  pub flooded_star : HasStar groups g → IsFlooded groups g free free
+  flooded_star star = all_flooded (λ c has. at_seed (has, on_line star (rw star.fact tt)))
 
   -- If the free cells are in one piece, a flood from a seed reaches all of them.
-  pub flooded_whole : region ≡ free → IsOnePiece (Has free) → (x : Cell) → Seed x → IsFlooded groups g free region
-  flooded_whole is whole x seed = search (all_flooded, reached_whole)
+  pub flooded_whole : IsOnePiece (Has free) → (x : Cell) → Seed x → IsFlooded groups g free free
+  flooded_whole whole x seed = search (all_flooded, reached_whole)
 
   -- If no line says `*`, the flood begins with the free seeds.
-  pub flooded_seeds : (begins : Cells) → HasSeedsOnly (Has free) (Has begins) groups g → HasSeedsFrom (Has free) (Has begins) groups g 0
+  pub flooded_seeds : (region begins : Cells) → HasSeedsOnly (Has free) (Has begins) groups g → HasSeedsFrom (Has free) (Has begins) groups g 0
       → ((c : Cell) → Has region c ↔ Reached (WalksTo (Has free)) (Has begins) c) → IsFlooded groups g free region
-  flooded_seeds begins only found exact c = grind (arith, reached_more, seed_among)
+  flooded_seeds region begins only found exact c = grind (arith, reached_more, seed_among)

@@ -72,8 +72,9 @@ pub(crate) fn find_regions<S: CellSet>(
         }
         flood.take_out(room, boxes);
         let whole = flood.find_region(groups, group);
-        flood.note_sides(boxes, groups.spans[group].from as usize, &mut sides);
-        let has_root = flood.region.has(board.player());
+        let region = flood.found(whole);
+        note_sides(region, boxes, groups.spans[group].from as usize, &mut sides);
+        let has_root = region.has(board.player());
         of.push_reserved(Region { has_root, whole });
     }
     drop(flood);
@@ -123,16 +124,10 @@ impl Flood {
         let up = is_linked(ring.up, ring.up_right, ring.right);
         let right = is_linked(ring.right, ring.right_down, ring.down);
         let down = is_linked(ring.down, ring.down_left, ring.left);
-        if left && up {
-            return right || down;
-        }
-        if left || up {
-            return right && down;
-        }
-        false
+        left & up & (right | down) | (left | up) & right & down
     }
 
-    // Finds the region of a group. If it returns true, the region is all that is free.
+    // Finds the region of a group. If it returns true, the region is all that is free, and the rows of the region aren't filled.
     fn find_region(&mut self, groups: &Groups, group: usize) -> bool
         requires region { self.old.region.extent ≡ self.old.free.extent }
         requires on { (c : GridCell) → Has self.old.free.members c → IsOn self.old.free.extent c }
@@ -140,47 +135,55 @@ impl Flood {
         requires group { group < length groups.now.spans.items }
         requires groups { IsGrouped groups.now }
         ensures same { (self.new.free ≡ self.old.free) × (self.new.region.extent ≡ self.old.region.extent) }
-        ensures exact { IsFlooded groups.now group self.old.free.members self.new.region.members }
-        ensures all { IsTrue result → self.new.region.members ≡ self.old.free.members }
+        ensures exact { MatchBool result (IsFlooded groups.now group self.old.free.members self.old.free.members)
+            (IsFlooded groups.now group self.old.free.members self.new.region.members) }
     {
         self.region.clear();
         let has_star = !seed(groups, group, &self.free, &mut self.region);
         let whole = has_star || self.whole && !self.region.is_empty();
         if whole {
-            self.region.copy_from(&self.free);
             return true;
         }
         self.region.grow::<ByWalk>(&self.free);
         false
     }
 
-    // Notes on which sides of each box the region lies, in the entries from this one on.
-    fn note_sides(&self, boxes: &[Cell], from: usize, sides: &mut Vec<Sides>)
-        requires boxes { (c : GridCell) → Has (cells_in boxes.now) c → IsOn self.now.region.extent c }
-        requires room { from + length boxes.now ≤ length sides.old.items }
-        ensures long { length sides.new.items ≡ length sides.old.items }
-        ensures noted { (i : ℕ) → i < length boxes.now
-            → IsAround (Has self.now.region.members) (cell_no boxes.now i) (slice_index_or sides.new.items (from + i) no_sides) }
-        ensures kept { (k : ℕ) → k < from → slice_index_or sides.new.items k no_sides ≡ slice_index_or sides.old.items k no_sides }
+    // Returns the region that was found: all that is free, or the rows of the region.
+    fn found(&self, whole: bool) -> &Rows
+        requires { self.now.region.extent ≡ self.now.free.extent }
+        ensures extent { result.now.extent ≡ self.now.free.extent }
+        ensures members { MatchBool whole (result.now.members ≡ self.now.free.members) (result.now.members ≡ self.now.region.members) }
     {
-        for number in 0..boxes.len() {
-            sides[from + number] = self.sides_at(boxes[number]);
-        }
+        if whole { &self.free } else { &self.region }
     }
+}
 
-    // Returns on which sides of a cell the region lies.
-    #[inline]
-    fn sides_at(&self, cell: Cell) -> Sides
-        requires { IsOn self.now.region.extent cell }
-        ensures { IsAround (Has self.now.region.members) cell result }
-    {
-        let ring = self.region.ring(cell);
-        Sides {
-            left: ring.left,
-            up: ring.up,
-            right: ring.right,
-            down: ring.down,
-        }
+// Notes on which sides of each box a region lies, in the entries from this one on.
+fn note_sides(region: &Rows, boxes: &[Cell], from: usize, sides: &mut Vec<Sides>)
+    requires boxes { (c : GridCell) → Has (cells_in boxes.now) c → IsOn region.now.extent c }
+    requires room { from + length boxes.now ≤ length sides.old.items }
+    ensures long { length sides.new.items ≡ length sides.old.items }
+    ensures noted { (i : ℕ) → i < length boxes.now
+        → IsAround (Has region.now.members) (cell_no boxes.now i) (slice_index_or sides.new.items (from + i) no_sides) }
+    ensures kept { (k : ℕ) → k < from → slice_index_or sides.new.items k no_sides ≡ slice_index_or sides.old.items k no_sides }
+{
+    for number in 0..boxes.len() {
+        sides[from + number] = sides_at(region, boxes[number]);
+    }
+}
+
+// Returns on which sides of a cell a region lies.
+#[inline]
+fn sides_at(region: &Rows, cell: Cell) -> Sides
+    requires { IsOn region.now.extent cell }
+    ensures { IsAround (Has region.now.members) cell result }
+{
+    let ring = region.ring(cell);
+    Sides {
+        left: ring.left,
+        up: ring.up,
+        right: ring.right,
+        down: ring.down,
     }
 }
 
@@ -189,7 +192,7 @@ impl Flood {
 fn is_linked(side: bool, corner: bool, next: bool) -> bool
     ensures { IsTrue result → IsTrue side → IsTrue next × IsTrue corner }
 {
-    !side || corner && next
+    !side | corner & next
 }
 
 // Adds the free seeds of each line of a group to the empty region, unless one of them says `*`.

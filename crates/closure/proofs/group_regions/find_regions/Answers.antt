@@ -5,10 +5,10 @@
 use Rattle.std.proofs.Common.{◌≡◌, ℕ, ◌+◌, ◌<◌, ◌≤◌, List, length, get_or, sym, ◌∙◌, ap, subst, inl, inr, arith}
 use Rattle.std.proofs.lemmas.List.{length-drop, length-take}
 use Rattle.std.proofs.lemmas.Bool.{cases_lt, false≢true}
-use Rattle.std.specs.Prelude.{◌↔◌, IsTrue, false}
+use Rattle.std.specs.Prelude.{◌↔◌, Bool, IsTrue, MatchBool, false, true}
 use Rattle.cellset.specs.Shape.{Extent}
 use Rattle.cellset.specs.Cell.{IsOn, neighbor}
-use Rattle.cellset.specs.CellSet.{Has, Lacks}
+use Rattle.cellset.specs.CellSet.{Cells, Has, Lacks}
 use Rattle.cellset.specs.declared.cell.Cell.{Cell}
 use Rattle.cellset.proofs.Members.{not_both}
 use Rattle.cellset.proofs.Truth.{either}
@@ -16,6 +16,7 @@ use Rattle.board.specs.Game.{Level}
 use Rattle.closure.specs.Pattern.{InPatternRegion}
 use Rattle.closure.specs.Sides.{cell_no, cells_in}
 use Rattle.closure.specs.Spans.{AreSpans, part, span_at}
+use Rattle.closure.specs.Around.{IsFlooded}
 use Rattle.closure.specs.Closed.{AreLawful}
 use Rattle.closure.specs.GroupRegions.{AreSidesAt, IsRegionAt}
 use Rattle.closure.specs.Groups.{IsGrouped, boxes_of, list_of, position_at}
@@ -46,6 +47,11 @@ span_end cells spans inside g lt = grind (arith, length-take, length-drop)
 span_read : (spans : List Span) (g : ℕ) (span : Span) → g < length spans → span ≡ get_or spans g span → span.from ≡ (span_at spans g).from
 span_read spans g span lt read = grind (arith, at_any, no_span)
 
+-- what holds for either of two sets holds for the one that was chosen
+chosen_has : (P : Cells → Type 0) (b : Bool) (x y z : Cells) → MatchBool b (z ≡ x) (z ≡ y) → MatchBool b (P x) (P y) → P z
+chosen_has P true x y z is has = rw is has
+chosen_has P false x y z is has = rw is has
+
 pub loop-group-init : goal.loop-group-init
 loop-group-init g c = grind arith
 
@@ -72,11 +78,10 @@ pub note_sides-requires : goal.note_sides-requires
 note_sides-requires g c =
     let groups = c.args.groups.now in
     let lt = rw (c.len-group-end.ensures ∙ groups.spans.ok.0) at c.loop-group-test.true in
-    let on : c.find_region-whole.new.self.region.extent ≡ c.args.board.now.shape = c.find_region-whole.ensures.same.1
-    ∙ (ap (λ s. s.extent) c.take_out.ensures.same.1 ∙ c.loop-group.invariant.region_on) in
+    let on : c.found-region.result.now.extent ≡ c.args.board.now.shape = grind arith in
     record {
       boxes = boxes_within c.args.board.now groups c.requires.lawful c.requires.groups c.loop-group.group lt
-          c.boxes-boxes.result.now c.boxes-boxes.ensures c.find_region-whole.new.self.region.extent (sym on);
+          c.boxes-boxes.result.now c.boxes-boxes.ensures c.found-region.result.now.extent (sym on);
       room = rw c.boxes-boxes.ensures (
           let cells = groups.arena.boxes.items in
           let spans = groups.spans.items in
@@ -100,11 +105,13 @@ loop-group-preserved g c =
     let found = c.find_region-whole.ensures in
     let formed = c.shape.ensures.formed in
     let free = c.take_out.new.self.free.members in
-    let region = c.find_region-whole.new.self.region.members in
+    let region = c.found-region.result.now.members in
     let is_free : (q : Cell) → Has free q ↔ (Has level.room q × Lacks (cells_in (boxes_of groups n)) q) = λ q.
     rw (← c.boxes-boxes.ensures, ← c.rows-room.ensures.members) (c.take_out.ensures.free q) in
+    let chosen = rw found.same.0 at c.found-region.ensures.members in
+    let exact : IsFlooded groups n free region = chosen_has (IsFlooded groups n free) c.find_region-whole.result _ _ region chosen found.exact in
     let position : (q : Cell) → Has region q ↔ InPatternRegion level (position_at level groups n) q = λ q.
-    through (found.exact q) (reached_position level formed groups c.requires.groups c.requires.lawful n (Has free) is_free q) in
+    through (exact q) (reached_position level formed groups c.requires.groups c.requires.lawful n (Has free) is_free q) in
     let cells = groups.arena.boxes.items in
     let spans = groups.spans.items in
     let inside = c.requires.groups.all.inside in
@@ -117,7 +124,7 @@ loop-group-preserved g c =
     let here : IsRegionAt level trap groups n new = record {
       root_in = λ _. subst (λ q. IsTrue c.has-has_root.result ↔ InPatternRegion level (position_at level groups n) q) c.player.ensures.value
           (through c.has-has_root.ensures (position c.player.result));
-      all = λ yes q in_room lacks. (position q).0 (rw (← (found.all yes)) at ((is_free q).1 (in_room, lacks)));
+      all = λ yes q in_room lacks. (position q).0 (rw (← (rw yes at chosen)) at ((is_free q).1 (in_room, lacks)));
     } in
     record {
       free_on = ap (λ s. s.extent) found.same.0 ∙ (out.0 ∙ inv.free_on);

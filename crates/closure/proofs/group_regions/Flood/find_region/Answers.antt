@@ -20,13 +20,11 @@ returns-then-whole-clause-exact c =
     let only = c.seed-has_star.ensures.only in
     let free = c.args.self.now.free.members in
     let begins = c.seed-has_star.new.region.members in
-    let region = c.copy_from.new.self.members in
-    let is = c.copy_from.ensures.members in
     elim c.if-has_star.branch [
-      | then-has_star w ↦ flooded_star groups c.args.group free region is w.if-has_star.ensures.found
+      | then-has_star w ↦ flooded_star groups c.args.group free w.if-has_star.ensures.found
       | else-has_star+then-self w ↦
           let some = if_not w.is_empty.result (begins ≡ _) ((x : Cell) × Has begins x) (sym w.whole-is ∙ c.if-whole.true) w.is_empty.ensures in
-          flooded_whole groups c.args.group free region is (c.requires.whole w.if-self.true) some.0 (only some.0 some.1)
+          flooded_whole groups c.args.group free (c.requires.whole w.if-self.true) some.0 (only some.0 some.1)
       | else-has_star+else-self w ↦ absurd (false≢true (sym w.if-self.false ∙ (sym w.whole-is ∙ c.if-whole.true)))
     ]
 
@@ -41,6 +39,3 @@ returns-clause-exact c =
       | else-has_star+else-self w ↦ w.if-has_star.ensures.found
     ] in
     flooded_seeds groups c.args.group free c.grow.new.self.members begins c.seed-has_star.ensures.only found c.grow.ensures.exact
-
-pub returns-then-whole-clause-all : goal.returns-then-whole-clause-all
-returns-then-whole-clause-all c = λ _. c.copy_from.ensures.members

@@ -2,11 +2,11 @@ use Rattle.std.proofs.Common.{◌≡◌, ℕ, ◌+◌, ◌<◌, length, slice_in
 use Rattle.cellset.specs.CellSet.{Has}
 use Rattle.closure.specs.GroupRegions.{no_sides}
 use Rattle.closure.specs.Sides.{IsAround, cell_no}
-use Rattle.closure.proofs.group_regions.Flood.note_sides.Given as goal
+use Rattle.closure.proofs.group_regions.note_sides.Given as goal
 
 abbrev pub invariant-loop-number : goal.invariant-loop-number
 invariant-loop-number l = record {
   long : length l.sides.items ≡ length l.initial.sides.items;
-  noted : (i : ℕ) → i < l.number → IsAround (Has l.self.region.members) (cell_no l.boxes i) (slice_index_or l.sides.items (l.from + i) no_sides);
+  noted : (i : ℕ) → i < l.number → IsAround (Has l.region.members) (cell_no l.boxes i) (slice_index_or l.sides.items (l.from + i) no_sides);
   kept : (k : ℕ) → k < l.from → slice_index_or l.sides.items k no_sides ≡ slice_index_or l.initial.sides.items k no_sides;
 }
