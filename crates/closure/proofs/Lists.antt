@@ -1,6 +1,7 @@
 -- Items of lists, and lists to which an item is added.
-use Rattle.std.proofs.Common.{◌≡◌, ℕ, zero, suc, ◌+◌, ◌<◌, List, [], ◌∷◌, ◌++◌, length, get_or, refl, ◌∙◌, ap, arith}
-use Rattle.std.{specs.Prelude.map, specs.List.Contains, proofs.lemmas.Bool.cases_lt, proofs.lemmas.List.get_or-map, proofs.lemmas.List.length-map}
+use Rattle.std.proofs.Common.{◌≡◌, ℕ, ◌+◌, ◌<◌, List, [], ◌∷◌, ◌++◌, length, get_or, refl, sym, ◌∙◌, ap, arith}
+use Rattle.std.{specs.Prelude.map, specs.List.Contains, proofs.lemmas.Bool.cases_lt}
+use Rattle.std.proofs.lemmas.List.{get_or-map, get_or_append_left, get_or_push, length-append, length-map}
 use Rattle.std.proofs.lemmas.List.Elements.{Contains-append_right}
 
 -- What stands within a list is one of its items.
@@ -11,19 +12,13 @@ pub mapped : {X Y : Type 0} (f : X → Y) (xs : List X) (x : X) → Contains xs 
 mapped f xs x (k, lt, is) = let long = length-map xs f in (k, omega arith, get_or-map f xs k x (f x) lt ∙ ap f is)
 
 pub old_item : {X : Type 0} (xs : List X) (x : X) (i : ℕ) (d : X) → i < length xs → get_or (xs ++ x ∷ []) i d ≡ get_or xs i d
-old_item [] x i d lt = absurd (omega arith)
-old_item (y ∷ xs) x zero d lt = refl
-old_item (y ∷ xs) x (suc i) d lt = old_item xs x i d (omega arith)
+old_item xs x i d lt = get_or_append_left xs (x ∷ []) d i lt
 
 pub new_item : {X : Type 0} (xs : List X) (x : X) (i : ℕ) (d : X) → i ≡ length xs → get_or (xs ++ x ∷ []) i d ≡ x
-new_item [] x zero d e = refl
-new_item [] x (suc i) d e = absurd (omega arith)
-new_item (y ∷ xs) x zero d e = absurd (omega arith)
-new_item (y ∷ xs) x (suc i) d e = new_item xs x i d (omega arith)
+new_item xs x i d e = get_or_push xs x d i (sym e)
 
 pub length_more : {X : Type 0} (xs : List X) (x : X) → length (xs ++ x ∷ []) ≡ length xs + 1
-length_more [] x = omega arith
-length_more (y ∷ xs) x = let more = length_more xs x in omega arith
+length_more xs x = length-append xs (x ∷ [])
 
 -- What holds of each item, and of one more, holds of each item of the longer list.
 pub each_more : {X : Type 0} (P : ℕ → X → Type 0) (xs : List X) (x d : X) → ((i : ℕ) → i < length xs → P i (get_or xs i d)) → P (length xs) x

@@ -2,12 +2,12 @@
 -- Two lines that are each the first at fault are one: the lines before a first one are fine, and a line at fault isn't. The reasons
 -- exclude each other, as each says that the reasons before it don't hold. Of two pushes one comes before the other, or they are by one
 -- player in one direction, and no uncovered push comes before a first one. The same argument serves for leaks.
-use Rattle.std.proofs.Common.{◌≡◌, ◌≢◌, ◌⊎◌, ℕ, List, [], ◌∷◌, ◌++◌, append_assoc, refl, sym, ◌∙◌, ap, inl, inr, ⊎_elim, arith}
+use Rattle.std.proofs.Common.{◌≡◌, ◌≢◌, ◌⊎◌, ℕ, List, [], ◌∷◌, ◌++◌, append_assoc, refl, sym, ◌∙◌, ap, inl, inr, arith}
 use Rattle.std.specs.{Prelude.Result, Prelude.Ok, Prelude.Err, Prelude.IfOk, Prelude.IfErr, Prelude.IsOkUnless, List.Contains}
 use Rattle.std.proofs.lemmas.Bool.{cases_lt}
 use Rattle.cellset.{specs.CellSet.Cells, specs.declared.cell.Cell.Cell, specs.declared.dir.Dir.Dir, proofs.Members.not_both, proofs.Places.places}
 use Rattle.cellset.proofs.{ReadingOrder.before_or_after, Truth.either}
-use Rattle.reach.{specs.Pushes.dir_rank, specs.declared.pushes.Push.Push as PushOut, proofs.PushOrder.same_dir, proofs.PushOrder.push_before_or_after}
+use Rattle.reach.{specs.Pushes.dir_rank, proofs.PushOrder.same_dir, proofs.PushOrder.push_before_or_after}
 use Rattle.board.specs.Game.{Level}
 use Rattle.answers.specs.Body.{PatternLine, ZoneLine}
 use Rattle.closure.specs.declared.fault.LineWhy.{LineWhy, TheVariants.Board, TheVariants.Wall, TheVariants.Seed, TheVariants.Goals}
@@ -17,7 +17,7 @@ use Rattle.closure.specs.declared.fault.ZoneLineWhy.TheVariants as zone_why
 use Rattle.closure.specs.declared.fault.ZoneFault.TheVariants as zone_fault
 use Rattle.closure.{specs.Pattern.Pattern, specs.Pattern.pattern_of, specs.Pattern.patterns_of, specs.Pattern.cells_of, proofs.Lists.middle}
 use Rattle.closure.specs.Closed.{IsOnBoard, IsOffWalls, HasFairSeeds, IsLawful, AreLawful, CoversPushesOf, Closed}
-use Rattle.closure.specs.FirstFault.{IsUnlawful, IsFirstFaultyLine, IsFirstUncovered, HasFirstUncovered, IsFirstPatternFault, IsUnlawfulZone, IsFirstLeak, IsFirstZoneFault}
+use Rattle.closure.specs.FirstFault.{IsUnlawful, IsFirstFaultyLine, HasFirstUncovered, IsFirstPatternFault, IsUnlawfulZone, IsFirstLeak, IsFirstZoneFault}
 use Rattle.closure.proofs.FirstLines.{unlawful_not, line_listed, fault_not_closed, memory_or}
 
 -- ---- one line
@@ -65,31 +65,21 @@ module _ (level : Level) (p : Pattern) where
   why_one Goals Goals x y = refl
 
 -- ---- one push, one leak
-uncovered_one : (level : Level) (patterns : List Pattern) (p : Pattern) (a b : PushOut) → IsFirstUncovered level patterns p a →
-    IsFirstUncovered level patterns p b → (a.player ≡ b.player) × (a.dir ≡ b.dir)
-uncovered_one level patterns p a b x y =
-    push_before_or_after a b
-    (λ before. absurd (x.uncovered (y.first a x.out before)))
-    (λ player dir. (player, dir))
-    (λ after. absurd (y.uncovered (x.first b y.out after)))
-
 push_one : (level : Level) (patterns : List Pattern) (p : Pattern) (c k : Cell) (d e : Dir) → HasFirstUncovered level patterns p c d →
     HasFirstUncovered level patterns p k e → (c ≡ k) × (d ≡ e)
-push_one level patterns p c k d e (a, player_a, dir_a, first_a) (b, player_b, dir_b, first_b) =
-    let one = uncovered_one level patterns p a b first_a first_b in
-    (sym player_a ∙ one.0 ∙ player_b, sym dir_a ∙ one.1 ∙ dir_b)
+push_one level patterns p c k d e (a, player_a, dir_a, x) (b, player_b, dir_b, y) =
+    push_before_or_after a b
+    (λ before. absurd (x.uncovered (y.first a x.out before)))
+    (λ player dir. (sym player_a ∙ player ∙ player_b, sym dir_a ∙ dir ∙ dir_b))
+    (λ after. absurd (y.uncovered (x.first b y.out after)))
 
 leak_one : (level : Level) (zone : Cells) (x y : Cell) (d e : Dir) → IsFirstLeak level zone x d → IsFirstLeak level zone y e → (x ≡ y) × (d ≡ e)
 leak_one level zone x y d e p q =
     before_or_after x y
     (λ before. absurd (q.first x d p.leaks (inl before)))
-    (λ here. ⊎_elim
-    (λ less. absurd (q.first x d p.leaks (inr (here, less))))
-    (λ not_less. ⊎_elim
-    (λ more. absurd (p.first y e q.leaks (inr (sym here, more))))
-    (λ not_more. (here, same_dir d e (omega arith)))
-    (cases_lt (dir_rank e) (dir_rank d)))
-    (cases_lt (dir_rank d) (dir_rank e)))
+    (λ here. either (cases_lt (dir_rank d) (dir_rank e)) (λ less. absurd (q.first x d p.leaks (inr (here, less))))
+    (λ not_less. either (cases_lt (dir_rank e) (dir_rank d)) (λ more. absurd (p.first y e q.leaks (inr (sym here, more))))
+    (λ not_more. (here, same_dir d e (omega arith)))))
     (λ after. absurd (p.first y e q.leaks (inl after)))
 
 -- ---- one first fault of a list
