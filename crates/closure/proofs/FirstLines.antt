@@ -1,17 +1,17 @@
 -- The first line at fault. A loop over the lines stops at a line at fault, and the lines before it were fine: so the list is the fine
 -- lines, then this one, then the rest. A list with a first fault is not closed.
-use Rattle.std.proofs.Common.{◌≡◌, ◌≢◌, ◌⊎◌, ℕ, suc, ◌+◌, ◌≤◌, ◌<◌, List, [], ◌∷◌, ◌++◌, length, get_or, take, drop, refl, sym, ◌∙◌, ap, subst, inl, inr, arith}
+use Rattle.std.proofs.Common.{◌≡◌, ◌≢◌, ◌⊎◌, ℕ, suc, ◌+◌, ◌≤◌, ◌<◌, List, ◌∷◌, ◌++◌, length, get_or, take, drop, refl, sym, ◌∙◌, ap, subst, inl, inr, arith}
 use Rattle.std.specs.{Prelude.Result, Prelude.Ok, Prelude.Err, Prelude.IfOk, Prelude.IfErr, Prelude.OnOk, Prelude.IsOkUnless, List.Contains}
 use Rattle.std.proofs.{lemmas.Bool.cases_lt, Math.Seq.drop-cons}
 use Rattle.std.proofs.lemmas.List.{get_or-map, get_or-take, length-take-le, take-append-drop}
 use Rattle.cellset.proofs.{Members.not_both, Truth.either}
-use Rattle.board.specs.{Game.Level, Game.Solvable, Board.IsWellFormed}
+use Rattle.board.specs.{Game.Level}
 use Rattle.answers.specs.Body.{PatternLine}
 use Rattle.closure.specs.declared.fault.LineWhy.{LineWhy, TheVariants.Board, TheVariants.Wall, TheVariants.Seed, TheVariants.Goals}
 use Rattle.closure.specs.declared.fault.CheckFault.{CheckFault, TheVariants.Line, TheVariants.Start, TheVariants.Push, TheVariants.Memory}
 use Rattle.closure.specs.{Pattern.Pattern, Pattern.pattern_of, Pattern.patterns_of, Closed.IsLawful, Closed.Closed}
 use Rattle.closure.{specs.FirstFault.IsUnlawful, specs.FirstFault.IsFirstFaultyLine, specs.FirstFault.IsFirstPatternFault, proofs.CellLists.at_any}
-use Rattle.closure.proofs.{Covered.closed_unsolvable, Lists.mapped, Lists.middle}
+use Rattle.closure.proofs.{Lists.mapped, Lists.middle}
 
 -- What holds of each pattern by its number holds of each pattern of the list.
 pub each_pattern : (P : Pattern → Type 0) (patterns : List Pattern) (n : ℕ) (d : Pattern) → length patterns ≤ n → ((j : ℕ) → j < n → P (get_or patterns j d))
@@ -51,16 +51,16 @@ pub line_listed : (before : List PatternLine) (line : PatternLine) (after lines 
     Contains (patterns_of lines) (pattern_of line)
 line_listed before line after lines is = rw is (mapped pattern_of (before ++ line ∷ after) line (middle before line after))
 
-pub fault_not_closed : (level : Level) (lines : List PatternLine) (fault : CheckFault) → IsFirstPatternFault level lines fault →
-    Closed level (patterns_of lines) → ⊥
-fault_not_closed level lines (Line number why) found closed =
+pub fault_not_closed : (level : Level) (lines : List PatternLine) (fault : CheckFault) → Closed level (patterns_of lines)
+    → IsFirstPatternFault level lines fault → ⊥
+fault_not_closed level lines (Line number why) closed found =
     unlawful_not level (pattern_of found.line) why found.faulty (closed.lawful (pattern_of found.line) (line_listed found.before found.line found.after lines
     found.list))
-fault_not_closed level lines Start found closed = found.1 closed.start
-fault_not_closed level lines (Push number player dir) (lawful, start, found) closed =
+fault_not_closed level lines Start closed found = found.1 closed.start
+fault_not_closed level lines (Push number player dir) closed (lawful, start, found) =
     let (push, same_player, same_dir, first) = found.faulty in
     first.uncovered (closed.pushes (pattern_of found.line) (line_listed found.before found.line found.after lines found.list) push first.out)
-fault_not_closed level lines Memory found closed = found
+fault_not_closed level lines Memory closed found = found
 
 pub memory_or : (fault : CheckFault) → (fault ≡ Memory) ⊎ (fault ≢ Memory)
 memory_or (Line number why) = inr (λ e. cc)
@@ -68,14 +68,19 @@ memory_or Start = inr (λ e. cc)
 memory_or (Push number player dir) = inr (λ e. cc)
 memory_or Memory = inl refl
 
--- ---- the answer of the check
-pub ok_unless_memory : {A : Type 0} (level : Level) (lines : List PatternLine) (r : Result A CheckFault) → IfErr r (λ fault. fault ≢ Memory →
-    IsFirstPatternFault level lines fault) → Closed level (patterns_of lines) → IsOkUnless r Memory
-ok_unless_memory level lines (Ok a) found closed = tt
-ok_unless_memory level lines (Err fault) found closed =
-    either (memory_or fault) (λ e. e) (λ other. absurd (fault_not_closed level lines fault (found other) closed))
+-- ---- the answer of a check
+-- If the result of a check is right, what is fine passes, and what has a fault gets this fault, unless memory runs out.
+module _ {A Fault : Type 0} (memory : Fault) (or_other : (f : Fault) → (f ≡ memory) ⊎ (f ≢ memory)) (IsFirst : Fault → Type 0) (Fine : Type 0)
+    (never : (f : Fault) → Fine → IsFirst f → ⊥) where
+  pub ok_unless : (r : Result A Fault) → IfErr r (λ f. f ≢ memory → IsFirst f) → Fine → IsOkUnless r memory
+  ok_unless (Ok a) found fine = tt
+  ok_unless (Err f) found fine = either (or_other f) (λ e. e) (λ other. absurd (never f fine (found other)))
 
-pub unsolvable_where_ok : {A : Type 0} (N : A → Type 0) (level : Level) (patterns : List Pattern) (r : Result A CheckFault) → IsWellFormed level →
-    IfOk r (λ a. Closed level patterns × N a) → OnOk r (Solvable level → ⊥)
-unsolvable_where_ok N level patterns (Ok a) formed accepted = closed_unsolvable level patterns formed accepted.0
-unsolvable_where_ok N level patterns (Err fault) formed accepted = tt
+  pub first_unless : ((a b : Fault) → IsFirst a → IsFirst b → a ≡ b) → (P : A → Type 0) (r : Result A Fault) → IfOk r (λ a. Fine × P a)
+      → IfErr r (λ f. f ≢ memory → IsFirst f) → (f : Fault) → IsFirst f → (r ≡ Err f) ⊎ (r ≡ Err memory)
+  first_unless one P (Ok a) ok found f is = absurd (never f ok.0 is)
+  first_unless one P (Err g) ok found f is = either (or_other g) (λ e. inr (ap Err e)) (λ other. inl (ap Err (one g f (found other) is)))
+
+pub where_ok : {A Fault Fine Never : Type 0} (P : A → Type 0) (r : Result A Fault) → (Fine → Never) → IfOk r (λ a. Fine × P a) → OnOk r Never
+where_ok P (Ok a) never accepted = never accepted.0
+where_ok P (Err f) never accepted = tt

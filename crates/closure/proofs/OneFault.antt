@@ -3,8 +3,7 @@
 -- exclude each other, as each says that the reasons before it don't hold. Of two pushes one comes before the other, or they are by one
 -- player in one direction, and no uncovered push comes before a first one. The same argument serves for leaks.
 use Rattle.std.proofs.Common.{◌≡◌, ◌≢◌, ◌⊎◌, ℕ, List, [], ◌∷◌, ◌++◌, append_assoc, refl, sym, ◌∙◌, ap, inl, inr, arith}
-use Rattle.std.specs.{Prelude.Result, Prelude.Ok, Prelude.Err, Prelude.IfOk, Prelude.IfErr, Prelude.IsOkUnless, List.Contains}
-use Rattle.std.proofs.lemmas.Bool.{cases_lt}
+use Rattle.std.{specs.List.Contains, proofs.lemmas.Bool.cases_lt}
 use Rattle.cellset.{specs.CellSet.Cells, specs.declared.cell.Cell.Cell, specs.declared.dir.Dir.Dir, proofs.Members.not_both, proofs.Places.places}
 use Rattle.cellset.proofs.{ReadingOrder.before_or_after, Truth.either}
 use Rattle.reach.{specs.Pushes.dir_rank, proofs.PushOrder.same_dir, proofs.PushOrder.push_before_or_after}
@@ -16,9 +15,9 @@ use Rattle.closure.specs.{declared.fault.ZoneLineWhy.ZoneLineWhy, declared.fault
 use Rattle.closure.specs.declared.fault.ZoneLineWhy.TheVariants as zone_why
 use Rattle.closure.specs.declared.fault.ZoneFault.TheVariants as zone_fault
 use Rattle.closure.{specs.Pattern.Pattern, specs.Pattern.pattern_of, specs.Pattern.patterns_of, specs.Pattern.cells_of, proofs.Lists.middle}
-use Rattle.closure.specs.Closed.{IsOnBoard, IsOffWalls, HasFairSeeds, IsLawful, AreLawful, CoversPushesOf, Closed}
+use Rattle.closure.specs.Closed.{IsOnBoard, IsOffWalls, HasFairSeeds, IsLawful, AreLawful, CoversPushesOf}
 use Rattle.closure.specs.FirstFault.{IsUnlawful, IsFirstFaultyLine, HasFirstUncovered, IsFirstPatternFault, IsUnlawfulZone, IsFirstLeak, IsFirstZoneFault}
-use Rattle.closure.proofs.FirstLines.{unlawful_not, line_listed, fault_not_closed, memory_or}
+use Rattle.closure.proofs.FirstLines.{unlawful_not, line_listed}
 
 -- ---- one line
 listed_before : (before : List PatternLine) (line : PatternLine) (between all : List PatternLine) → all ≡ (before ++ line ∷ []) ++ between → Contains all line
@@ -164,32 +163,8 @@ refuting_no_fault level line (zone_fault.Leak number x d) refuting (here, on, of
 refuting_no_fault level line (zone_fault.Fits number) refuting (here, on, off, closed, few) = let more = refuting.more in omega arith
 refuting_no_fault level line zone_fault.Memory refuting first = first
 
--- ---- the answer of the check
--- If the result of a check is right, a list with a fault gets this fault, unless memory runs out.
-module _ {A : Type 0} (level : Level) (lines : List PatternLine) where
-  pub first_unless_memory : (P : A → Type 0) (r : Result A CheckFault) → IfOk r (λ a. Closed level (patterns_of lines) × P a) →
-      IfErr r (λ fault. fault ≢ Memory → IsFirstPatternFault level lines fault)
-      → (fault : CheckFault) → IsFirstPatternFault level lines fault → (r ≡ Err fault) ⊎ (r ≡ Err Memory)
-  first_unless_memory P (Ok a) ok err fault is = grind (arith, fault_not_closed)
-  first_unless_memory P (Err found) ok err fault is =
-      either (memory_or found) (λ e. inr (ap Err e)) (λ other. inl (ap Err (one_pattern_fault level lines found fault (err other) is)))
-
--- If the result of a check is right, a zone with a fault gets this fault, unless memory runs out.
-module _ {A : Type 0} (level : Level) (line : ZoneLine) where
-  pub refuting_unless_memory : (r : Result A ZoneFault) → IfErr r (λ fault. fault ≢ zone_fault.Memory → IsFirstZoneFault level line fault)
-      → IsRefuting level (cells_of line.cells) → IsOkUnless r zone_fault.Memory
-  refuting_unless_memory (Ok a) err refuting = tt
-  refuting_unless_memory (Err (zone_fault.Line n why)) err refuting = grind (arith, refuting_no_fault)
-  refuting_unless_memory (Err (zone_fault.Leak n c d)) err refuting = grind (arith, refuting_no_fault)
-  refuting_unless_memory (Err (zone_fault.Fits n)) err refuting = grind (arith, refuting_no_fault)
-  refuting_unless_memory (Err zone_fault.Memory) err refuting = refl
-
-  pub zone_first_unless_memory : (P : A → Type 0) (r : Result A ZoneFault) → IfOk r (λ a. IsRefuting level (cells_of line.cells) × P a)
-      → IfErr r (λ fault. fault ≢ zone_fault.Memory → IsFirstZoneFault level line fault)
-      → (fault : ZoneFault) → IsFirstZoneFault level line fault → (r ≡ Err fault) ⊎ (r ≡ Err zone_fault.Memory)
-  zone_first_unless_memory P (Ok a) ok err fault is = grind (arith, refuting_no_fault)
-  zone_first_unless_memory P (Err (zone_fault.Line n why)) ok err fault is = grind (arith, one_zone_fault)
-  zone_first_unless_memory P (Err (zone_fault.Leak n c d)) ok err fault is =
-      inl (ap Err (one_zone_fault level line (zone_fault.Leak n c d) fault (err (λ e. cc)) is))
-  zone_first_unless_memory P (Err (zone_fault.Fits n)) ok err fault is = grind (arith, one_zone_fault)
-  zone_first_unless_memory P (Err zone_fault.Memory) ok err fault is = inr refl
+pub zone_memory_or : (fault : ZoneFault) → (fault ≡ zone_fault.Memory) ⊎ (fault ≢ zone_fault.Memory)
+zone_memory_or (zone_fault.Line n why) = inr (λ e. cc)
+zone_memory_or (zone_fault.Leak n c d) = inr (λ e. cc)
+zone_memory_or (zone_fault.Fits n) = inr (λ e. cc)
+zone_memory_or zone_fault.Memory = inl refl

@@ -3,7 +3,6 @@
 -- the boxes inside fewer. In a solved state each of them is on a goal inside, so there are no more of them than goals inside, but the
 -- start had more.
 use Rattle.std.proofs.Common.{◌≡◌, ◌≤◌, List, [], ◌∷◌, sym, ◌∙◌, ap, subst, inl, inr, arith}
-use Rattle.std.specs.Prelude.{Result, Ok, Err, IfOk, OnOk}
 use Rattle.std.specs.FinSet as set
 use Rattle.cellset.specs.{Cell.neighbor, Cell.opposite, CellSet.Cells, CellSet.Has, CellSet.Lacks, declared.cell.Cell.Cell, declared.dir.Dir.Dir}
 use Rattle.cellset.proofs.Members.{has_or_lacks, not_both, kept_by_insert, kept_by_remove, has_remove, lacks_where}
@@ -70,9 +69,3 @@ refuting_unsolvable level zone formed refuting (ds, t, plays, solved) =
     let count = keeps.count in
     let more = refuting.more in
     omega arith
-
--- if the check accepts a zone, no list of directions solves the level
-pub unsolvable_where_refuted : {A E : Type 0} (P : A → Type 0) (level : Level) (zone : Cells) (r : Result A E) → IsWellFormed level
-    → IfOk r (λ a. IsRefuting level zone × P a) → OnOk r (Solvable level → ⊥)
-unsolvable_where_refuted P level zone (Ok a) formed accepted = refuting_unsolvable level zone formed accepted.0
-unsolvable_where_refuted P level zone (Err e) formed accepted = tt

@@ -1,19 +1,26 @@
-use Rattle.std.proofs.Common.{◌≡◌}
-use Rattle.std.specs.FinSet as set
+use Rattle.std.{proofs.Common.◌≡◌, specs.FinSet.len}
 use Rattle.answers.specs.Grammar.{said_zone}
-use Rattle.closure.{specs.Pattern.cells_of, proofs.OneFault.refuting_unless_memory, proofs.OneFault.zone_first_unless_memory}
-use Rattle.closure.proofs.ZoneCounts.{unsolvable_where_refuted}
+use Rattle.closure.{specs.Pattern.cells_of, specs.Zone.IsRefuting, specs.FirstFault.IsFirstZoneFault, proofs.ZoneCounts.refuting_unsolvable}
+use Rattle.closure.specs.declared.fault.ZoneFault.TheVariants.{Memory}
+use Rattle.closure.proofs.{FirstLines.first_unless, FirstLines.ok_unless, FirstLines.where_ok}
+use Rattle.closure.proofs.OneFault.{one_zone_fault, refuting_no_fault, zone_memory_or}
 use Rattle.closure.proofs.zone.check_zone.Goals as goal
 
 pub returns-clause-only : goal.returns-clause-only
-returns-clause-only g c = refuting_unless_memory c.args.board.now (said_zone c.args.zone.now) c.check_by_counts.result c.check_by_counts.ensures.exact
+returns-clause-only g c =
+    let said = said_zone c.args.zone.now in
+    ok_unless Memory zone_memory_or (IsFirstZoneFault c.args.board.now said) (IsRefuting c.args.board.now (cells_of said.cells))
+    (refuting_no_fault c.args.board.now said) c.check_by_counts.result c.check_by_counts.ensures.exact
 
 pub returns-clause-first : goal.returns-clause-first
 returns-clause-first g c =
-    zone_first_unless_memory c.args.board.now (said_zone c.args.zone.now) (λ accepted. accepted.cells ≡ set.len (cells_of (said_zone c.args.zone.now).cells))
-    c.check_by_counts.result c.check_by_counts.ensures.ok c.check_by_counts.ensures.exact
+    let said = said_zone c.args.zone.now in
+    first_unless Memory zone_memory_or (IsFirstZoneFault c.args.board.now said) (IsRefuting c.args.board.now (cells_of said.cells))
+    (refuting_no_fault c.args.board.now said) (one_zone_fault c.args.board.now said)
+    (λ accepted. accepted.cells ≡ len (cells_of said.cells)) c.check_by_counts.result c.check_by_counts.ensures.ok c.check_by_counts.ensures.exact
 
 pub returns-clause-unsolvable : goal.returns-clause-unsolvable
 returns-clause-unsolvable g c =
-    unsolvable_where_refuted (λ accepted. accepted.cells ≡ set.len (cells_of (said_zone c.args.zone.now).cells)) c.args.board.now
-    (cells_of (said_zone c.args.zone.now).cells) c.check_by_counts.result c.shape-shape.ensures.formed c.check_by_counts.ensures.ok
+    let zone = cells_of (said_zone c.args.zone.now).cells in
+    where_ok (λ accepted. accepted.cells ≡ len zone) c.check_by_counts.result
+    (refuting_unsolvable c.args.board.now zone c.shape-shape.ensures.formed) c.check_by_counts.ensures.ok
