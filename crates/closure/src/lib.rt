@@ -20,7 +20,7 @@
 //!    boxes after the push, and one side of the pushed box decides. If that settles all pushes, and the start is found as quickly, the list
 //!    is closed (`checking`). This is so for nearly every list that a program writes.
 //! 5. Otherwise the tables are filled. A breadth-first search builds a spanning tree of the room (`tree`), and each group goes into the
-//!    bucket of one of its boxes, the smallest one so far. The start is looked up among all groups (`lookup`). For a push that is left, the
+//!    bucket of one of its boxes, the one that the fewest lines have. The start is looked up among all groups (`lookup`). For a push that is left, the
 //!    group that covered the last state is asked first. Then one look through the groups finds which boxes can be pushed by all players of
 //!    one piece of the room less the boxes (`piece`). A push that is still left is looked up by itself.
 //! 6. If a push isn't covered, the lines of its group are gone through again, with one flood each, up to the first fault (`region`).

@@ -2,7 +2,8 @@
 //!
 //! After a push the player is beside the box that was pushed. So the group of just the boxes after the push covers the result
 //! exactly if its region lies on that side of that box. Hints find such a group. If they fail and the tables are filled for lookups, the
-//! group that covered the last state is asked, then the groups that lack the pushed box (`piece`), and then all groups.
+//! group that covered the last state is asked, then the groups that lack the pushed box (`piece`), then those in the bucket of its new
+//! cell, and then all groups.
 ghost use Rattle.std.specs.Prelude.{◌≡◌, ◌<◌, ◌↔◌, IsTrue, IfOk, IfSome, MatchOption, length};
 ghost use Rattle.cellset.specs.Cell.{IsOn};
 ghost use Rattle.cellset.specs.CellSet.{Has, Lacks};
@@ -24,6 +25,7 @@ use crate::lookup::{Scratch, is_covered_after, is_last_after};
 use crate::piece::Piece;
 use crate::sides::Sides;
 use crate::tables::Tables;
+use crate::tree::index_of;
 use board::Board;
 use cellset::{Cell, CellSet, Dir};
 use reach::Push;
@@ -302,6 +304,7 @@ fn is_found<S: CellSet>(
 ) -> bool
     requires boxes { (c : GridCell) → Has (cells_in boxes.now) c → IsOn tables.now.board.now.shape c }
     requires push { IsPushOf tables.now.board.now (cells_in boxes.now) push }
+    requires back { IsStepBack push }
     requires ready { IfSome scratch.old (IsReady S.extent tables.now) }
     requires loaded { IfSome scratch.old (IsLoaded S.members tables.now (cells_in boxes.now)) }
     ensures ready { IfSome scratch.new (IsReady S.extent tables.now) }
@@ -318,5 +321,58 @@ fn is_found<S: CellSet>(
         scratch.lookup.last = scratch.piece.lookup.last;
         return true;
     }
-    is_covered_after(push, tables, &mut scratch.lookup, &mut scratch.state)
+    is_ahead(tables, &scratch.state, push)
+        || is_covered_after(push, tables, &mut scratch.lookup, &mut scratch.state)
+}
+
+// Returns true only if a group in the bucket of the cell ahead covers the result of a push.
+fn is_ahead<S: CellSet>(tables: &Tables<S>, state: &S, push: Push) -> bool
+    requires tables { AreFilled tables.now }
+    requires extent { S.extent state.now ≡ tables.now.board.now.shape }
+    requires to_on { IsOn tables.now.board.now.shape push.to }
+    requires back { IsStepBack push }
+    ensures { IsTrue result → IsCovered tables.now.board.now (list_of tables.now.groups) (state_after (S.members state.now) push) }
+{
+    let mut at = tables.buckets.chains.first[index_of(push.to)] as usize;
+    while at > 0 {
+        let group = at - 1;
+        if covers_ahead(tables, group, state, push) {
+            return true;
+        }
+        at = tables.buckets.chains.next[group] as usize;
+    }
+    false
+}
+
+// Returns true only if a group with a box on the cell ahead covers the result of a push.
+fn covers_ahead<S: CellSet>(tables: &Tables<S>, group: usize, state: &S, push: Push) -> bool
+    requires tables { AreFilled tables.now }
+    requires group { group < length tables.now.groups.spans.items }
+    requires extent { S.extent state.now ≡ tables.now.board.now.shape }
+    requires back { IsStepBack push }
+    ensures { IsTrue result → IsCovered tables.now.board.now (list_of tables.now.groups) (state_after (S.members state.now) push) }
+{
+    let Some(number) = number_ahead(tables.groups.boxes(group), state, push) else {
+        return false;
+    };
+    tables.sides_of(group, number).has(push.dir.opposite())
+}
+
+// Returns the number of the pushed box among `after`, if the others are boxes that stay.
+fn number_ahead<S: CellSet>(after: &[Cell], state: &S, push: Push) -> Option<usize>
+    requires { (c : GridCell) → Has (cells_in after.now) c → IsOn (S.extent state.now) c }
+    ensures { IfSome result (λ number. (number < length after.now) × (cell_no after.now number ≡ push.to)
+        × ((c : GridCell) → Has (cells_in after.now) c → Has (moved (S.members state.now) push.from push.to) c)) }
+{
+    let mut found = None;
+    for (number, at) in after.iter().enumerate() {
+        if is_same(*at, push.to) {
+            found = Some(number);
+            continue;
+        }
+        if is_same(*at, push.from) || !state.contains(*at) {
+            return None;
+        }
+    }
+    found
 }

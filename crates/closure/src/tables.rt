@@ -178,7 +178,7 @@ impl<'a, S: CellSet> Tables<'a, S> {
     }
 }
 
-// Puts each group into the bucket of one of its boxes, the one with the fewest groups so far.
+// Puts each group into the bucket of one of its boxes, the one that the fewest lines have.
 fn fill_buckets<S: CellSet>(
     alloc: Global,
     board: &Board<S>,
@@ -189,29 +189,40 @@ fn fill_buckets<S: CellSet>(
     ensures { IfOk result (AreBuckets board.now groups.now) }
 {
     let cells = 256 * (usize::from(board.shape().height()) + 1);
-    let mut sizes = vec![in alloc; 0u32; cells]?;
+    let counts = count_lines(alloc, &groups.arena.boxes, cells)?;
     let mut keys = Vec::with_capacity(alloc, groups.spans.len())?;
     for group in 0..groups.spans.len() {
-        let key = smallest_bucket(&sizes, groups.boxes(group));
-        sizes[key] = sizes[key].saturating_add(1);
-        keys.push_reserved(to_u32(key)?);
+        keys.push_reserved(to_u32(rarest_box(&counts, groups.boxes(group)))?);
     }
     let chains = chain(alloc, &keys, cells)?;
     Ok(Buckets { keys, chains })
 }
 
-// Returns the index of the bucket with the fewest groups among those of the boxes.
-fn smallest_bucket(sizes: &[u32], boxes: &[Cell]) -> usize
-    requires some { 0 < length boxes.now }
-    requires within { (c : GridCell) → Has (cells_in boxes.now) c → index_of c < length sizes.now }
-    ensures { (c : GridCell) × Has (cells_in boxes.now) c × (result ≡ index_of c) }
+// Counts by index of a cell the lines with a box there.
+fn count_lines(alloc: Global, boxes: &[Cell], cells: usize) -> Result<Vec<u32>, AllocError>
+    ensures { IfOk result (λ counts. length counts.items ≡ cells) }
 {
-    let mut smallest = index_of(boxes[0]);
+    let mut counts = vec![in alloc; 0u32; cells]?;
     for cell in boxes {
-        let at = index_of(*cell);
-        if sizes[at] < sizes[smallest] {
-            smallest = at;
+        if let Some(count) = counts.get_mut(index_of(*cell)) {
+            *count = count.saturating_add(1);
         }
     }
-    smallest
+    Ok(counts)
+}
+
+// Returns the index of the box with the lowest count.
+fn rarest_box(counts: &[u32], boxes: &[Cell]) -> usize
+    requires some { 0 < length boxes.now }
+    requires within { (c : GridCell) → Has (cells_in boxes.now) c → index_of c < length counts.now }
+    ensures { (c : GridCell) × Has (cells_in boxes.now) c × (result ≡ index_of c) }
+{
+    let mut rarest = index_of(boxes[0]);
+    for cell in boxes {
+        let at = index_of(*cell);
+        if counts[at] < counts[rarest] {
+            rarest = at;
+        }
+    }
+    rarest
 }

@@ -1,46 +1,32 @@
--- The invariant says that each group so far is in the bucket of one of its boxes. `smallest_bucket` returns the index of a box, and which
+-- The invariant says that each group so far is in the bucket of one of its boxes. `rarest_box` returns the index of a box, and which
 -- box that is doesn't matter to any proof. A group has a box (`listed_some` in `Lookups.antt`), and its boxes lie on the grid, so their
 -- indexes are within the table (`index_in`). After the loop every group has a key below the length of the table, so the groups can be
 -- chained by their keys.
 use Rattle.std.proofs.Common.{◌<◌, length, slice_index, ap, arith}
-use Rattle.std.specs.Vec.{vec_len}
-use Rattle.std.proofs.Math.ListN.{length-set}
 use Rattle.closure.proofs.Lists.{length_more}
 use Rattle.closure.proofs.Lookups.{bucket_more, index_in, key_within, listed_some}
 use Rattle.closure.proofs.tables.fill_buckets.Goals as goal
-use Rattle.closure.proofs.tables.fill_buckets.Goals.{After-smallest_bucket-key}
 
-pub smallest_bucket-key-requires-clause-some : goal.smallest_bucket-key-requires-clause-some
-smallest_bucket-key-requires-clause-some g c =
+pub rarest_box-requires-clause-some : goal.rarest_box-requires-clause-some
+rarest_box-requires-clause-some g c =
     let test = c.loop-group-test.true in
     let count = c.len-group-end.ensures in
     rw c.boxes.ensures (listed_some c.args.board.now c.args.groups.now c.requires.lawful c.requires.groups c.loop-group.group (omega arith))
 
-pub smallest_bucket-key-requires-clause-within : goal.smallest_bucket-key-requires-clause-within
-smallest_bucket-key-requires-clause-within g c = λ q has.
+pub rarest_box-requires-clause-within : goal.rarest_box-requires-clause-within
+rarest_box-requires-clause-within g c = λ q has.
     let test = c.loop-group-test.true in
     let count = c.len-group-end.ensures in
-    rw (c.deref.ensures.value, c.loop-group.invariant.sizes) (index_in c.args.board.now c.args.groups.now c.requires.lawful c.requires.groups
-    c.loop-group.group (omega arith) c.shape.ensures.formed.sides q (rw c.boxes.ensures at has))
-
--- the key is within the sizes
-low : (g : _) (c : After-smallest_bucket-key g) → c.smallest_bucket-key.result < vec_len c.loop-group.sizes
-low g c =
-    let box = c.smallest_bucket-key.ensures in
-    let test = c.loop-group-test.true in
-    let count = c.len-group-end.ensures in
-    rw (c.loop-group.sizes.ok.0, c.loop-group.invariant.sizes, box.2) (index_in c.args.board.now c.args.groups.now c.requires.lawful c.requires.groups c.loop-group.group (omega arith)
-    c.shape.ensures.formed.sides box.0 (rw c.boxes.ensures at box.1))
-
-pub index-requires : goal.index-requires
-index-requires g c = low g (goal.at.index-requires g c).After-smallest_bucket-key
-
-pub index_mut-requires : goal.index_mut-requires
-index_mut-requires g c = low g (goal.at.index_mut-requires g c).After-smallest_bucket-key
+    let height = c.height.ensures.value in
+    let shape = ap (λ e. e.height) c.shape.ensures.value in
+    let from = c.from.ensures in
+    let low = index_in c.args.board.now c.args.groups.now c.requires.lawful c.requires.groups c.loop-group.group (omega arith)
+    c.shape.ensures.formed.sides q (rw c.boxes.ensures at has) in
+    let long = c.in_ok-counts.ensures in
+    rw c.deref-in-loop-group.ensures.value (omega arith)
 
 pub loop-group-preserved : goal.loop-group-preserved
 loop-group-preserved g c = record {
-  sizes = grind (arith, length-set);
   long = grind (arith, length_more);
   roomy = grind arith;
   each = grind (arith, bucket_more);

@@ -1,10 +1,9 @@
-use Rattle.std.proofs.Common.{◌≡◌, ℕ, ◌+◌, ◌*◌, ◌<◌, ◌≤◌, length, vec_capacity}
+use Rattle.std.proofs.Common.{◌≡◌, ℕ, ◌<◌, ◌≤◌, length, vec_capacity}
 use Rattle.closure.specs.Buckets.{IsInBucket}
 use Rattle.closure.proofs.tables.fill_buckets.Given as goal
 
 abbrev pub invariant-loop-group : goal.invariant-loop-group
 invariant-loop-group g l = record {
-  sizes : length l.sizes.items ≡ 256 * (l.board.shape.height + 1);
   long : length l.keys.items ≡ l.group;
   roomy : length l.groups.spans.items ≤ vec_capacity l.keys;
   each : (k : ℕ) → k < l.group → IsInBucket l.groups l.keys.items k;

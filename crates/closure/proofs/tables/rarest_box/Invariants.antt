@@ -3,7 +3,7 @@ use Rattle.cellset.specs.CellSet.{Has}
 use Rattle.cellset.specs.declared.cell.Cell.{Cell}
 use Rattle.closure.specs.CellIndex.{index_of}
 use Rattle.closure.specs.Sides.{cells_in}
-use Rattle.closure.proofs.tables.smallest_bucket.Given as goal
+use Rattle.closure.proofs.tables.rarest_box.Given as goal
 
 abbrev pub invariant-loop-cell : goal.invariant-loop-cell
-invariant-loop-cell l = (c : Cell) × Has (cells_in l.boxes) c × (l.smallest ≡ index_of c)
+invariant-loop-cell l = (c : Cell) × Has (cells_in l.boxes) c × (l.rarest ≡ index_of c)
