@@ -21,6 +21,12 @@ falls g c =
 pub loosen-requires : goal.loosen-requires
 loosen-requires g c = record { on = λ q has. rw c.loop-self.invariant.space.loose (c.requires.boxes q has) }
 
+pub loop-self-smaller : goal.loop-self-smaller
+loop-self-smaller g c = falls g (goal.at.loop-self-smaller g c).After-index
+
+pub loop-self-smaller-then-kept-boxes : goal.loop-self-smaller-then-kept-boxes
+loop-self-smaller-then-kept-boxes g c = falls g (goal.at.loop-self-smaller-then-kept-boxes g c).After-index
+
 pub loop-self-smaller-then-is_covering : goal.loop-self-smaller-then-is_covering
 loop-self-smaller-then-is_covering g c = falls g (goal.at.loop-self-smaller-then-is_covering g c).After-index
 
@@ -66,5 +72,17 @@ loop-self-preserved g c =
     record {
       space = record { cells = space.cells; loose = space.loose; seeds = space.seeds; flooder = space.flooder; roomy = c.is_covering.ensures.scratch.roomy };
       piece = record { room = piece.room; cells = piece.cells; loose = piece.loose; link = omega arith; lookup = c.is_covering.ensures.scratch };
+      same = c.loop-self.invariant.same;
+    }
+
+pub loop-self-preserved-then-kept-boxes : goal.loop-self-preserved-then-kept-boxes
+loop-self-preserved-then-kept-boxes g c =
+    let space = c.loop-self.invariant.space in
+    let piece = c.loop-self.invariant.piece in
+    let less = falls g (goal.at.loop-self-preserved-then-kept-boxes g c).After-index in
+    let low = piece.link in
+    record {
+      space = record { cells = space.cells; loose = space.loose; seeds = space.seeds; flooder = space.flooder; roomy = space.roomy };
+      piece = record { room = piece.room; cells = piece.cells; loose = piece.loose; link = omega arith; lookup = piece.lookup };
       same = c.loop-self.invariant.same;
     }
