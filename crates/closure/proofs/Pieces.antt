@@ -3,21 +3,13 @@
 -- neighbours beside it, so all four are joined if each but one is joined to the next.
 use Rattle.std.proofs.Common.{◌≡◌, refl, sym, ◌∙◌, ap, subst}
 use Rattle.std.specs.Prelude.{◌↔◌}
-use Rattle.cellset.specs.Shape.{Extent}
-use Rattle.cellset.specs.Cell.{IsOn, neighbor, opposite}
-use Rattle.cellset.specs.CellSet.{Has}
-use Rattle.cellset.specs.declared.cell.Cell.{Cell}
-use Rattle.cellset.specs.declared.dir.Dir.{Dir}
+use Rattle.cellset.specs.{Shape.Extent, Cell.IsOn, Cell.neighbor, Cell.opposite, CellSet.Has, declared.cell.Cell.Cell, declared.dir.Dir.Dir}
 use Rattle.cellset.specs.declared.dir.Dir.TheVariants.{L, U, R, D}
-use Rattle.cellset.proofs.Members.{same_or_other}
-use Rattle.cellset.proofs.Neighbors.{neighbor_back}
-use Rattle.reach.specs.Region.{Joined, at_seed, beside}
-use Rattle.reach.specs.Reached.{Reached, WalksTo}
+use Rattle.cellset.proofs.{Members.same_or_other, Neighbors.neighbor_back}
+use Rattle.reach.specs.{Region.Joined, Region.at_seed, Region.beside, Reached.Reached, Reached.WalksTo}
 use Rattle.reach.proofs.Instances.{joined_is, walked_more}
-use Rattle.board.specs.Game.{Level, IsFloor}
-use Rattle.board.specs.Board.{IsWellFormed}
-use Rattle.closure.specs.Around.{AreSidesJoined, IsOnePiece}
-use Rattle.closure.proofs.Spanning.{other_cell}
+use Rattle.board.specs.{Game.Level, Game.IsFloor, Board.IsWellFormed}
+use Rattle.closure.{specs.Around.AreSidesJoined, specs.Around.IsOnePiece, proofs.Spanning.other_cell}
 
 -- If the neighbour in the first direction is free, so are the neighbour in the second one and the corner between them.
 abbrev pub IsLinked : (Cell → Type 0) → Cell → Dir → Dir → Type 0

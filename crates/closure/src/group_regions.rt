@@ -139,9 +139,10 @@ impl Flood {
             (IsFlooded groups.now group self.old.free.members self.new.region.members) }
     {
         self.region.clear();
-        let has_star = !seed(groups, group, &self.free, &mut self.region);
-        let whole = has_star || self.whole && !self.region.is_empty();
-        if whole {
+        if !seed(groups, group, &self.free, &mut self.region) {
+            return true;
+        }
+        if self.whole && !self.region.is_empty() {
             return true;
         }
         self.region.grow::<ByWalk>(&self.free);

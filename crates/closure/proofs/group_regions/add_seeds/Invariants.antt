@@ -1,7 +1,6 @@
 use Rattle.std.proofs.Common.{◌≡◌, take}
 use Rattle.std.specs.Prelude.{◌⊎◌, ◌↔◌}
-use Rattle.cellset.specs.CellSet.{Has}
-use Rattle.cellset.specs.declared.cell.Cell.{Cell}
+use Rattle.cellset.specs.{CellSet.Has, declared.cell.Cell.Cell}
 use Rattle.closure.specs.Sides.{cells_in}
 use Rattle.closure.proofs.group_regions.add_seeds.Given as goal
 

@@ -2,42 +2,16 @@
 -- the grid. A turn makes the room without the boxes of a group free, which are on the grid because the group is lawful; the room is in one
 -- piece at first (`Pieces.antt`). The flood finds the region of the group's position (`reached_position` in `Grouped.antt`). The boxes of a
 -- group come after the boxes of earlier groups, so their sides stay when its own are noted.
-use Rattle.std.proofs.Common.{◌≡◌, ℕ, ◌+◌, ◌<◌, ◌≤◌, List, length, get_or, sym, ◌∙◌, ap, subst, inl, inr, arith}
-use Rattle.std.proofs.lemmas.List.{length-drop, length-take}
-use Rattle.std.proofs.lemmas.Bool.{cases_lt, false≢true}
+use Rattle.std.proofs.Common.{◌≡◌, ℕ, ◌+◌, ◌<◌, List, [], ◌∷◌, ◌++◌, length, get_or, sym, ◌∙◌, subst, inl, inr, arith}
+use Rattle.std.proofs.lemmas.{List.length-drop, List.length-take, Bool.cases_lt, Bool.false≢true}
 use Rattle.std.specs.Prelude.{◌↔◌, Bool, IsTrue, MatchBool, false, true}
-use Rattle.cellset.specs.Shape.{Extent}
-use Rattle.cellset.specs.Cell.{IsOn, neighbor}
-use Rattle.cellset.specs.CellSet.{Cells, Has, Lacks}
-use Rattle.cellset.specs.declared.cell.Cell.{Cell}
-use Rattle.cellset.proofs.Members.{not_both}
-use Rattle.cellset.proofs.Truth.{either}
-use Rattle.board.specs.Game.{Level}
-use Rattle.closure.specs.Pattern.{InPatternRegion}
-use Rattle.closure.specs.Sides.{cell_no, cells_in}
-use Rattle.closure.specs.Spans.{AreSpans, part, span_at}
-use Rattle.closure.specs.Around.{IsFlooded}
-use Rattle.closure.specs.Closed.{AreLawful}
-use Rattle.closure.specs.GroupRegions.{AreSidesAt, IsRegionAt}
-use Rattle.closure.specs.Groups.{IsGrouped, boxes_of, list_of, position_at}
-use Rattle.closure.specs.Trap.{AreOff}
-use Rattle.closure.specs.declared.groups.Groups.{Groups}
-use Rattle.closure.specs.declared.group_regions.Region.{Region}
-use Rattle.closure.specs.declared.arena.Span.{Span}
-use Rattle.closure.proofs.Turns.{through}
-use Rattle.closure.proofs.CellLists.{at_any}
-use Rattle.closure.proofs.Grouped.{boxes_on, reached_position}
-use Rattle.closure.proofs.Lists.{each_more, length_more}
-use Rattle.closure.proofs.Pieces.{room_is_one}
-use Rattle.closure.proofs.Spans.{no_span}
+use Rattle.cellset.specs.{Cell.neighbor, CellSet.Cells, CellSet.Has, CellSet.Lacks, declared.cell.Cell.Cell}
+use Rattle.cellset.proofs.{Members.not_both, Truth.either}
+use Rattle.closure.specs.{Pattern.InPatternRegion, Sides.cell_no, Sides.cells_in, Spans.AreSpans, Spans.part, Spans.span_at, Around.IsFlooded}
+use Rattle.closure.specs.{GroupRegions.AreSidesAt, GroupRegions.IsRegionAt, Groups.boxes_of, Groups.position_at, Trap.AreOff}
+use Rattle.closure.{specs.declared.group_regions.Region.Region, specs.declared.arena.Span.Span, proofs.Turns.through}
+use Rattle.closure.proofs.{CellLists.at_any, Grouped.boxes_on, Grouped.reached_position, Lists.each_more, Lists.length_more, Pieces.room_is_one, Spans.no_span}
 use Rattle.closure.proofs.group_regions.find_regions.Goals as goal
-
--- the boxes of a group are on the grid of a flood
-boxes_within : (level : Level) (groups : Groups) → AreLawful level (list_of groups) → IsGrouped groups
-    → (g : ℕ) → g < length groups.spans.items → (boxes : List Cell) → boxes ≡ boxes_of groups g
-    → (shape : Extent) → level.shape ≡ shape → (c : Cell) → Has (cells_in boxes) c → IsOn shape c
-boxes_within level groups lawful grouped g lt boxes is shape same c has =
-    subst (λ e. IsOn e c) same (boxes_on level groups lawful grouped g lt boxes is c has)
 
 -- the boxes of a group, counted from the number of its first one
 span_end : (cells : List Cell) (spans : List Span) → AreSpans (length cells) spans → (g : ℕ) → g < length spans
@@ -52,6 +26,15 @@ chosen_has : (P : Cells → Type 0) (b : Bool) (x y z : Cells) → MatchBool b (
 chosen_has P true x y z is has = rw is has
 chosen_has P false x y z is has = rw is has
 
+-- what holds for each group so far, and for one more
+one_more : (P : ℕ → Type 0) (n : ℕ) → ((k : ℕ) → k < n → P k) → P n → (k : ℕ) → k < n + 1 → P k
+one_more P n old new k lt = elim (cases_lt k n) [ inl before ↦ old k before | inr past ↦ subst P (omega arith) new ]
+
+region_more : (P : ℕ → Region → Type 0) (of items : List Region) (new : Region) (n : ℕ) → length of ≡ n → items ≡ of ++ new ∷ []
+    → ((k : ℕ) (r : Region) → k < n → P k (get_or of k r)) → P n new → (k : ℕ) (r : Region) → k < n + 1 → P k (get_or items k r)
+region_more P of items new n count is old here k r lt =
+    rw is (each_more P of new r (λ i before. old i r (omega arith)) (rw count here) k (omega arith))
+
 pub loop-group-init : goal.loop-group-init
 loop-group-init g c = grind arith
 
@@ -61,13 +44,11 @@ take_out-requires g c =
     let formed = c.shape.ensures.formed in
     let lt = rw (c.len-group-end.ensures ∙ groups.spans.ok.0) at c.loop-group-test.true in
     let to = sym c.loop-group.invariant.free_on in
-    let room_on : (q : Cell) → Has c.rows-room.result.now.members q → IsOn c.loop-group.flood.free.extent q = λ q has.
-    rw to at (formed.room q (rw c.rows-room.ensures.members at has)).0 in
     record {
       room = c.rows-room.ensures.extent ∙ to;
-      on = λ q has. either has (room_on q)
-          (boxes_within c.args.board.now groups c.requires.lawful c.requires.groups c.loop-group.group lt
-          c.boxes-boxes.result.now c.boxes-boxes.ensures c.loop-group.flood.free.extent to q);
+      on = λ q has. either has
+          (λ in_room. rw to at (formed.room q (rw c.rows-room.ensures.members at in_room)).0)
+          (λ box. rw to at (boxes_on c.args.board.now groups c.requires.lawful c.requires.groups c.loop-group.group lt _ c.boxes-boxes.ensures q box));
       whole = rw c.rows-room.ensures.members (room_is_one c.args.board.now formed);
     }
 
@@ -80,8 +61,7 @@ note_sides-requires g c =
     let lt = rw (c.len-group-end.ensures ∙ groups.spans.ok.0) at c.loop-group-test.true in
     let on : c.found-region.result.now.extent ≡ c.args.board.now.shape = grind arith in
     record {
-      boxes = boxes_within c.args.board.now groups c.requires.lawful c.requires.groups c.loop-group.group lt
-          c.boxes-boxes.result.now c.boxes-boxes.ensures c.found-region.result.now.extent (sym on);
+      boxes = λ q box. rw on (boxes_on c.args.board.now groups c.requires.lawful c.requires.groups c.loop-group.group lt _ c.boxes-boxes.ensures q box);
       room = rw c.boxes-boxes.ensures (
           let cells = groups.arena.boxes.items in
           let spans = groups.spans.items in
@@ -101,7 +81,6 @@ loop-group-preserved g c =
     let n = c.loop-group.group in
     let inv = c.loop-group.invariant in
     let lt = subst (λ k. n < k) (c.len-group-end.ensures ∙ groups.spans.ok.0) c.loop-group-test.true in
-    let out = c.take_out.ensures.same in
     let found = c.find_region-whole.ensures in
     let formed = c.shape.ensures.formed in
     let free = c.take_out.new.self.free.members in
@@ -118,31 +97,25 @@ loop-group-preserved g c =
     let from = span_read spans n c.index.result.now lt c.index.ensures in
     let sides = c.note_sides.new.sides.items in
     let noted = rw (c.boxes-boxes.ensures, from) at c.note_sides.ensures.noted in
-    let of = c.loop-group.of.items in
     let new : Region = record { has_root = c.has-has_root.result; whole = c.find_region-whole.result } in
-    let count = inv.count in
     let here : IsRegionAt level trap groups n new = record {
       root_in = λ _. subst (λ q. IsTrue c.has-has_root.result ↔ InPatternRegion level (position_at level groups n) q) c.player.ensures.value
           (through c.has-has_root.ensures (position c.player.result));
       all = λ yes q in_room lacks. (position q).0 (rw (← (rw yes at chosen)) at ((is_free q).1 (in_room, lacks)));
     } in
     record {
-      free_on = ap (λ s. s.extent) found.same.0 ∙ (out.0 ∙ inv.free_on);
-      region_on = found.same.1 ∙ (ap (λ s. s.extent) out.1 ∙ inv.region_on);
+      free_on = grind arith;
+      region_on = grind arith;
       long = c.note_sides.ensures.long ∙ inv.long;
-      count = ap (λ l. length l) c.push_reserved-in-loop-group.ensures.items ∙ (length_more of new ∙ ap (λ k. k + 1) count);
-      roomy = subst (λ k. length spans ≤ k) (sym c.push_reserved-in-loop-group.ensures.capacity) inv.roomy;
-      sides = λ k low. elim (cases_lt k n) [
-        | inl before ↦ λ off i within.
-            let end = span_end cells spans inside k (omega arith) in
-            let apart = inside.apart n k lt before in
-            rw (← (c.note_sides.ensures.kept ((span_at spans k).from + i) (omega arith))) at (inv.sides k before off i within)
-        | inr past ↦
-            let same : n ≡ k = omega arith in
-            subst (λ j. AreSidesAt level trap groups j sides) same (λ _ i within d. through (noted i within d) (position (neighbor (cell_no (boxes_of groups n) i) d)))
-      ];
-      each = λ k r low. rw (← c.push_reserved-in-loop-group.ensures.items) at (each_more (IsRegionAt level trap groups) of new r (λ i before. inv.each i r (omega arith))
-          (subst (λ i. IsRegionAt level trap groups i new) (sym count) here) k (omega arith));
+      count = grind (arith, length_more);
+      roomy = grind arith;
+      sides = one_more (λ k. AreSidesAt level trap groups k sides) n
+          (λ k before off i within.
+          let end = span_end cells spans inside k (omega arith) in
+          let apart = inside.apart n k lt before in
+          rw (← (c.note_sides.ensures.kept ((span_at spans k).from + i) (omega arith))) at (inv.sides k before off i within))
+          (λ _ i within d. through (noted i within d) (position (neighbor (cell_no (boxes_of groups n) i) d)));
+      each = region_more (IsRegionAt level trap groups) c.loop-group.of.items _ new n inv.count c.push_reserved-in-loop-group.ensures.items inv.each here;
     }
 
 pub loop-group-preserved-then-is_trapped : goal.loop-group-preserved-then-is_trapped
@@ -154,24 +127,16 @@ loop-group-preserved-then-is_trapped g c =
     let inv = c.loop-group.invariant in
     let met = c.if-is_trapped.ensures in
     let on : AreOff trap (boxes_of groups n) → ⊥ = λ off. not_both trap met.0 met.2 (off met.0 (rw c.boxes-boxes.ensures at met.1)) in
-    let of = c.loop-group.of.items in
     let new : Region = record { has_root = false; whole = false } in
-    let count = inv.count in
-    let here : IsRegionAt level trap groups n new = record { root_in = λ off. absurd (on off); all = λ yes. absurd (false≢true yes) } in
     record {
       free_on = inv.free_on;
       region_on = inv.region_on;
       long = inv.long;
-      count = ap (λ l. length l) c.push_reserved.ensures.items ∙ (length_more of new ∙ ap (λ k. k + 1) count);
-      roomy = rw c.push_reserved.ensures.capacity inv.roomy;
-      sides = λ k low. elim (cases_lt k n) [
-        | inl before ↦ inv.sides k before
-        | inr past ↦
-            let same : n ≡ k = omega arith in
-            λ off. absurd (on (rw same off))
-      ];
-      each = λ k r low. rw c.push_reserved.ensures.items (each_more (IsRegionAt level trap groups) of new r (λ i before. inv.each i r (omega arith))
-          (rw count here) k (omega arith));
+      count = grind (arith, length_more);
+      roomy = grind arith;
+      sides = one_more (λ k. AreSidesAt level trap groups k c.loop-group.sides.items) n inv.sides (λ off. absurd (on off));
+      each = region_more (IsRegionAt level trap groups) c.loop-group.of.items _ new n inv.count c.push_reserved.ensures.items inv.each
+          (record { root_in = λ off. absurd (on off); all = λ yes. absurd (false≢true yes) });
     }
 
 pub boxes-boxes-requires : goal.boxes-boxes-requires

@@ -1,6 +1,5 @@
 use Rattle.std.proofs.Common.{◌≡◌, ℕ, ◌<◌, ◌≤◌, length, slice_index_or, vec_capacity}
-use Rattle.closure.specs.GroupRegions.{AreSidesAt, IsRegionAt}
-use Rattle.closure.specs.declared.group_regions.Region.{Region}
+use Rattle.closure.specs.{GroupRegions.AreSidesAt, GroupRegions.IsRegionAt, declared.group_regions.Region.Region}
 use Rattle.closure.proofs.group_regions.find_regions.Given as goal
 
 abbrev pub invariant-loop-group : goal.invariant-loop-group

@@ -1,7 +1,6 @@
 use Rattle.std.proofs.Common.{◌≡◌, ℕ, ◌+◌, ◌<◌, length, slice_index_or}
 use Rattle.cellset.specs.CellSet.{Has}
-use Rattle.closure.specs.GroupRegions.{no_sides}
-use Rattle.closure.specs.Sides.{IsAround, cell_no}
+use Rattle.closure.specs.{GroupRegions.no_sides, Sides.IsAround, Sides.cell_no}
 use Rattle.closure.proofs.group_regions.note_sides.Given as goal
 
 abbrev pub invariant-loop-number : goal.invariant-loop-number

@@ -4,10 +4,8 @@
 -- result false reports. At the end of the chain no line of the group comes earlier, so the seeds of all its lines are there.
 use Rattle.std.proofs.Common.{◌∙◌, arith}
 use Rattle.std.proofs.lemmas.Bool.{cases_lt}
-use Rattle.cellset.proofs.Members.{has_empty}
-use Rattle.cellset.proofs.Truth.{either}
-use Rattle.closure.proofs.CellLists.{at_any}
-use Rattle.closure.proofs.Grouped.{seeds_more}
+use Rattle.cellset.proofs.{Members.has_empty, Truth.either}
+use Rattle.closure.proofs.{CellLists.at_any, Grouped.seeds_more}
 use Rattle.closure.proofs.group_regions.seed.Goals as goal
 
 pub pattern-requires : goal.pattern-requires

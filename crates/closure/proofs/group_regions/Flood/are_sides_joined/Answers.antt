@@ -2,10 +2,7 @@
 -- row, wherever the gap is, so all neighbours are joined (`Pieces.antt`).
 use Rattle.std.proofs.Common.{◌≡◌, Bool, true, ◌&&◌, ◌||◌, arith}
 use Rattle.std.specs.Prelude.{IsTrue, ◌↔◌}
-use Rattle.cellset.specs.Cell.{neighbor}
-use Rattle.cellset.specs.CellSet.{Has}
-use Rattle.cellset.specs.declared.cell.Cell.{Cell}
-use Rattle.cellset.specs.declared.dir.Dir.{Dir}
+use Rattle.cellset.specs.{Cell.neighbor, CellSet.Has, declared.cell.Cell.Cell, declared.dir.Dir.Dir}
 use Rattle.cellset.specs.declared.dir.Dir.TheVariants.{L, U, R, D}
 use Rattle.closure.proofs.Pieces.{IsLinked, gap_last, gap_left, gap_right, gap_up}
 use Rattle.closure.proofs.group_regions.Flood.are_sides_joined.Goals as goal

@@ -1,9 +1,7 @@
 use Rattle.std.proofs.Common.{◌≡◌, take}
 use Rattle.std.specs.Prelude.{◌↔◌, IsTrue}
-use Rattle.cellset.specs.CellSet.{Has, Lacks}
-use Rattle.cellset.specs.declared.cell.Cell.{Cell}
-use Rattle.closure.specs.Sides.{cells_in}
-use Rattle.closure.specs.Around.{IsOnePiece}
+use Rattle.cellset.specs.{CellSet.Has, CellSet.Lacks, declared.cell.Cell.Cell}
+use Rattle.closure.specs.{Sides.cells_in, Around.IsOnePiece}
 use Rattle.closure.proofs.group_regions.Flood.take_out.Given as goal
 
 abbrev pub invariant-loop-cell : goal.invariant-loop-cell
