@@ -49,8 +49,7 @@ module _ (level : Level) (patterns : List Pattern) (closed : Closed level patter
           player = beside d covers.player (record {
             on = floor.0;
             no_wall = floor.1;
-            no_bar =
-                lacks_within pattern.boxes s.boxes (neighbor s.player d) covers.boxes free;
+            no_bar = lacks_within pattern.boxes s.boxes (neighbor s.player d) covers.boxes free;
           });
         },
       )
@@ -67,16 +66,12 @@ module _ (level : Level) (patterns : List Pattern) (closed : Closed level patter
         next_cell = refl;
         box = has;
         cell_behind = refl;
-        free =
-            record { on = floor.0; no_wall = floor.1; no_bar = still_free };
+        free = record { on = floor.0; no_wall = floor.1; no_bar = still_free };
       } in
       let pushed = closed.pushes pattern listed (push_by s.player d) out in (
         pushed.0,
         pushed.1,
-        record {
-          boxes = λ c h. moved_within pattern.boxes s.boxes ahead beyond covers.boxes c (pushed.2.boxes c h);
-          player = pushed.2.player;
-        },
+        record { boxes = λ c h. moved_within pattern.boxes s.boxes ahead beyond covers.boxes c (pushed.2.boxes c h); player = pushed.2.player },
       ))
       (λ lacks.
       let stands = on_floor ahead box in (

@@ -7,7 +7,7 @@ use Rattle.std.specs.Prelude.{IsTrue, slice_index}
 use Rattle.std.specs.List.{Contains}
 use Rattle.std.proofs.lemmas.Bool.{cases_lt}
 use Rattle.std.proofs.lemmas.List.{get_or-set_other, get_or-set_same, length-set}
-use Rattle.cellset.specs.Cell.{neighbor, opposite}
+use Rattle.cellset.specs.Cell.{IsOn, neighbor, opposite}
 use Rattle.cellset.specs.CellSet.{Cells, Has, Lacks}
 use Rattle.cellset.specs.declared.cell.Cell.{Cell}
 use Rattle.cellset.specs.declared.dir.Dir.{Dir}
@@ -22,13 +22,14 @@ use Rattle.closure.specs.Arena.{pattern_at}
 use Rattle.closure.specs.Run.{state_after}
 use Rattle.closure.specs.Sides.{cell_no, cells_in}
 use Rattle.closure.specs.declared.groups.Groups.{Groups}
+use Rattle.closure.specs.declared.pushes.PushedBox.{PushedBox}
 use Rattle.closure.specs.declared.tables.Tables.{Tables}
-use Rattle.closure.specs.GroupPushes.{AreNoted, CoversFrom, CoversToward, HasNoPush, IsPushAt, IsPushOf, IsStepBack}
+use Rattle.closure.specs.GroupPushes.{AreNoted, CoversFrom, CoversToward, HasNoPush, IsPushAt, IsPushOf, IsPushedBox, IsStepBack, pushed_cell}
 use Rattle.closure.specs.Groups.{IsGrouped, boxes_of, list_of, position_at}
 use Rattle.closure.specs.Tables.{AreTables}
 use Rattle.closure.proofs.Arenas.{list_long}
-use Rattle.closure.proofs.CellLists.{at_any, no_cell, of_list}
-use Rattle.closure.proofs.Grouped.{box_floor, covered_of_group, group_in_room, line_boxes, of_line}
+use Rattle.closure.proofs.CellLists.{at_any, in_list, no_cell, of_list}
+use Rattle.closure.proofs.Grouped.{box_floor, boxes_on, covered_of_group, group_in_room, line_boxes, of_line}
 use Rattle.closure.proofs.Regions.{region_on}
 use Rattle.closure.proofs.Traps.{onto_trap, trapped_push}
 
@@ -36,6 +37,12 @@ use Rattle.closure.proofs.Traps.{onto_trap, trapped_push}
 pub push_in_box : (level : Level) (boxes : Cells) (cell : Cell) (dir : Dir) (push : Push) → Has boxes cell → IsFloor level cell → Has level.room push.player →
     Lacks boxes push.to → IsPushAt level.shape cell dir push → IsPushOf level boxes push
 push_in_box level boxes cell dir push has floor room free at = grind (arith, neighbor_forth)
+
+-- The box that moves lies on the grid.
+pub pushed_on : {S : Type 0} (tables : Tables S) → AreTables tables → (pushed : PushedBox) → IsPushedBox tables.board.now tables.groups pushed →
+    IsOn tables.board.now.shape (pushed_cell pushed)
+pushed_on tables is pushed of = boxes_on tables.board.now tables.groups is.lawful is.grouped pushed.group of.group pushed.boxes.now of.boxes _
+    (in_list pushed.boxes.now pushed.number no_cell of.number)
 
 module _ (level : Level) (pattern : Pattern) (cell : Cell) (dir : Dir) where
   player_behind : (push : Push) → PushesOut level pattern push → push.from ≡ cell → push.dir ≡ dir → push.player ≡ neighbor cell (opposite dir)
@@ -89,11 +96,7 @@ module _ {S : Type 0} (tables : Tables S) (is : AreTables tables) (g : ℕ) wher
       → InPatternRegion tables.board.now (position_at tables.board.now tables.groups g) (neighbor push.to (opposite push.dir)) →
       IsCovered tables.board.now (list_of tables.groups) (state_after before push)
   covers_result before push back stand side =
-      covered_of_group tables.board.now tables.groups is.grouped (state_after before push) g (record {
-        boxes = stand;
-        player =
-            rw back at side;
-      })
+      covered_of_group tables.board.now tables.groups is.grouped (state_after before push) g (record { boxes = stand; player = rw back at side })
 
   -- ---- the trap
   module _ (lt : g < length tables.groups.spans.items) where

@@ -1,10 +1,12 @@
 -- Lookups of a state among groups. A group of a lawful list has a box, so it may be in a bucket, and a key is an index of the table.
-use Rattle.std.proofs.Common.{◌≡◌, ℕ, ◌+◌, ◌-◌, ◌*◌, ◌<◌, ◌≤◌, List, [], ◌∷◌, ◌++◌, length, get_or, ◌∙◌, ap, inl, inr, arith}
+use Rattle.std.proofs.Common.{◌≡◌, ◌≢◌, ℕ, ◌+◌, ◌-◌, ◌*◌, ◌<◌, ◌≤◌, List, [], ◌∷◌, ◌++◌, length, get_or, refl, ◌∙◌, ap, inl, inr, arith}
 use Rattle.std.specs.Prelude.{slice_index}
+use Rattle.std.specs.List.{All}
 use Rattle.std.proofs.lemmas.Bool.{cases_lt}
 use Rattle.cellset.specs.Shape.{HasSides}
-use Rattle.cellset.specs.CellSet.{Has}
+use Rattle.cellset.specs.CellSet.{Has, Lacks}
 use Rattle.cellset.specs.declared.cell.Cell.{Cell}
+use Rattle.cellset.proofs.Members.{lacks_where}
 use Rattle.board.specs.Game.{Level, State}
 use Rattle.board.specs.Board.{IsWellFormed}
 use Rattle.closure.specs.Pattern.{IsCovered}
@@ -17,7 +19,7 @@ use Rattle.closure.specs.Tables.{GroupCovers, AreTables}
 use Rattle.closure.specs.Sides.{cells_in}
 use Rattle.closure.specs.declared.groups.Groups.{Groups}
 use Rattle.closure.specs.declared.tables.Tables.{Tables}
-use Rattle.closure.proofs.CellLists.{at_any, of_list}
+use Rattle.closure.proofs.CellLists.{at_any, each_in, of_list}
 use Rattle.closure.proofs.Grouped.{box_on, covered_by_group, group_in_room, some_box}
 use Rattle.closure.proofs.Spanning.{index_within}
 use Rattle.closure.proofs.Lists.{new_item, old_item}
@@ -57,14 +59,17 @@ bucket_more groups keys new n key long is old c has at k lt = elim (cases_lt k n
       record { cell = was.cell; has = was.has; key = ap (λ l. slice_index l k) is ∙ old_item keys key k 0 (omega arith) ∙ was.key }
   | inr past ↦
       let here : k ≡ n = omega arith in
-      record {
-        cell = c;
-        has = rw here has;
-        key = ap (λ l. slice_index l k) is ∙ new_item keys key k 0 (omega arith) ∙ at;
-      }
+      record { cell = c; has = rw here has; key = ap (λ l. slice_index l k) is ∙ new_item keys key k 0 (omega arith) ∙ at }
 ]
 
 -- ---- states
+-- If a state has each of the boxes and its player is on none of them, it has the set of them, and the player is outside the set.
+pub all_beside : (boxes : List Cell) (s : State) → All (λ c. Has s.boxes c × (c ≢ s.player)) boxes →
+    ((c : Cell) → Has (cells_in boxes) c → Has s.boxes c) × Lacks (cells_in boxes) s.player
+all_beside boxes s each =
+    let each_one = each_in (λ c. Has s.boxes c × (c ≢ s.player)) boxes each in
+    (λ c has. (each_one c has).0, lacks_where (cells_in boxes) s.player (λ has. (each_one s.player has).1 refl))
+
 module _ {S : Type 0} (tables : Tables S) (is : AreTables tables) (s : State) where
   pub no_group_covers : ((g : ℕ) → GroupCovers tables.board.now tables.groups g s → ⊥) → IsCovered tables.board.now (list_of tables.groups) s → ⊥
   no_group_covers none covered =

@@ -71,30 +71,18 @@ module _ (Free : Cell → Type 0) where
           from R = from_r
           from D = from_d
 
-      left_up : IsLinked Free c L U → LeadsTo L U
-      left_up = by_corner L U refl
-
-      up_right : IsLinked Free c U R → LeadsTo U R
-      up_right = by_corner U R refl
-
-      right_down : IsLinked Free c R D → LeadsTo R D
-      right_down = by_corner R D refl
-
-      down_left : IsLinked Free c D L → LeadsTo D L
-      down_left = by_corner D L refl
-
       -- Three links in a row join all four neighbours.
       pub gap_last : IsLinked Free c L U → IsLinked Free c U R → IsLinked Free c R D → AreSidesJoined Free c
-      gap_last lu ur rd = let (l, u, r, d) = to_last L U R D (left_up lu) (up_right ur) (right_down rd) in sides_joined D l u r d
+      gap_last lu ur rd = let (l, u, r, d) = to_last L U R D (by_corner L U refl lu) (by_corner U R refl ur) (by_corner R D refl rd) in sides_joined D l u r d
 
       pub gap_left : IsLinked Free c U R → IsLinked Free c R D → IsLinked Free c D L → AreSidesJoined Free c
-      gap_left ur rd dl = let (u, r, d, l) = to_last U R D L (up_right ur) (right_down rd) (down_left dl) in sides_joined L l u r d
+      gap_left ur rd dl = let (u, r, d, l) = to_last U R D L (by_corner U R refl ur) (by_corner R D refl rd) (by_corner D L refl dl) in sides_joined L l u r d
 
       pub gap_up : IsLinked Free c R D → IsLinked Free c D L → IsLinked Free c L U → AreSidesJoined Free c
-      gap_up rd dl lu = let (r, d, l, u) = to_last R D L U (right_down rd) (down_left dl) (left_up lu) in sides_joined U l u r d
+      gap_up rd dl lu = let (r, d, l, u) = to_last R D L U (by_corner R D refl rd) (by_corner D L refl dl) (by_corner L U refl lu) in sides_joined U l u r d
 
       pub gap_right : IsLinked Free c D L → IsLinked Free c L U → IsLinked Free c U R → AreSidesJoined Free c
-      gap_right dl lu ur = let (d, l, u, r) = to_last D L U R (down_left dl) (left_up lu) (up_right ur) in sides_joined R l u r d
+      gap_right dl lu ur = let (d, l, u, r) = to_last D L U R (by_corner D L refl dl) (by_corner L U refl lu) (by_corner U R refl ur) in sides_joined R l u r d
 
 -- ---- without a cell
 module _ (Free New : Cell → Type 0) (k : Cell) (shape : Extent) (inside : (c : Cell) → Free c → IsOn shape c)

@@ -54,10 +54,7 @@ module _ (level : Level) (root : Cell) (room : Has level.room root) (player : ro
     in_room = λ c h. (has_remove level.room root c (rw left_is at h)).1;
     each = λ c inside lacks.
         same_or_other c root
-        (λ same. rw same (record {
-          within = rw steps_is (omega arith);
-          same = λ d. rw (number, steps_is) cell_is;
-        }))
+        (λ same. rw same (record { within = rw steps_is (omega arith); same = λ d. rw (number, steps_is) cell_is }))
         (λ other. absurd (not_both left c (rw left_is (kept_by_remove level.room root c (other_cell c root other) inside))
         lacks));
     begun = rw (← left_is, player) at (removed_lacks level.room root);
@@ -137,10 +134,7 @@ module _ (level : Level) (formed : IsWellFormed level) (left : Cells) (old : Tre
         same_or_other c cell
         (λ same.
         let number = get_or-set_same numbers (index_of cell) (length nodes) 0 here.0 in
-        rw same (record {
-          within = omega arith;
-          same = λ d. rw number (last_item (λ x. x.cell ≡ cell) (length nodes) d refl cell_is);
-        }))
+        rw same (record { within = omega arith; same = λ d. rw number (last_item (λ x. x.cell ≡ cell) (length nodes) d refl cell_is) }))
         (λ other.
         let ne : index_of c ≢ index_of cell = λ e. other_cell c cell other (same_index c cell there.1 here.1 e) in
         let number = get_or-set_other numbers (index_of cell) (index_of c) (length nodes) 0 ne in

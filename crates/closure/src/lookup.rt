@@ -54,6 +54,7 @@ impl Scratch {
 }
 
 // Returns whether the player is in the region of a group. `hits` has the boxes on the player's path to the root.
+#[tactic(auto, using(crate::proofs::Traps::none_off))]
 fn is_inside<S: CellSet>(tables: &Tables<S>, group: usize, player: Cell, hits: &[Hit]) -> bool
     requires tables { AreFilled tables.now }
     requires group { group < length tables.now.groups.spans.items }
@@ -95,22 +96,39 @@ pub(crate) fn is_covering<S: CellSet>(
     is_inside(tables, group, query.player, &scratch.hits)
 }
 
-// Walks the player's path to the root, unless it was walked.
+// Walks the player's path to the root and lists the boxes on it in order, unless it was walked. Allocates nothing.
+#[tactic(auto, using(crate::proofs::Spanning::index_within, crate::proofs::CellLists::at_any))]
 fn walk_to_root<S: CellSet>(tables: &Tables<S>, query: &Query<S>, scratch: &mut Scratch)
     requires tables { AreFilled tables.now }
     requires player { Has tables.now.board.now.room query.now.player }
     requires extent { S.extent query.now.boxes.now ≡ tables.now.board.now.shape }
     requires scratch { IsReadyFor tables.now (S.members query.now.boxes.now) query.now.player scratch.old }
     ensures scratch { IsReadyFor tables.now (S.members query.now.boxes.now) query.now.player scratch.new }
-    ensures hits { AreHits tables.now.board.now (S.members query.now.boxes.now) query.now.player tables.now.board.now.player scratch.new.hits.items }
+    ensures walked { IsTrue scratch.new.walked }
 {
-    if !scratch.walked {
-        find_hits(tables, query.player, query.boxes, &mut scratch.hits);
-        scratch.walked = true;
+    if scratch.walked {
+        return;
     }
+    // For the proof: the board is well formed.
+    let _shape = tables.board.shape();
+    scratch.hits.clear();
+    let mut at = tables.tree.numbers[index_of(query.player)];
+    while at > 0 {
+        let node = tables.tree.nodes[at];
+        at = node.parent;
+        let cell = tables.tree.nodes[at].cell;
+        if query.boxes.contains(cell) {
+            scratch.hits.push_reserved(Hit {
+                cell,
+                side: node.dir.opposite(),
+            });
+        }
+    }
+    scratch.walked = true;
 }
 
 // Returns whether some group covers the state. Allocates nothing.
+#[tactic(auto, using(crate::proofs::Lists::length_more))]
 pub(crate) fn is_any_covering<S: CellSet>(
     tables: &Tables<S>,
     player: Cell,
@@ -240,6 +258,7 @@ fn find_covering<S: CellSet>(
 }
 
 // Returns a group of the cell's bucket that covers the state.
+#[tactic(auto, using(crate::proofs::Lists::length_more))]
 fn find_in_bucket<S: CellSet>(
     tables: &Tables<S>,
     cell: Cell,
@@ -265,30 +284,4 @@ fn find_in_bucket<S: CellSet>(
         at = tables.buckets.chains.next[group] as usize;
     }
     None
-}
-
-// Lists the boxes on the path from the player's cell to the root, in order. Allocates nothing.
-fn find_hits<S: CellSet>(tables: &Tables<S>, player: Cell, boxes: &S, hits: &mut Vec<Hit>)
-    requires tables { AreFilled tables.now }
-    requires player { Has tables.now.board.now.room player }
-    requires boxes { S.extent boxes.now ≡ tables.now.board.now.shape }
-    requires roomy { length tables.now.tree.nodes.items ≤ vec_capacity hits.old }
-    ensures roomy { length tables.now.tree.nodes.items ≤ vec_capacity hits.new }
-    ensures hits { AreHits tables.now.board.now (S.members boxes.now) player tables.now.board.now.player hits.new.items }
-{
-    // For the proof: the board is well formed.
-    let _shape = tables.board.shape();
-    hits.clear();
-    let mut at = tables.tree.numbers[index_of(player)];
-    while at > 0 {
-        let node = tables.tree.nodes[at];
-        at = node.parent;
-        let cell = tables.tree.nodes[at].cell;
-        if boxes.contains(cell) {
-            hits.push_reserved(Hit {
-                cell,
-                side: node.dir.opposite(),
-            });
-        }
-    }
 }

@@ -66,17 +66,20 @@ impl<S: CellSet> Piece<S> {
         })
     }
 
-    // Makes it a piece without cells, for any boxes.
-    pub(crate) fn clear(&mut self, tables: &Tables<S>, player: Cell)
+    // Makes it the piece of a player, for any boxes. Only the player's cell is known then, and no flood finds more if `flooded` is true.
+    pub(crate) fn begin(&mut self, tables: &Tables<S>, player: Cell, flooded: bool)
         requires space { IsPieceSpace S.extent tables.now self.old }
         requires player { Has tables.now.board.now.room player }
         ensures space { IsPieceSpace S.extent tables.now self.new }
         ensures piece { (boxes : Cells) → IsPiece S.members tables.now boxes self.new }
-        ensures player { self.new.player ≡ player }
+        ensures found { Has (S.members self.new.cells) player }
     {
+        // For the proof: the board is well formed.
+        let _shape = tables.board.shape();
         self.player = player;
         self.cells.clear();
-        self.flooded = true;
+        self.cells.insert(player);
+        self.flooded = flooded;
         self.loose.clear();
         self.begun = 0;
         self.link = 0;
@@ -117,51 +120,22 @@ impl<S: CellSet> Piece<S> {
         ensures piece { IsPiece S.members tables.now (S.members state.now) self.new }
         ensures found { Has (S.members self.new.cells) player }
     {
-        if !self.has(tables, state, player) {
-            self.begin(tables, player);
-        }
-    }
-
-    // Returns whether a player is in the piece.
-    fn has(&mut self, tables: &Tables<S>, state: &S, player: Cell) -> bool
-        requires tables { AreFilled tables.now }
-        requires space { IsPieceSpace S.extent tables.now self.old }
-        requires extent { S.extent state.now ≡ tables.now.board.now.shape }
-        requires piece { IsPiece S.members tables.now (S.members state.now) self.old }
-        requires player { Has tables.now.board.now.room player }
-        ensures space { IsPieceSpace S.extent tables.now self.new }
-        ensures piece { IsPiece S.members tables.now (S.members state.now) self.new }
-        ensures found { IsTrue result → Has (S.members self.new.cells) player }
-    {
         // For the proof: the board is well formed.
         let _shape = tables.board.shape();
         if self.cells.contains(player) {
-            return true;
+            return;
         }
-        if self.flooded {
-            return false;
+        if !self.flooded {
+            self.flooded = true;
+            self.seeds.clear();
+            self.seeds.insert(self.player);
+            self.flooder
+                .flood_into(tables.board.walls(), state, &self.seeds, &mut self.cells);
+            if self.cells.contains(player) {
+                return;
+            }
         }
-        self.flooded = true;
-        self.seeds.clear();
-        self.seeds.insert(self.player);
-        self.flooder
-            .flood_into(tables.board.walls(), state, &self.seeds, &mut self.cells);
-        self.cells.contains(player)
-    }
-
-    // Makes it the piece of this player.
-    fn begin(&mut self, tables: &Tables<S>, player: Cell)
-        requires space { IsPieceSpace S.extent tables.now self.old }
-        requires player { Has tables.now.board.now.room player }
-        ensures space { IsPieceSpace S.extent tables.now self.new }
-        ensures piece { (boxes : Cells) → IsPiece S.members tables.now boxes self.new }
-        ensures found { Has (S.members self.new.cells) player }
-    {
-        // For the proof: the board is well formed.
-        let _shape = tables.board.shape();
-        self.clear(tables, player);
-        self.cells.insert(player);
-        self.flooded = false;
+        self.begin(tables, player, false);
     }
 
     // Goes on with the look until the box is loose or no group is left.

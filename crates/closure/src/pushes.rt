@@ -76,6 +76,7 @@ pub(crate) fn cover_groups<S: CellSet>(
 }
 
 // Returns true only if the list covers each push out of a group.
+#[tactic(auto, using(crate::proofs::GroupPushes::trapped_pushes, std::proofs::lemmas::Bool::cases_lt))]
 fn covers_pushes_of<S: CellSet>(
     tables: &Tables<S>,
     group: usize,
@@ -120,7 +121,7 @@ fn load_boxes<S: CellSet>(tables: &Tables<S>, boxes: &[Cell], scratch: &mut Opti
         // For the proof: the board is well formed.
         let _shape = tables.board.shape();
         load(boxes, &mut scratch.state);
-        scratch.piece.clear(tables, tables.board.player());
+        scratch.piece.begin(tables, tables.board.player(), true);
     }
 }
 
@@ -184,6 +185,7 @@ fn covers_toward<S: CellSet>(
 }
 
 // Returns whether a cell is floor without one of the boxes.
+#[tactic(auto, using(crate::proofs::CellLists::in_list, cellset::proofs::Members::not_both))]
 #[inline(always)]
 fn is_free<S: CellSet>(board: &Board<S>, boxes: &[Cell], cell: Cell) -> bool
     ensures { IsTrue result ↔ IsFree board.now.shape board.now.walls (cells_in boxes.now) cell }
@@ -198,6 +200,7 @@ fn is_free<S: CellSet>(board: &Board<S>, boxes: &[Cell], cell: Cell) -> bool
 }
 
 // The push of a box in the direction, if it goes out of its group.
+#[tactic(auto, using(crate::proofs::GroupPushes::pushed_on))]
 #[inline(always)]
 fn push_of<S: CellSet>(tables: &Tables<S>, pushed: &PushedBox, dir: Dir) -> Option<Push>
     requires tables { AreTables tables.now }
@@ -254,6 +257,7 @@ fn number_after(after: &[Cell], pushed: &PushedBox, push: Push) -> Option<usize>
 }
 
 // Returns true only if a group covers the result of a push. Looks only at the sides of the pushed box.
+#[tactic(auto, using(crate::proofs::Lists::length_more))]
 #[inline(always)]
 fn covers_after<S: CellSet>(
     tables: &Tables<S>,

@@ -1,13 +1,9 @@
-use Rattle.std.proofs.Common.{◌≢◌, refl, arith}
-use Rattle.std.specs.List.{All}
-use Rattle.cellset.specs.CellSet.{Has}
-use Rattle.cellset.specs.declared.cell.Cell.{Cell}
-use Rattle.cellset.proofs.Members.{lacks_where}
+use Rattle.std.proofs.Common.{refl, arith}
 use Rattle.board.specs.Game.{start}
-use Rattle.closure.specs.Sides.{cells_in}
 use Rattle.closure.specs.Groups.{boxes_of, list_of}
-use Rattle.closure.proofs.CellLists.{each_in, in_list}
+use Rattle.closure.proofs.CellLists.{in_list}
 use Rattle.closure.proofs.Grouped.{boxes_on, covered_of_group}
+use Rattle.closure.proofs.Lookups.{all_beside}
 use Rattle.closure.proofs.Traps.{start_trapped}
 use Rattle.closure.proofs.checking.is_start_found.Goals as goal
 
@@ -28,12 +24,7 @@ pub returns-then-stand_beside : goal.returns-then-stand_beside
 returns-then-stand_beside g c = λ _.
     let level = c.args.tables.now.board.now in
     let groups = c.args.tables.now.groups in
-    let boxes = boxes_of groups c.loop-group.group in
-    let Beside : Cell → Type 0 = λ q. Has level.boxes q × (q ≢ level.player) in
-    let each : All Beside boxes = rw (c.boxes-then-is_whole.ensures.members, c.player.ensures.value, c.boxes-boxes.ensures) at
-    (c.if-stand_beside.ensures.0 refl) in
-    let outside = lacks_where (cells_in boxes) level.player (λ has. (each_in Beside boxes each level.player has).1 refl) in
-    covered_of_group level groups c.requires.grouped (start level) c.loop-group.group (record {
-      boxes = λ q has. (each_in Beside boxes each q has).0;
-      player = c.if-is_whole.ensures refl level.player c.requires.formed.here outside;
-    })
+    let there = all_beside (boxes_of groups c.loop-group.group) (start level)
+    (rw (c.boxes-then-is_whole.ensures.members, c.player.ensures.value, c.boxes-boxes.ensures) at (c.if-stand_beside.ensures.0 refl)) in
+    covered_of_group level groups c.requires.grouped (start level) c.loop-group.group
+    (record { boxes = there.0; player = c.if-is_whole.ensures refl level.player c.requires.formed.here there.1 })

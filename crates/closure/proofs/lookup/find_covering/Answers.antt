@@ -8,17 +8,8 @@ use Rattle.cellset.proofs.Truth.{either}
 use Rattle.closure.specs.CellIndex.{index_of}
 use Rattle.closure.proofs.lookup.find_covering.Goals as goal
 
-pub find_in_bucket-requires-clause-cell : goal.find_in_bucket-requires-clause-cell
-find_in_bucket-requires-clause-cell g c =
-    let shape = g.S.CellSet.extent c.args.query.now.boxes.now in
-    let boxes = g.S.CellSet.members c.args.query.now.boxes.now in
-    let whole = rw c.in-Some.ensures.steps at c.loop-cell.invariant.all in
-    subst (λ e. IsOn e c.in-Some.cell) c.requires.extent (next_has c.loop-cell.yielded c.next.new.self c.in-Some.cell whole).1
-
 pub loop-cell-preserved : goal.loop-cell-preserved
 loop-cell-preserved g c =
-    let shape = g.S.CellSet.extent c.args.query.now.boxes.now in
-    let boxes = g.S.CellSet.members c.args.query.now.boxes.now in
     let whole = rw c.in-Some.ensures.steps at c.loop-cell.invariant.all in
     record {
       can_next = tt;
@@ -38,3 +29,10 @@ returns-clause-found g c = λ k covers.
     let bucket = c.requires.tables.buckets.each k covers.0 in
     c.loop-cell.invariant.passed bucket.cell k (((all_came shape boxes c.loop-cell.yielded whole).exact bucket.cell).1
     (covers.1.boxes bucket.cell bucket.has)) bucket.key covers
+
+pub find_in_bucket-requires-clause-cell : goal.find_in_bucket-requires-clause-cell
+find_in_bucket-requires-clause-cell g c =
+    let shape = g.S.CellSet.extent c.args.query.now.boxes.now in
+    let boxes = g.S.CellSet.members c.args.query.now.boxes.now in
+    let whole = rw c.in-Some.ensures.steps at c.loop-cell.invariant.all in
+    subst (λ e. IsOn e c.in-Some.cell) c.requires.extent (next_has c.loop-cell.yielded c.next.new.self c.in-Some.cell whole).1

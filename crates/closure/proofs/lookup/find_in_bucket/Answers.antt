@@ -36,9 +36,6 @@ loop-at-init g c =
       scratch = c.requires.scratch;
     }
 
-pub index-requires-in-loop-at : goal.index-requires-in-loop-at
-index-requires-in-loop-at g c = grind arith
-
 pub loop-at-preserved : goal.loop-at-preserved
 loop-at-preserved g c =
     let tables = c.args.tables.now in
@@ -63,6 +60,3 @@ loop-at-preserved g c =
           test last (λ covers. false≢true (sym c.if-is_covering.false ∙ c.is_covering.ensures.exact.1 covers.1)) inv.passed;
       scratch = c.is_covering.ensures.scratch;
     }
-
-pub returns-clause-found : goal.returns-clause-found
-returns-clause-found g c = grind arith

@@ -2,57 +2,51 @@
 -- group is missing or the player is on one, and a region has no cell of its own boxes (`Regions.antt`). Otherwise, if the region is
 -- `whole`, it has every cell of the room without the boxes, and so the player's. If it isn't, `is_inside` decides by the hits on the path,
 -- which serve for the group because its boxes are among the boxes of the state.
-use Rattle.std.proofs.Common.{◌≢◌, get_or, refl, sym, subst}
+use Rattle.std.proofs.Common.{get_or, refl, sym, subst}
 use Rattle.std.proofs.lemmas.Bool.{false≢true}
-use Rattle.cellset.specs.CellSet.{Has}
+use Rattle.cellset.specs.CellSet.{Has, Lacks}
 use Rattle.cellset.specs.declared.cell.Cell.{Cell}
-use Rattle.cellset.proofs.Members.{lacks_where, not_both}
+use Rattle.cellset.proofs.Members.{not_both}
 use Rattle.closure.specs.Groups.{boxes_of, position_at}
 use Rattle.closure.specs.Hits.{HitsDecide}
 use Rattle.closure.specs.Sides.{cells_in}
-use Rattle.closure.proofs.CellLists.{each_in, in_list}
+use Rattle.closure.proofs.CellLists.{in_list}
 use Rattle.closure.proofs.Grouped.{boxes_on}
+use Rattle.closure.proofs.Lookups.{all_beside}
 use Rattle.closure.proofs.Regions.{region_lacks}
 use Rattle.closure.proofs.lookup.is_covering.Goals as goal
+use Rattle.closure.proofs.lookup.is_covering.Goals.{After-is_whole}
 
 pub stand_beside-requires : goal.stand_beside-requires
 stand_beside-requires g c = λ k d low.
     rw c.requires.extent (boxes_on c.args.tables.now.board.now c.args.tables.now.groups c.requires.tables.are.lawful c.requires.tables.are.grouped c.args.group
     c.requires.group c.boxes.result.now c.boxes.ensures _ (in_list c.boxes.result.now k d low))
 
+-- The state has the boxes, and the player is on none of them.
+beside : (g : _) (c : After-is_whole g) → ((q : Cell) → Has (cells_in (boxes_of c.args.tables.now.groups c.args.group)) q →
+    Has (g.S.CellSet.members c.args.query.now.boxes.now) q) × Lacks (cells_in (boxes_of c.args.tables.now.groups c.args.group)) c.args.query.now.player
+beside g c = all_beside (boxes_of c.args.tables.now.groups c.args.group)
+    (record { player = c.args.query.now.player; boxes = g.S.CellSet.members c.args.query.now.boxes.now })
+    (rw c.boxes.ensures at (c.if-not-stand_beside.ensures.0 refl))
+
 pub is_inside-requires-clause-outside : goal.is_inside-requires-clause-outside
-is_inside-requires-clause-outside g c =
-    let player = c.args.query.now.player in
-    let boxes = boxes_of c.args.tables.now.groups c.args.group in
-    let Beside : Cell → Type 0 = λ q. Has (g.S.CellSet.members c.args.query.now.boxes.now) q × (q ≢ player) in
-    let each = rw c.boxes.ensures at (c.if-not-stand_beside.ensures.0 refl) in
-    lacks_where (cells_in boxes) player (λ has. (each_in Beside boxes each player has).1 refl)
+is_inside-requires-clause-outside g c = (beside g (goal.at.is_inside-requires-clause-outside g c).After-is_whole).1
 
 pub is_inside-requires-clause-hits : goal.is_inside-requires-clause-hits
 is_inside-requires-clause-hits g c = λ pattern within lacks.
-    let Beside : Cell → Type 0 = λ q. Has (g.S.CellSet.members c.args.query.now.boxes.now) q × (q ≢ c.args.query.now.player) in
-    let each = rw c.boxes.ensures at (c.if-not-stand_beside.ensures.0 refl) in
+    let there = (beside g (goal.at.is_inside-requires-clause-hits g c).After-is_whole).0 in
     subst (λ l. HitsDecide c.args.tables.now.board.now c.args.query.now.player c.args.tables.now.board.now.player l pattern) (sym c.deref.ensures.value)
-    (c.walk_to_root.ensures.hits pattern (λ q has. (each_in Beside (boxes_of c.args.tables.now.groups c.args.group) each q (within q has)).0) lacks)
+    (c.walk_to_root.ensures.scratch.walked c.walk_to_root.ensures.walked pattern (λ q has. there q (within q has)) lacks)
 
 pub returns-then-is_whole-clause-exact : goal.returns-then-is_whole-clause-exact
 returns-then-is_whole-clause-exact g c =
-    let player = c.args.query.now.player in
-    let boxes = boxes_of c.args.tables.now.groups c.args.group in
-    let Beside : Cell → Type 0 = λ q. Has (g.S.CellSet.members c.args.query.now.boxes.now) q × (q ≢ player) in
-    let each = rw c.boxes.ensures at (c.if-not-stand_beside.ensures.0 refl) in
-    let outside = lacks_where (cells_in boxes) player (λ has. (each_in Beside boxes each player has).1 refl) in (
-      λ _. record { boxes = λ q has. (each_in Beside boxes each q has).0; player = c.if-is_whole.ensures refl player c.requires.player outside },
-      λ _. refl,
-    )
+    let there = beside g (goal.at.returns-then-is_whole-clause-exact g c).After-is_whole in
+    (λ _. record { boxes = there.0; player = c.if-is_whole.ensures refl c.args.query.now.player c.requires.player there.1 }, λ _. refl)
 
 pub returns-clause-exact : goal.returns-clause-exact
 returns-clause-exact g c =
-    let Beside : Cell → Type 0 = λ q. Has (g.S.CellSet.members c.args.query.now.boxes.now) q × (q ≢ c.args.query.now.player) in
-    let each = rw c.boxes.ensures at (c.if-not-stand_beside.ensures.0 refl) in (
-      λ yes. record { boxes = λ q has. (each_in Beside (boxes_of c.args.tables.now.groups c.args.group) each q has).0; player = c.is_inside.ensures.0 yes },
-      λ covers. c.is_inside.ensures.1 covers.player,
-    )
+    let there = beside g (goal.at.returns-clause-exact g c).After-is_whole in
+    (λ yes. record { boxes = there.0; player = c.is_inside.ensures.0 yes }, λ covers. c.is_inside.ensures.1 covers.player)
 
 pub returns-then-not-stand_beside-clause-exact : goal.returns-then-not-stand_beside-clause-exact
 returns-then-not-stand_beside-clause-exact g c = (

@@ -8,11 +8,10 @@ use Rattle.cellset.specs.Cell.{neighbor}
 use Rattle.cellset.specs.declared.dir.Dir.TheVariants.{L}
 use Rattle.closure.specs.Pattern.{InPatternRegion}
 use Rattle.closure.specs.Sides.{cell_no}
-use Rattle.closure.specs.Groups.{boxes_of, position_at}
+use Rattle.closure.specs.Groups.{position_at}
 use Rattle.closure.specs.declared.tree.Hit.{Hit}
 use Rattle.closure.proofs.Turns.{through}
 use Rattle.closure.proofs.CellLists.{in_list, no_cell}
-use Rattle.closure.proofs.Traps.{none_off}
 use Rattle.closure.proofs.lookup.is_inside.Goals as goal
 
 pub returns-in-Some : goal.returns-in-Some
@@ -41,9 +40,3 @@ returns g c =
     let told = (c.requires.hits (position_at c.args.tables.now.board.now c.args.tables.now.groups c.args.group) (λ _ h. h) c.requires.outside).passed
     (λ j e lt. rw is at (c.loop-found.invariant j e (omega arith))) in
     through c.has_root.ensures (told.1, told.0)
-
-pub sides_of-requires-clause-off : goal.sides_of-requires-clause-off
-sides_of-requires-clause-off g c = none_off _ c.requires.tables.off (boxes_of c.args.tables.now.groups c.args.group)
-
-pub has_root-requires-clause-off : goal.has_root-requires-clause-off
-has_root-requires-clause-off g c = none_off _ c.requires.tables.off (boxes_of c.args.tables.now.groups c.args.group)

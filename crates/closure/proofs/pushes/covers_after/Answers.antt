@@ -16,6 +16,3 @@ returns-in-Some g c = λ has.
     covers_result tables c.requires.tables c.args.group (cells_in c.args.pushed.now.boxes.now) push c.requires.back (rw c.boxes.ensures at c.in-Some.ensures.2)
     (subst (λ q. InPatternRegion level (position_at level tables.groups c.args.group) (neighbor q (opposite push.dir))) at
     ((c.sides_of.ensures (opposite push.dir)).0 (sym lies ∙ has)))
-
-pub sides_of-requires-clause-off : goal.sides_of-requires-clause-off
-sides_of-requires-clause-off g c = λ q has. c.requires.off q (rw c.boxes.ensures at c.in-Some.ensures.2 q has)

@@ -2,35 +2,12 @@
 -- of any other group, and that the set, if there is one, has its boxes. The tables have the sides of the next box on which the region lies
 -- (`sides_of`), so `covers_each_way` may be called for it. Every push out of the group moves one of its boxes, so after the loop the list
 -- covers them all (`covered_each_box`). The result false claims nothing.
-use Rattle.std.proofs.Common.{ap, arith}
-use Rattle.std.proofs.lemmas.Bool.{cases_lt}
+use Rattle.std.proofs.Common.{ap}
 use Rattle.closure.specs.Sides.{cells_in}
 use Rattle.closure.specs.Groups.{list_of, position_at}
 use Rattle.closure.proofs.Grouped.{boxes_on}
-use Rattle.closure.proofs.GroupPushes.{covered_each_box, trapped_pushes}
+use Rattle.closure.proofs.GroupPushes.{covered_each_box}
 use Rattle.closure.proofs.pushes.covers_pushes_of.Goals as goal
-
-pub returns-then-is_trapped-clause-covered : goal.returns-then-is_trapped-clause-covered
-returns-then-is_trapped-clause-covered g c = grind (arith, trapped_pushes)
-
-pub load_boxes-requires-clause-boxes : goal.load_boxes-requires-clause-boxes
-load_boxes-requires-clause-boxes g c = boxes_on c.args.tables.now.board.now c.args.tables.now.groups c.requires.tables.lawful c.requires.tables.grouped
-    c.args.group c.requires.group c.boxes-boxes.result.now c.boxes-boxes.ensures
-
-pub sides_of-sides-requires-clause-off : goal.sides_of-sides-requires-clause-off
-sides_of-sides-requires-clause-off g c = rw c.boxes-boxes.ensures at c.if-is_trapped.ensures
-
-pub covers_each_way-requires-clause-off : goal.covers_each_way-requires-clause-off
-covers_each_way-requires-clause-off g c = c.if-is_trapped.ensures
-
-pub covers_each_way-requires-clause-pushed : goal.covers_each_way-requires-clause-pushed
-covers_each_way-requires-clause-pushed g c = grind arith
-
-pub loop-number-init : goal.loop-number-init
-loop-number-init g c = grind arith
-
-pub loop-number-preserved : goal.loop-number-preserved
-loop-number-preserved g c = grind (arith, cases_lt)
 
 pub returns-clause-covered : goal.returns-clause-covered
 returns-clause-covered g c = λ _.
@@ -38,3 +15,7 @@ returns-clause-covered g c = λ _.
     let groups = c.args.tables.now.groups in
     covered_each_box level (list_of groups) (position_at level groups c.args.group) c.boxes-boxes.result.now c.loop-number.number c.loop-number-test.false
     (ap cells_in c.boxes-boxes.ensures) c.loop-number.invariant.covered
+
+pub load_boxes-requires-clause-boxes : goal.load_boxes-requires-clause-boxes
+load_boxes-requires-clause-boxes g c = boxes_on c.args.tables.now.board.now c.args.tables.now.groups c.requires.tables.lawful c.requires.tables.grouped
+    c.args.group c.requires.group c.boxes-boxes.result.now c.boxes-boxes.ensures

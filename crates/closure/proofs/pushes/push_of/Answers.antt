@@ -8,26 +8,11 @@ use Rattle.cellset.specs.Cell.{neighbor, opposite}
 use Rattle.cellset.proofs.Neighbors.{neighbor_back}
 use Rattle.closure.specs.GroupPushes.{pushed_cell}
 use Rattle.closure.specs.Groups.{position_at}
-use Rattle.closure.proofs.CellLists.{in_list, no_cell}
-use Rattle.closure.proofs.Grouped.{boxes_on, group_in_room}
-use Rattle.closure.proofs.GroupPushes.{barred, unreached}
+use Rattle.closure.proofs.Grouped.{group_in_room}
+use Rattle.closure.proofs.GroupPushes.{barred, pushed_on, unreached}
 use Rattle.closure.proofs.Regions.{region_lacks, region_on}
 use Rattle.closure.proofs.pushes.push_of.Goals as goal
 use Rattle.closure.proofs.pushes.push_of.Goals.{else-not-has-2-via-then-not-has-2+else-not-is_free, else-not-has-2-via-else-not-has-2}
-
-pub step-requires : goal.step-requires
-step-requires g c =
-    let tables = c.requires.tables in
-    let pushed = c.args.pushed.now in
-    rw c.shape-shape.ensures.value (boxes_on c.args.tables.now.board.now c.args.tables.now.groups tables.lawful tables.grouped pushed.group
-    c.requires.pushed.group pushed.boxes.now c.requires.pushed.boxes _ (in_list pushed.boxes.now pushed.number no_cell c.requires.pushed.number))
-
-pub step-requires-2 : goal.step-requires-2
-step-requires-2 g c =
-    let tables = c.requires.tables in
-    let pushed = c.args.pushed.now in
-    rw c.shape-shape.ensures.value (boxes_on c.args.tables.now.board.now c.args.tables.now.groups tables.lawful tables.grouped pushed.group
-    c.requires.pushed.group pushed.boxes.now c.requires.pushed.boxes _ (in_list pushed.boxes.now pushed.number no_cell c.requires.pushed.number))
 
 pub returns-then-not-has-clause-found : goal.returns-then-not-has-clause-found
 returns-then-not-has-clause-found g c = unreached c.args.tables.now.board.now
@@ -67,10 +52,7 @@ returns-clause-free g c =
 pub returns-clause-found : goal.returns-clause-found
 returns-clause-found g c =
     let from = pushed_cell c.args.pushed.now in
-    let tables = c.requires.tables in
-    let pushed = c.args.pushed.now in
-    let on = boxes_on c.args.tables.now.board.now c.args.tables.now.groups tables.lawful tables.grouped pushed.group
-    c.requires.pushed.group pushed.boxes.now c.requires.pushed.boxes _ (in_list pushed.boxes.now pushed.number no_cell c.requires.pushed.number) in
+    let on = pushed_on c.args.tables.now c.requires.tables c.args.pushed.now c.requires.pushed in
     record {
       player = rw c.opposite-2.ensures at c.in-Some-step.ensures.1;
       from = refl;

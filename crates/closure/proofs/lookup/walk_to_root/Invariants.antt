@@ -1,14 +1,14 @@
 use Rattle.std.proofs.Common.{◌<◌, ◌≤◌, ◌+◌, length, slice_index_or, vec_capacity}
 use Rattle.closure.specs.Hits.{AreHits}
 use Rattle.closure.specs.declared.tree.Node.{Node}
-use Rattle.closure.proofs.lookup.find_hits.Given as goal
+use Rattle.closure.proofs.lookup.walk_to_root.Given as goal
 
 abbrev pub invariant-loop-at : goal.invariant-loop-at
 invariant-loop-at g l = record {
   within : l.at < length l.tables.tree.nodes.items;
-  hits : (d : Node) → AreHits l.tables.board.now (g.S.CellSet.members l.boxes) l.fn.player (slice_index_or l.tables.tree.nodes.items l.at d).cell l.hits.items;
-  roomy : length l.tables.tree.nodes.items ≤ vec_capacity l.hits;
-  few : length l.hits.items + l.at < length l.tables.tree.nodes.items;
+  hits : (d : Node) → AreHits l.tables.board.now (g.S.CellSet.members l.query.boxes.now) l.query.player (slice_index_or l.tables.tree.nodes.items l.at d).cell l.scratch.hits.items;
+  roomy : length l.tables.tree.nodes.items ≤ vec_capacity l.scratch.hits;
+  few : length l.scratch.hits.items + l.at < length l.tables.tree.nodes.items;
 }
 
 abbrev pub decreases-loop-at : goal.decreases-loop-at
