@@ -239,7 +239,6 @@ fn find_players<S: CellSet>(boxes: &S, region: &S, players: &mut S)
 }
 
 // Adds the neighbour of a cell in a direction, if it is in the region.
-#[tactic(auto, using(cellset::proofs::Members::has_insert, cellset::proofs::Members::inserted, cellset::proofs::Members::kept_by_insert))]
 fn add_player<S: CellSet>(region: &S, from: Cell, dir: Dir, players: &mut S)
     requires region { S.extent region.now ≡ S.extent players.old }
     requires on { IsOn (S.extent region.now) from }

@@ -185,7 +185,6 @@ fn covers_toward<S: CellSet>(
 }
 
 // Returns whether a cell is floor without one of the boxes.
-#[tactic(auto, using(crate::proofs::CellLists::in_list, cellset::proofs::Members::not_both))]
 #[inline(always)]
 fn is_free<S: CellSet>(board: &Board<S>, boxes: &[Cell], cell: Cell) -> bool
     ensures { IsTrue result ↔ IsFree board.now.shape board.now.walls (cells_in boxes.now) cell }

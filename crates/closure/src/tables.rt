@@ -91,7 +91,6 @@ impl<'a, S: CellSet> Tables<'a, S> {
     }
 
     // Fills in what lookups need. From then on the trap has no cells.
-    #[tactic(auto, using(crate::proofs::Lists::length_more))]
     pub(crate) fn fill(&mut self, alloc: Global) -> Result<(), AllocError>
         requires { AreTables self.old }
         ensures same { OnOk result (self.new.groups ≡ self.old.groups) }
@@ -134,7 +133,6 @@ impl<'a, S: CellSet> Tables<'a, S> {
     }
 
     // Returns whether one of the boxes is on the trap.
-    #[tactic(auto, using(crate::proofs::Traps::none_off))]
     pub(crate) fn is_trapped(&self, boxes: &[Cell]) -> bool
         requires { AreTables self.now }
         ensures { MatchBool result

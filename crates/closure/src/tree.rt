@@ -46,7 +46,6 @@ pub(crate) fn index_of(cell: Cell) -> usize
 }
 
 // Returns the tree of all cells of the room.
-#[tactic(auto, using(crate::proofs::Lists::length_more))]
 pub(crate) fn grow_tree<S: CellSet>(alloc: Global, board: &Board<S>) -> Result<Tree, AllocError>
     ensures { IfOk result (IsTree board.now) }
 {
@@ -92,7 +91,6 @@ impl Tree {
     }
 
     // Adds the neighbours of a node that are left.
-    #[tactic(auto, using(crate::proofs::Lists::length_more))]
     fn join_around<S: CellSet>(
         &mut self,
         board: &Board<S>,
@@ -117,7 +115,6 @@ impl Tree {
     }
 
     // Adds the neighbour of a node in the direction, if it is left.
-    #[tactic(auto, using(cellset::proofs::Members::remove_absent, crate::proofs::Spanning::lacks_remove, std::proofs::lemmas::List::get_or_read, crate::proofs::Sets::removed_lacks, crate::proofs::Lists::old_item, crate::proofs::Spanning::index_within))]
     fn join_beside<S: CellSet>(
         &mut self,
         board: &Board<S>,

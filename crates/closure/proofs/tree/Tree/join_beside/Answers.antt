@@ -6,14 +6,34 @@ use Rattle.std.proofs.Common.{set, refl, sym, ◌∙◌, ap, subst, arith}
 use Rattle.std.specs.Vec.{with_item}
 use Rattle.std.proofs.lemmas.List.{get_or_read}
 use Rattle.cellset.specs.Cell.{neighbor}
+use Rattle.cellset.proofs.Members.{remove_absent}
 use Rattle.closure.specs.CellIndex.{index_of}
 use Rattle.closure.specs.SpanningTree.{IsGrowing}
 use Rattle.closure.specs.declared.tree.Node.{Node}
 use Rattle.closure.specs.declared.tree.Tree.{Tree}
 use Rattle.closure.proofs.Counts.{len-remove_member}
-use Rattle.closure.proofs.Spanning.{laid_more}
-use Rattle.closure.proofs.Lists.{length_more}
+use Rattle.closure.proofs.Spanning.{lacks_remove, laid_more, index_within}
+use Rattle.closure.proofs.Lists.{length_more, old_item}
+use Rattle.closure.proofs.Sets.{removed_lacks}
 use Rattle.closure.proofs.tree.Tree.join_beside.Goals as goal
+
+pub returns-then-not-remove-clause-growing : goal.returns-then-not-remove-clause-growing
+returns-then-not-remove-clause-growing g c = grind (arith, remove_absent)
+
+pub returns-then-not-remove-clause-sum : goal.returns-then-not-remove-clause-sum
+returns-then-not-remove-clause-sum g c = grind (arith, remove_absent)
+
+pub returns-then-not-remove-clause-kept : goal.returns-then-not-remove-clause-kept
+returns-then-not-remove-clause-kept g c = grind (arith, lacks_remove)
+
+pub returns-then-not-remove-clause-beside : goal.returns-then-not-remove-clause-beside
+returns-then-not-remove-clause-beside g c = grind (arith, get_or_read, removed_lacks)
+
+pub returns-in_err-push-clause-kept : goal.returns-in_err-push-clause-kept
+returns-in_err-push-clause-kept g c = grind (arith, lacks_remove)
+
+pub returns-in_err-push-clause-beside : goal.returns-in_err-push-clause-beside
+returns-in_err-push-clause-beside g c = grind (arith, get_or_read, removed_lacks)
 
 pub returns-clause-growing : goal.returns-clause-growing
 returns-clause-growing g c =
@@ -32,3 +52,18 @@ returns-clause-growing g c =
 
 pub returns-clause-sum : goal.returns-clause-sum
 returns-clause-sum g c = grind (arith, len-remove_member, length_more)
+
+pub returns-clause-kept : goal.returns-clause-kept
+returns-clause-kept g c = grind (arith, lacks_remove)
+
+pub returns-clause-beside : goal.returns-clause-beside
+returns-clause-beside g c = grind (arith, get_or_read, removed_lacks)
+
+pub index_mut-requires : goal.index_mut-requires
+index_mut-requires g c = grind (arith, index_within)
+
+pub returns-clause-same : goal.returns-clause-same
+returns-clause-same g c = grind (arith, old_item)
+
+pub returns-in_default-clause-beside : goal.returns-in_default-clause-beside
+returns-in_default-clause-beside g c = grind (arith, get_or_read)
