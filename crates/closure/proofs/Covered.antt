@@ -4,17 +4,12 @@
 -- has a box off the goals, so none of these is solved.
 use Rattle.std.proofs.Common.{List, [], ◌∷◌, sym, subst, inl, inr, refl}
 use Rattle.std.specs.FinSet as set
-use Rattle.cellset.specs.Cell.{neighbor}
-use Rattle.cellset.specs.CellSet.{Cells, Has, Lacks}
-use Rattle.cellset.specs.declared.cell.Cell.{Cell}
-use Rattle.cellset.specs.declared.dir.Dir.{Dir}
+use Rattle.cellset.specs.{Cell.neighbor, CellSet.Cells, CellSet.Has, CellSet.Lacks, declared.cell.Cell.Cell, declared.dir.Dir.Dir}
 use Rattle.cellset.proofs.Members.{has_or_lacks, not_both, inserted, kept_by_insert, has_insert, kept_by_remove, has_remove}
-use Rattle.reach.specs.Region.{beside}
-use Rattle.reach.specs.Pushes.{push_by}
+use Rattle.reach.specs.{Region.beside, Pushes.push_by}
 use Rattle.board.specs.Game.{Level, State, moved, start, Steps, Walks, Pushes, Plays, IsSolved, Solvable}
 use Rattle.board.specs.Board.{IsWellFormed}
-use Rattle.closure.specs.Pattern.{Pattern, IsCovered, PushesOut}
-use Rattle.closure.specs.Closed.{Closed}
+use Rattle.closure.specs.{Pattern.Pattern, Pattern.IsCovered, Pattern.PushesOut, Closed.Closed}
 use Rattle.closure.proofs.Moves.{AreOnFloor, moved_on_floor}
 
 abbrev IsWithin : Cells → Cells → Type 0

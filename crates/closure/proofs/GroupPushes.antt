@@ -3,34 +3,19 @@
 -- is on the side of the box from which it came. So a group that has this box covers the result if its boxes are all there after the push
 -- and its region lies on that side. A push out of a pattern is a push out of its group.
 use Rattle.std.proofs.Common.{◌≡◌, ◌≢◌, Bool, false, ℕ, ◌<◌, ◌≤◌, List, length, get_or, set, refl, sym, ◌∙◌, ap, subst, inl, inr, arith}
-use Rattle.std.specs.Prelude.{IsTrue, slice_index}
-use Rattle.std.specs.List.{Contains}
-use Rattle.std.proofs.lemmas.Bool.{cases_lt}
+use Rattle.std.{specs.Prelude.IsTrue, specs.Prelude.slice_index, specs.List.Contains, proofs.lemmas.Bool.cases_lt}
 use Rattle.std.proofs.lemmas.List.{get_or-set_other, get_or-set_same, length-set}
-use Rattle.cellset.specs.Cell.{IsOn, neighbor, opposite}
-use Rattle.cellset.specs.CellSet.{Cells, Has, Lacks}
-use Rattle.cellset.specs.declared.cell.Cell.{Cell}
-use Rattle.cellset.specs.declared.dir.Dir.{Dir}
+use Rattle.cellset.specs.{Cell.IsOn, Cell.neighbor, Cell.opposite, CellSet.Cells, CellSet.Has, CellSet.Lacks, declared.cell.Cell.Cell, declared.dir.Dir.Dir}
 use Rattle.cellset.specs.declared.dir.Dir.TheVariants.{L, U, R, D}
 use Rattle.cellset.proofs.Neighbors.{neighbor_back, neighbor_forth}
-use Rattle.reach.specs.Region.{IsFree}
-use Rattle.reach.specs.declared.pushes.Push.{Push}
+use Rattle.reach.specs.{Region.IsFree, declared.pushes.Push.Push}
 use Rattle.board.specs.Game.{Level, IsFloor, moved}
-use Rattle.closure.specs.Pattern.{Pattern, InPatternRegion, IsCovered, PushesOut, after_push}
-use Rattle.closure.specs.Closed.{CoversPushesOf}
-use Rattle.closure.specs.Arena.{pattern_at}
-use Rattle.closure.specs.Run.{state_after}
-use Rattle.closure.specs.Sides.{cell_no, cells_in}
-use Rattle.closure.specs.declared.groups.Groups.{Groups}
-use Rattle.closure.specs.declared.pushes.PushedBox.{PushedBox}
-use Rattle.closure.specs.declared.tables.Tables.{Tables}
+use Rattle.closure.specs.{Pattern.Pattern, Pattern.InPatternRegion, Pattern.IsCovered, Pattern.PushesOut, Pattern.after_push, Closed.CoversPushesOf}
+use Rattle.closure.specs.{Arena.pattern_at, Run.state_after, Sides.cell_no, Sides.cells_in, declared.groups.Groups.Groups, declared.pushes.PushedBox.PushedBox}
+use Rattle.closure.specs.{declared.tables.Tables.Tables, Groups.IsGrouped, Groups.boxes_of, Groups.list_of, Groups.position_at, Tables.AreTables}
 use Rattle.closure.specs.GroupPushes.{AreNoted, CoversFrom, CoversToward, HasNoPush, IsPushAt, IsPushOf, IsPushedBox, IsStepBack, pushed_cell}
-use Rattle.closure.specs.Groups.{IsGrouped, boxes_of, list_of, position_at}
-use Rattle.closure.specs.Tables.{AreTables}
-use Rattle.closure.proofs.Arenas.{list_long}
-use Rattle.closure.proofs.CellLists.{at_any, in_list, no_cell, of_list}
+use Rattle.closure.proofs.{Arenas.list_long, CellLists.at_any, CellLists.in_list, CellLists.no_cell, CellLists.of_list, Regions.region_on}
 use Rattle.closure.proofs.Grouped.{box_floor, boxes_on, covered_of_group, group_in_room, line_boxes, of_line}
-use Rattle.closure.proofs.Regions.{region_on}
 use Rattle.closure.proofs.Traps.{onto_trap, trapped_push}
 
 -- A push of the box on a cell to a free cell of the grid is a push of one of the boxes.

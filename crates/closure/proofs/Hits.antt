@@ -2,21 +2,12 @@
 -- the boxes on its path. For a pattern that has none of them, each cell of the path is in the region exactly if the first one is.
 -- Once the path has met a box of a pattern, the rest of it says nothing more about that pattern.
 use Rattle.std.proofs.Common.{◌≡◌, ℕ, ◌<◌, List, [], ◌∷◌, ◌++◌, length, get_or, refl, sym, ◌∙◌, ap, inl, inr, arith}
-use Rattle.std.specs.Prelude.{◌↔◌}
-use Rattle.std.proofs.lemmas.Bool.{cases_lt}
-use Rattle.cellset.specs.Cell.{IsOn, neighbor, opposite}
-use Rattle.cellset.specs.CellSet.{Cells, Has, Lacks}
-use Rattle.cellset.specs.declared.cell.Cell.{Cell}
-use Rattle.cellset.specs.declared.dir.Dir.{Dir}
-use Rattle.cellset.proofs.Members.{has_or_lacks, not_both}
-use Rattle.cellset.proofs.Neighbors.{neighbor_back}
+use Rattle.std.{specs.Prelude.◌↔◌, proofs.lemmas.Bool.cases_lt}
+use Rattle.cellset.specs.{Cell.IsOn, Cell.neighbor, Cell.opposite, CellSet.Cells, CellSet.Has, CellSet.Lacks, declared.cell.Cell.Cell, declared.dir.Dir.Dir}
+use Rattle.cellset.proofs.{Members.has_or_lacks, Members.not_both, Neighbors.neighbor_back}
 use Rattle.reach.specs.Region.{IsFree, beside}
-use Rattle.board.specs.Game.{Level}
-use Rattle.board.specs.Board.{IsWellFormed}
-use Rattle.closure.specs.Pattern.{Pattern, InPatternRegion}
-use Rattle.closure.specs.Hits.{AreHits}
-use Rattle.closure.specs.declared.tree.Hit.{Hit}
-use Rattle.closure.proofs.Turns.{through}
+use Rattle.board.specs.{Game.Level, Board.IsWellFormed}
+use Rattle.closure.{specs.Pattern.Pattern, specs.Pattern.InPatternRegion, specs.Hits.AreHits, specs.declared.tree.Hit.Hit, proofs.Turns.through}
 use Rattle.closure.proofs.Lists.{old_item, new_item, length_more}
 
 pub step_decides : (level : Level) (pattern : Pattern) (c : Cell) (d : Dir) → IsFree level.shape level.walls pattern.boxes c →

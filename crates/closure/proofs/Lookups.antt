@@ -1,27 +1,12 @@
 -- Lookups of a state among groups. A group of a lawful list has a box, so it may be in a bucket, and a key is an index of the table.
 use Rattle.std.proofs.Common.{◌≡◌, ◌≢◌, ℕ, ◌+◌, ◌-◌, ◌*◌, ◌<◌, ◌≤◌, List, [], ◌∷◌, ◌++◌, length, get_or, refl, ◌∙◌, ap, inl, inr, arith}
-use Rattle.std.specs.Prelude.{slice_index}
-use Rattle.std.specs.List.{All}
-use Rattle.std.proofs.lemmas.Bool.{cases_lt}
-use Rattle.cellset.specs.Shape.{HasSides}
-use Rattle.cellset.specs.CellSet.{Has, Lacks}
-use Rattle.cellset.specs.declared.cell.Cell.{Cell}
-use Rattle.cellset.proofs.Members.{lacks_where}
-use Rattle.board.specs.Game.{Level, State}
-use Rattle.board.specs.Board.{IsWellFormed}
-use Rattle.closure.specs.Pattern.{IsCovered}
-use Rattle.closure.specs.Closed.{AreLawful}
-use Rattle.closure.specs.Buckets.{IsInBucket}
-use Rattle.closure.specs.Chains.{AreChains, IsLast}
-use Rattle.closure.specs.CellIndex.{index_of}
-use Rattle.closure.specs.Groups.{IsGrouped, boxes_of, list_of}
-use Rattle.closure.specs.Tables.{GroupCovers, AreTables}
-use Rattle.closure.specs.Sides.{cells_in}
-use Rattle.closure.specs.declared.groups.Groups.{Groups}
-use Rattle.closure.specs.declared.tables.Tables.{Tables}
-use Rattle.closure.proofs.CellLists.{at_any, each_in, of_list}
-use Rattle.closure.proofs.Grouped.{box_on, covered_by_group, group_in_room, some_box}
-use Rattle.closure.proofs.Spanning.{index_within}
+use Rattle.std.{specs.Prelude.slice_index, specs.List.All, proofs.lemmas.Bool.cases_lt}
+use Rattle.cellset.{specs.Shape.HasSides, specs.CellSet.Has, specs.CellSet.Lacks, specs.declared.cell.Cell.Cell, proofs.Members.lacks_where}
+use Rattle.board.specs.{Game.Level, Game.State, Board.IsWellFormed}
+use Rattle.closure.specs.{Pattern.IsCovered, Closed.AreLawful, Buckets.IsInBucket, Chains.AreChains, Chains.IsLast, CellIndex.index_of, Sides.cells_in}
+use Rattle.closure.specs.{Groups.IsGrouped, Groups.boxes_of, Groups.list_of, Tables.GroupCovers, Tables.AreTables, declared.groups.Groups.Groups}
+use Rattle.closure.{specs.declared.tables.Tables.Tables, proofs.CellLists.at_any, proofs.CellLists.each_in, proofs.CellLists.of_list}
+use Rattle.closure.proofs.{Grouped.box_on, Grouped.covered_by_group, Grouped.group_in_room, Grouped.some_box, Spanning.index_within}
 use Rattle.closure.proofs.Lists.{new_item, old_item}
 
 -- ---- buckets

@@ -1,16 +1,10 @@
 -- Pushes of loose boxes. A pattern that covers a state covers it after any walk, because its boxes are among the boxes of the state, so the
 -- player stays in its region. If the pattern lacks a box of the state, it covers the result of a push of this box too: its boxes are still
 -- there, and the player steps from its region to a cell where it has no box.
-use Rattle.cellset.specs.CellSet.{Cells, Lacks, only}
-use Rattle.cellset.specs.declared.cell.Cell.{Cell}
-use Rattle.cellset.proofs.Members.{has_only}
-use Rattle.reach.specs.Region.{InRegion, IsFree, at_seed, beside}
-use Rattle.reach.specs.declared.pushes.Push.{Push}
+use Rattle.cellset.{specs.CellSet.Cells, specs.CellSet.Lacks, specs.CellSet.only, specs.declared.cell.Cell.Cell, proofs.Members.has_only}
+use Rattle.reach.specs.{Region.InRegion, Region.IsFree, Region.at_seed, Region.beside, declared.pushes.Push.Push}
 use Rattle.board.specs.Game.{Level}
-use Rattle.closure.specs.Pattern.{Pattern, Covers, InPatternRegion}
-use Rattle.closure.specs.GroupPushes.{IsPushOf}
-use Rattle.closure.specs.Piece.{AreCoveredAlike}
-use Rattle.closure.specs.Run.{state_after}
+use Rattle.closure.specs.{Pattern.Pattern, Pattern.Covers, Pattern.InPatternRegion, GroupPushes.IsPushOf, Piece.AreCoveredAlike, Run.state_after}
 use Rattle.closure.proofs.Covered.{lacks_within, moved_beside}
 
 module _ (level : Level) (boxes : Cells) where

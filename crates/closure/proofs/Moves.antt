@@ -1,9 +1,7 @@
 -- Pushes on a board. A push moves one box to floor, so boxes that were on floor are on floor after it.
 use Rattle.std.proofs.Common.{inl, inr}
 use Rattle.std.specs.FinSet as set
-use Rattle.cellset.specs.CellSet.{Cells, Has}
-use Rattle.cellset.specs.declared.cell.Cell.{Cell}
-use Rattle.cellset.proofs.Members.{has_insert, has_remove}
+use Rattle.cellset.{specs.CellSet.Cells, specs.CellSet.Has, specs.declared.cell.Cell.Cell, proofs.Members.has_insert, proofs.Members.has_remove}
 use Rattle.board.specs.Game.{Level, IsFloor, moved}
 
 -- Each box is on floor.

@@ -1,8 +1,7 @@
 -- Cells in one piece. The room of a board is in one piece. Cells in one piece stay so without one of them, if the free neighbours of that
 -- cell are joined without it: a chain through the cell comes from one of them and goes on to another. A free corner joins the two
 -- neighbours beside it, so all four are joined if each but one is joined to the next.
-use Rattle.std.proofs.Common.{◌≡◌, refl, sym, ◌∙◌, ap, subst}
-use Rattle.std.specs.Prelude.{◌↔◌}
+use Rattle.std.{proofs.Common.◌≡◌, proofs.Common.refl, proofs.Common.sym, proofs.Common.◌∙◌, proofs.Common.ap, proofs.Common.subst, specs.Prelude.◌↔◌}
 use Rattle.cellset.specs.{Shape.Extent, Cell.IsOn, Cell.neighbor, Cell.opposite, CellSet.Has, declared.cell.Cell.Cell, declared.dir.Dir.Dir}
 use Rattle.cellset.specs.declared.dir.Dir.TheVariants.{L, U, R, D}
 use Rattle.cellset.proofs.{Members.same_or_other, Neighbors.neighbor_back}

@@ -3,24 +3,15 @@
 -- is joined.
 use Rattle.std.proofs.Common.{◌≡◌, ◌≢◌, ℕ, ◌+◌, ◌*◌, ◌<◌, ◌≤◌, false, List, [], ◌∷◌, ◌++◌, length, get_or, set, refl, sym, ◌∙◌, ap, subst, arith}
 use Rattle.std.specs.FinSet as finset
-use Rattle.std.proofs.lemmas.Bool.{cases_lt, false≢true}
-use Rattle.std.proofs.lemmas.List.{get_or-set_same, get_or-set_other, length-set}
-use Rattle.cellset.specs.Shape.{Extent, HasSides}
-use Rattle.cellset.specs.Cell.{IsOn, neighbor, opposite}
-use Rattle.cellset.specs.CellSet.{Cells, Has, Lacks}
-use Rattle.cellset.specs.declared.cell.Cell.{Cell}
-use Rattle.cellset.specs.declared.dir.Dir.{Dir}
-use Rattle.cellset.specs.declared.dir.Dir.TheVariants.{L, U, R, D}
+use Rattle.std.proofs.lemmas.{Bool.cases_lt, Bool.false≢true, List.get_or-set_same, List.get_or-set_other, List.length-set}
+use Rattle.cellset.specs.{Shape.Extent, Shape.HasSides, Cell.IsOn, Cell.neighbor, Cell.opposite, CellSet.Cells, CellSet.Has, CellSet.Lacks}
+use Rattle.cellset.specs.declared.{cell.Cell.Cell, dir.Dir.Dir, dir.Dir.TheVariants.L, dir.Dir.TheVariants.U, dir.Dir.TheVariants.R, dir.Dir.TheVariants.D}
 use Rattle.cellset.proofs.Members.{has_or_lacks, has_remove, kept_by_remove, lacks_where, not_both, same, same_itself, same_or_other}
 use Rattle.cellset.proofs.Neighbors.{neighbor_back}
 use Rattle.reach.specs.Region.{Joined, at_seed, beside}
-use Rattle.board.specs.Game.{Level, IsFloor}
-use Rattle.board.specs.Board.{IsWellFormed}
-use Rattle.closure.specs.CellIndex.{index_of}
-use Rattle.closure.specs.SpanningTree.{AreJoinedBeside, AreNodes, IsGrowing, IsNumbered}
-use Rattle.closure.specs.declared.tree.Node.{Node}
-use Rattle.closure.specs.declared.tree.Tree.{Tree}
-use Rattle.closure.proofs.Lists.{old_item, new_item, length_more}
+use Rattle.board.specs.{Game.Level, Game.IsFloor, Board.IsWellFormed}
+use Rattle.closure.specs.{CellIndex.index_of, SpanningTree.AreJoinedBeside, SpanningTree.AreNodes, SpanningTree.IsGrowing, SpanningTree.IsNumbered}
+use Rattle.closure.{specs.declared.tree.Node.Node, specs.declared.tree.Tree.Tree, proofs.Lists.old_item, proofs.Lists.new_item, proofs.Lists.length_more}
 use Rattle.closure.proofs.Sets.{removed_lacks}
 
 -- Cells that don't compare equal are two cells.

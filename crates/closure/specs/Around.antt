@@ -1,13 +1,8 @@
 -- The flood of a group: when none is needed, and what it finds.
 use Rattle.std.specs.Prelude.{◌≡◌, ◌↔◌, ℕ}
-use Rattle.cellset.specs.Cell.{neighbor}
-use Rattle.cellset.specs.CellSet.{Cells, Has}
-use Rattle.cellset.specs.declared.cell.Cell.{Cell}
-use Rattle.cellset.specs.declared.dir.Dir.{Dir}
-use Rattle.reach.specs.Region.{Joined}
-use Rattle.reach.specs.Reached.{Reached, WalksTo}
-use Rattle.closure.specs.Groups.{IsSeedOf}
-use Rattle.closure.specs.declared.groups.Groups.{Groups}
+use Rattle.cellset.specs.{Cell.neighbor, CellSet.Cells, CellSet.Has, declared.cell.Cell.Cell, declared.dir.Dir.Dir}
+use Rattle.reach.specs.{Region.Joined, Reached.Reached, Reached.WalksTo}
+use Rattle.closure.specs.{Groups.IsSeedOf, declared.groups.Groups.Groups}
 
 -- chains of neighbours lead from each of these cells to each other
 abbrev pub IsOnePiece : (Cell → Type 0) → Type 0

@@ -1,14 +1,8 @@
 -- Buckets: by cell, groups that have a box there. Each group is in the bucket of one of its boxes.
 use Rattle.std.specs.Prelude.{◌≡◌, ℕ, ◌+◌, ◌*◌, ◌<◌, List, length, slice_index}
-use Rattle.cellset.specs.CellSet.{Has}
-use Rattle.cellset.specs.declared.cell.Cell.{Cell}
+use Rattle.cellset.specs.{CellSet.Has, declared.cell.Cell.Cell}
 use Rattle.board.specs.Game.{Level}
-use Rattle.closure.specs.Sides.{cells_in}
-use Rattle.closure.specs.Chains.{AreChains}
-use Rattle.closure.specs.declared.tables.Buckets.{Buckets}
-use Rattle.closure.specs.declared.groups.Groups.{Groups}
-use Rattle.closure.specs.CellIndex.{index_of}
-use Rattle.closure.specs.Groups.{boxes_of}
+use Rattle.closure.specs.{Sides.cells_in, Chains.AreChains, declared.tables.Buckets.Buckets, declared.groups.Groups.Groups, CellIndex.index_of, Groups.boxes_of}
 
 -- the group is in the bucket of one of its boxes
 pub record IsInBucket (groups : Groups) (keys : List ℕ) (g : ℕ) : Type 0 where

@@ -1,22 +1,13 @@
 -- Pushes out of groups, box by box and direction by direction, and which of them the list covers.
 use Rattle.std.specs.Prelude.{◌≡◌, ℕ, ◌<◌, Bool, false, IsTrue, List, length, slice_index_or}
-use Rattle.cellset.specs.Shape.{Extent}
-use Rattle.cellset.specs.Cell.{IsOn, neighbor, opposite}
-use Rattle.cellset.specs.CellSet.{Cells, Has, Lacks}
-use Rattle.cellset.specs.declared.cell.Cell.{Cell}
+use Rattle.cellset.specs.{Shape.Extent, Cell.IsOn, Cell.neighbor, Cell.opposite, CellSet.Cells, CellSet.Has, CellSet.Lacks, declared.cell.Cell.Cell}
 use Rattle.cellset.specs.declared.dir.Dir.{Dir}
 use Rattle.reach.specs.declared.pushes.Push.{Push}
 use Rattle.board.specs.Game.{Level, IsFloor}
-use Rattle.closure.specs.Pattern.{Pattern, InPatternRegion, IsCovered, PushesOut, after_push}
-use Rattle.closure.specs.Closed.{CoversPushesOf}
-use Rattle.closure.specs.Sides.{IsAround, cell_no}
-use Rattle.closure.specs.declared.pushes.PushedBox.{PushedBox}
-use Rattle.closure.specs.declared.pushes.PushScratch.{PushScratch}
-use Rattle.closure.specs.declared.tables.Tables.{Tables}
-use Rattle.closure.specs.declared.groups.Groups.{Groups}
-use Rattle.closure.specs.Groups.{boxes_of, list_of, position_at}
-use Rattle.closure.specs.Piece.{IsPiece, IsPieceSpace}
-use Rattle.closure.specs.Tables.{AreFilled, IsRoomy}
+use Rattle.closure.specs.{Pattern.Pattern, Pattern.InPatternRegion, Pattern.IsCovered, Pattern.PushesOut, Pattern.after_push, Closed.CoversPushesOf}
+use Rattle.closure.specs.{Sides.IsAround, Sides.cell_no, declared.pushes.PushedBox.PushedBox, declared.pushes.PushScratch.PushScratch}
+use Rattle.closure.specs.{declared.tables.Tables.Tables, declared.groups.Groups.Groups, Groups.boxes_of, Groups.list_of, Groups.position_at}
+use Rattle.closure.specs.{Piece.IsPiece, Piece.IsPieceSpace, Tables.AreFilled, Tables.IsRoomy}
 
 -- a push has just moved a box by one step in its direction
 abbrev pub IsStepBack : Push → Type 0

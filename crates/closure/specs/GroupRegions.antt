@@ -1,17 +1,10 @@
 -- What is kept of the regions of groups: on which sides of each box they lie, whether they have the root of the tree, and whether they
 -- are surely all of the room but the boxes. Nothing is kept of trapped groups.
 use Rattle.std.specs.Prelude.{◌≡◌, ◌↔◌, ℕ, ◌+◌, ◌<◌, false, IsTrue, List, length, slice_index_or}
-use Rattle.cellset.specs.CellSet.{Cells, Has, Lacks}
-use Rattle.cellset.specs.declared.cell.Cell.{Cell}
+use Rattle.cellset.specs.{CellSet.Cells, CellSet.Has, CellSet.Lacks, declared.cell.Cell.Cell}
 use Rattle.board.specs.Game.{Level}
-use Rattle.closure.specs.Pattern.{InPatternRegion}
-use Rattle.closure.specs.Sides.{IsAround, cell_no, cells_in}
-use Rattle.closure.specs.Trap.{AreOff}
-use Rattle.closure.specs.declared.group_regions.Region.{Region}
-use Rattle.closure.specs.declared.group_regions.Regions.{Regions}
-use Rattle.closure.specs.declared.groups.Groups.{Groups}
-use Rattle.closure.specs.Spans.{span_at}
-use Rattle.closure.specs.declared.sides.Sides.{Sides}
+use Rattle.closure.specs.{Pattern.InPatternRegion, Sides.IsAround, Sides.cell_no, Sides.cells_in, Trap.AreOff, declared.group_regions.Region.Region}
+use Rattle.closure.specs.{declared.group_regions.Regions.Regions, declared.groups.Groups.Groups, Spans.span_at, declared.sides.Sides.Sides}
 use Rattle.closure.specs.Groups.{boxes_of, position_at}
 
 abbrev pub no_sides : Sides

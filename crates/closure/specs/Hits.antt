@@ -1,11 +1,8 @@
 -- Hits: the boxes on the path from the player's cell to the root, each with the side on which the path meets it.
 use Rattle.std.specs.Prelude.{◌↔◌, ℕ, ◌<◌, List, length, slice_index_or}
-use Rattle.cellset.specs.Cell.{neighbor}
-use Rattle.cellset.specs.CellSet.{Cells, Has, Lacks}
-use Rattle.cellset.specs.declared.cell.Cell.{Cell}
+use Rattle.cellset.specs.{Cell.neighbor, CellSet.Cells, CellSet.Has, CellSet.Lacks, declared.cell.Cell.Cell}
 use Rattle.board.specs.Game.{Level}
-use Rattle.closure.specs.Pattern.{Pattern, InPatternRegion}
-use Rattle.closure.specs.declared.tree.Hit.{Hit}
+use Rattle.closure.specs.{Pattern.Pattern, Pattern.InPatternRegion, declared.tree.Hit.Hit}
 
 -- the hits decide for a pattern whether the player is in its region: if a hit is one of its boxes, the player is in the region exactly if
 -- the cell on that side of the first such box is; if no hit is, exactly if the last cell is

@@ -1,10 +1,8 @@
 -- An index as contracts see it: a level, and a list of pattern lines.
 use Rattle.std.specs.Prelude.{ℕ, List, Option, refl}
 use Rattle.std.specs.Coded.{Coded, code_by, coded×, coded_ℕ, coded_list, coded_option}
-use Rattle.board.specs.Board.{coded_level}
-use Rattle.board.specs.Game.{Level, State}
-use Rattle.answers.specs.declared.pattern.Coord.{Coord}
-use Rattle.answers.specs.Body.{PatternLine}
+use Rattle.board.specs.{Board.coded_level, Game.Level, Game.State}
+use Rattle.answers.specs.{declared.pattern.Coord.Coord, Body.PatternLine}
 use Rattle.closure.specs.Pattern.{patterns_of, IsCovered}
 
 pub record Listed : Type 0 where

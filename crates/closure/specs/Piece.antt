@@ -1,16 +1,9 @@
 -- The piece of a player in the room less some boxes, and which of the boxes are loose there.
 use Rattle.std.specs.Prelude.{◌≡◌, ℕ, ◌≤◌, length}
-use Rattle.cellset.specs.Shape.{Extent}
-use Rattle.cellset.specs.CellSet.{Cells, Has, Lacks}
-use Rattle.cellset.specs.declared.cell.Cell.{Cell}
+use Rattle.cellset.specs.{Shape.Extent, CellSet.Cells, CellSet.Has, CellSet.Lacks, declared.cell.Cell.Cell}
 use Rattle.board.specs.Game.{Level}
-use Rattle.closure.specs.Pattern.{Pattern, Covers}
-use Rattle.closure.specs.Sides.{cells_in}
-use Rattle.closure.specs.declared.piece.Piece.{Piece}
-use Rattle.closure.specs.declared.groups.Groups.{Groups}
-use Rattle.closure.specs.declared.tables.Tables.{Tables}
-use Rattle.closure.specs.Groups.{boxes_of}
-use Rattle.closure.specs.Tables.{GroupCovers, IsReadyFor, IsRoomy}
+use Rattle.closure.specs.{Pattern.Pattern, Pattern.Covers, Sides.cells_in, declared.piece.Piece.Piece, declared.groups.Groups.Groups, Groups.boxes_of}
+use Rattle.closure.specs.{declared.tables.Tables.Tables, Tables.GroupCovers, Tables.IsReadyFor, Tables.IsRoomy}
 
 -- each pattern that covers these boxes with the one player covers them with the other
 abbrev pub AreCoveredAlike : Level → Cells → Cell → Cell → Type 0

@@ -1,9 +1,6 @@
 -- The check of one pattern: what the pushes out of its region lead to.
-use Rattle.cellset.specs.Shape.{Extent}
-use Rattle.cellset.specs.CellSet.{Cells}
-use Rattle.cellset.specs.declared.cell.Cell.{Cell}
-use Rattle.reach.specs.Pushes.{IsPushOut, PushBefore}
-use Rattle.reach.specs.declared.pushes.Push.{Push}
+use Rattle.cellset.specs.{Shape.Extent, CellSet.Cells, declared.cell.Cell.Cell}
+use Rattle.reach.specs.{Pushes.IsPushOut, Pushes.PushBefore, declared.pushes.Push.Push}
 use Rattle.board.specs.Game.{State, moved}
 
 -- the state after a push of one of the boxes

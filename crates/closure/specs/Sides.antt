@@ -1,10 +1,7 @@
 -- Sides of a box: on which of them the neighbour of the box is in a region.
 use Rattle.std.specs.Prelude.{Bool, IsTrue, ◌↔◌, ℕ, List, slice_index_or}
 use Rattle.std.specs.FinSet as set
-use Rattle.cellset.specs.CellSet.{Cells}
-use Rattle.cellset.specs.Cell.{neighbor}
-use Rattle.cellset.specs.declared.cell.Cell.{Cell}
-use Rattle.cellset.specs.declared.dir.Dir.{Dir}
+use Rattle.cellset.specs.{CellSet.Cells, Cell.neighbor, declared.cell.Cell.Cell, declared.dir.Dir.Dir}
 use Rattle.cellset.specs.declared.dir.Dir.TheVariants.{L, U, R, D}
 use Rattle.closure.specs.declared.sides.Sides.{Sides}
 

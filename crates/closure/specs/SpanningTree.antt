@@ -1,14 +1,9 @@
 -- A spanning tree of the room: each cell but the root has a step to its parent, which has a lower number. The root is the player's cell at
 -- the start.
 use Rattle.std.specs.Prelude.{◌≡◌, ℕ, ◌+◌, ◌*◌, ◌<◌, List, length, slice_index, slice_index_or}
-use Rattle.cellset.specs.Cell.{neighbor}
-use Rattle.cellset.specs.CellSet.{Cells, Has, Lacks}
-use Rattle.cellset.specs.declared.cell.Cell.{Cell}
-use Rattle.cellset.specs.declared.dir.Dir.{Dir}
+use Rattle.cellset.specs.{Cell.neighbor, CellSet.Cells, CellSet.Has, CellSet.Lacks, declared.cell.Cell.Cell, declared.dir.Dir.Dir}
 use Rattle.board.specs.Game.{Level}
-use Rattle.closure.specs.declared.tree.Node.{Node}
-use Rattle.closure.specs.declared.tree.Tree.{Tree}
-use Rattle.closure.specs.CellIndex.{index_of}
+use Rattle.closure.specs.{declared.tree.Node.Node, declared.tree.Tree.Tree, CellIndex.index_of}
 
 -- the table numbers the cell
 pub record IsNumbered (numbers : List ℕ) (nodes : List Node) (c : Cell) : Type 0 where

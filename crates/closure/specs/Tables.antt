@@ -1,20 +1,10 @@
 -- The tables of a list, and what a lookup relies on.
 use Rattle.std.specs.Prelude.{◌≡◌, ℕ, ◌<◌, ◌≤◌, IsTrue, length, vec_capacity}
 use Rattle.std.specs.FinSet as set
-use Rattle.cellset.specs.CellSet.{Cells}
-use Rattle.cellset.specs.declared.cell.Cell.{Cell}
-use Rattle.board.specs.Board.{IsWellFormed}
-use Rattle.board.specs.Game.{Level, State}
-use Rattle.closure.specs.Pattern.{Covers}
-use Rattle.closure.specs.Closed.{AreLawful}
-use Rattle.closure.specs.Trap.{IsTrapOf}
-use Rattle.closure.specs.declared.lookup.Scratch.{Scratch}
-use Rattle.closure.specs.declared.tables.Tables.{Tables}
-use Rattle.closure.specs.declared.groups.Groups.{Groups}
-use Rattle.closure.specs.Buckets.{AreBuckets}
-use Rattle.closure.specs.GroupRegions.{AreRegions}
-use Rattle.closure.specs.Groups.{IsGrouped, list_of, position_at}
-use Rattle.closure.specs.Hits.{AreHits}
+use Rattle.cellset.specs.{CellSet.Cells, declared.cell.Cell.Cell}
+use Rattle.board.specs.{Board.IsWellFormed, Game.Level, Game.State}
+use Rattle.closure.specs.{Pattern.Covers, Closed.AreLawful, Trap.IsTrapOf, declared.lookup.Scratch.Scratch, declared.tables.Tables.Tables, Buckets.AreBuckets}
+use Rattle.closure.specs.{declared.groups.Groups.Groups, GroupRegions.AreRegions, Groups.IsGrouped, Groups.list_of, Groups.position_at, Hits.AreHits}
 use Rattle.closure.specs.SpanningTree.{IsTree}
 
 pub record AreTables {S : Type 0} (tables : Tables S) : Type 0 where

@@ -1,18 +1,10 @@
 //! The check of lawful patterns: whether the list covers the start and what each push out of its patterns leads to.
 ghost use Rattle.std.specs.Prelude.{◌≡◌, ◌≢◌, ◌<◌, ◌↔◌, ℕ, Bool, IsTrue, IfOk, IfErr, OnOk, MatchOption, length, slice_index_or};
 ghost use Rattle.std.specs.List.{Contains};
-ghost use Rattle.cellset.specs.Cell.{IsOn, neighbor};
-ghost use Rattle.cellset.specs.CellSet.{Has, Lacks};
-ghost use Rattle.cellset.specs.declared.cell.Cell.{Cell as GridCell};
-ghost use Rattle.cellset.specs.declared.dir.Dir.{Dir as GridDir};
+ghost use Rattle.cellset.specs.{Cell.IsOn, Cell.neighbor, CellSet.Has, CellSet.Lacks, declared.cell.Cell.Cell as GridCell, declared.dir.Dir.Dir as GridDir};
 ghost use Rattle.board.specs.Game.{start};
-ghost use Rattle.closure.specs.Pattern.{Pattern as PatternSet, IsCovered};
-ghost use Rattle.closure.specs.Closed.{AreLawful, CoversPushesOf, Closed};
-ghost use Rattle.closure.specs.FirstFault.{IsFirstPatternFault};
-ghost use Rattle.closure.specs.Arena.{lines_in, list_in};
-ghost use Rattle.closure.specs.Run.{state_after, AllLead, IsFirstAstray};
-ghost use Rattle.closure.specs.GroupPushes.{AreNoted};
-ghost use Rattle.closure.specs.Groups.{list_of};
+ghost use Rattle.closure.specs.{Pattern.Pattern as PatternSet, Pattern.IsCovered, Closed.AreLawful, Closed.CoversPushesOf, Closed.Closed, GroupPushes.AreNoted};
+ghost use Rattle.closure.specs.{FirstFault.IsFirstPatternFault, Arena.lines_in, Arena.list_in, Run.state_after, Run.AllLead, Run.IsFirstAstray, Groups.list_of};
 ghost use Rattle.closure.specs.Tables.{AreFilled, AreTables, IsRoomy};
 
 use crate::arena::Arena;

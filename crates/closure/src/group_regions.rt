@@ -4,12 +4,8 @@
 //! all that is free, and nothing is flooded.
 ghost use Rattle.std.specs.Prelude.{◌≡◌, ◌+◌, ◌<◌, ◌≤◌, ◌↔◌, ◌⊎◌, ℕ, length, slice_index_or, IfOk, IsTrue, MatchBool};
 ghost use Rattle.std.specs.FinSet as set;
-ghost use Rattle.cellset.specs.Cell.{IsOn};
-ghost use Rattle.cellset.specs.CellSet.{Has, Lacks};
-ghost use Rattle.cellset.specs.declared.cell.Cell.{Cell as GridCell};
-ghost use Rattle.closure.specs.Closed.{AreLawful};
-ghost use Rattle.closure.specs.Around.{AreSidesJoined, IsFlooded, IsOnePiece};
-ghost use Rattle.closure.specs.GroupRegions.{AreRegions, no_sides};
+ghost use Rattle.cellset.specs.{Cell.IsOn, CellSet.Has, CellSet.Lacks, declared.cell.Cell.Cell as GridCell};
+ghost use Rattle.closure.specs.{Closed.AreLawful, Around.AreSidesJoined, Around.IsFlooded, Around.IsOnePiece, GroupRegions.AreRegions, GroupRegions.no_sides};
 ghost use Rattle.closure.specs.Groups.{HasSeedsFrom, HasSeedsOnly, HasStar, IsGrouped, list_of};
 ghost use Rattle.closure.specs.Sides.{IsAround, cell_no, cells_in};
 

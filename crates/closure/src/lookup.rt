@@ -4,15 +4,9 @@
 //! boxes, the boxes decide. If it isn't, follow the player's path to the root of the tree. The first box of the group on it decides, by
 //! the side on which the path meets the box. If the path meets none of its boxes, the root decides.
 ghost use Rattle.std.specs.Prelude.{◌≡◌, ◌≤◌, ◌<◌, ◌↔◌, ℕ, IfOk, IsTrue, MatchOption, length, slice_index, vec_capacity};
-ghost use Rattle.cellset.specs.Cell.{IsOn};
-ghost use Rattle.cellset.specs.CellSet.{Has, Lacks};
-ghost use Rattle.closure.specs.Pattern.{InPatternRegion, Covers, IsCovered};
-ghost use Rattle.closure.specs.Sides.{cells_in};
-ghost use Rattle.closure.specs.CellIndex.{index_of};
-ghost use Rattle.closure.specs.GroupPushes.{IsPushOf};
-ghost use Rattle.closure.specs.Groups.{boxes_of, list_of, position_at};
-ghost use Rattle.closure.specs.Hits.{AreHits};
-ghost use Rattle.closure.specs.Run.{state_after};
+ghost use Rattle.cellset.specs.{Cell.IsOn, CellSet.Has, CellSet.Lacks};
+ghost use Rattle.closure.specs.{Pattern.InPatternRegion, Pattern.Covers, Pattern.IsCovered, Sides.cells_in, CellIndex.index_of, GroupPushes.IsPushOf};
+ghost use Rattle.closure.specs.{Groups.boxes_of, Groups.list_of, Groups.position_at, Hits.AreHits, Run.state_after};
 ghost use Rattle.closure.specs.Tables.{AreFilled, GroupCovers, IsReadyFor, IsRoomy};
 
 use crate::cells::{number_of, stand_beside};

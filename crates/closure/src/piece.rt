@@ -7,15 +7,8 @@
 //! This module exists for speed. Without it each push that hints don't settle costs a lookup among all groups. It doesn't help where only
 //! groups with a box on the cell ahead cover the result, and less the more pieces there are.
 ghost use Rattle.std.specs.Prelude.{◌≡◌, ◌⊎◌, ◌<◌, IfOk, IsTrue, length};
-ghost use Rattle.cellset.specs.Cell.{IsOn};
-ghost use Rattle.cellset.specs.CellSet.{Cells, Has, Lacks};
-ghost use Rattle.cellset.specs.declared.cell.Cell.{Cell as GridCell};
-ghost use Rattle.closure.specs.Pattern.{IsCovered};
-ghost use Rattle.closure.specs.Piece.{IsPiece, IsPieceSpace};
-ghost use Rattle.closure.specs.Run.{state_after};
-ghost use Rattle.closure.specs.Sides.{cells_in};
-ghost use Rattle.closure.specs.GroupPushes.{IsPushOf};
-ghost use Rattle.closure.specs.Groups.{list_of};
+ghost use Rattle.cellset.specs.{Cell.IsOn, CellSet.Cells, CellSet.Has, CellSet.Lacks, declared.cell.Cell.Cell as GridCell};
+ghost use Rattle.closure.specs.{Pattern.IsCovered, Piece.IsPiece, Piece.IsPieceSpace, Run.state_after, Sides.cells_in, GroupPushes.IsPushOf, Groups.list_of};
 ghost use Rattle.closure.specs.Tables.{AreFilled};
 
 use crate::cells::{is_same, number_of};

@@ -5,19 +5,12 @@
 //! group that covered the last state is asked, then the groups that lack the pushed box (`piece`), then those in the bucket of its new
 //! cell, and then all groups.
 ghost use Rattle.std.specs.Prelude.{◌≡◌, ◌<◌, ◌↔◌, IsTrue, IfOk, IfSome, MatchOption, length};
-ghost use Rattle.cellset.specs.Cell.{IsOn};
-ghost use Rattle.cellset.specs.CellSet.{Has, Lacks};
-ghost use Rattle.cellset.specs.declared.cell.Cell.{Cell as GridCell};
+ghost use Rattle.cellset.specs.{Cell.IsOn, CellSet.Has, CellSet.Lacks, declared.cell.Cell.Cell as GridCell};
 ghost use Rattle.reach.specs.Region.{IsFree};
 ghost use Rattle.board.specs.Game.{moved};
-ghost use Rattle.closure.specs.Pattern.{IsCovered};
-ghost use Rattle.closure.specs.Closed.{CoversPushesOf};
-ghost use Rattle.closure.specs.Run.{state_after};
-ghost use Rattle.closure.specs.Sides.{cell_no, cells_in};
+ghost use Rattle.closure.specs.{Pattern.IsCovered, Closed.CoversPushesOf, Run.state_after, Sides.cell_no, Sides.cells_in, Groups.list_of, Groups.position_at};
 ghost use Rattle.closure.specs.GroupPushes.{AreNoted, CoversFrom, CoversToward, HasNoPush, IsLoaded, IsPushAt, IsPushOf, IsPushedBox, IsReady, IsStepBack, pushed_cell};
-ghost use Rattle.closure.specs.Groups.{list_of, position_at};
-ghost use Rattle.closure.specs.Tables.{AreFilled, AreTables};
-ghost use Rattle.closure.specs.Trap.{AreOff};
+ghost use Rattle.closure.specs.{Tables.AreFilled, Tables.AreTables, Trap.AreOff};
 
 use crate::cells::{is_same, load, number_of};
 use crate::hints::{TRIES, hash_of, hash_with, hash_without};

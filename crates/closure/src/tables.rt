@@ -1,16 +1,9 @@
 //! The tables of an index: all that is kept of a list of patterns.
 ghost use Rattle.std.specs.Prelude.{◌≡◌, ◌+◌, ◌*◌, ◌<◌, ◌≤◌, ◌↔◌, IfOk, IsTrue, MatchBool, OnOk, length};
 ghost use Rattle.std.specs.FinSet as finset;
-ghost use Rattle.cellset.specs.CellSet.{Has, Lacks};
-ghost use Rattle.cellset.specs.declared.cell.Cell.{Cell as GridCell};
-ghost use Rattle.closure.specs.Pattern.{InPatternRegion};
-ghost use Rattle.closure.specs.Sides.{IsAround, cell_no, cells_in};
-ghost use Rattle.closure.specs.Closed.{AreLawful};
-ghost use Rattle.closure.specs.Arena.{list_in};
-ghost use Rattle.closure.specs.Trap.{AreOff, IsTrapOf};
-ghost use Rattle.closure.specs.Buckets.{AreBuckets};
-ghost use Rattle.closure.specs.CellIndex.{index_of};
-ghost use Rattle.closure.specs.Groups.{IsGrouped, boxes_of, list_of, position_at};
+ghost use Rattle.cellset.specs.{CellSet.Has, CellSet.Lacks, declared.cell.Cell.Cell as GridCell};
+ghost use Rattle.closure.specs.{Pattern.InPatternRegion, Sides.IsAround, Sides.cell_no, Sides.cells_in, Closed.AreLawful, Arena.list_in, Buckets.AreBuckets};
+ghost use Rattle.closure.specs.{Trap.AreOff, Trap.IsTrapOf, CellIndex.index_of, Groups.IsGrouped, Groups.boxes_of, Groups.list_of, Groups.position_at};
 ghost use Rattle.closure.specs.Tables.{AreFilled, AreTables};
 
 use crate::arena::{Arena, to_u32};

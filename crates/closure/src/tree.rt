@@ -3,11 +3,8 @@
 //! From each cell of the room a path leads from parent to parent to the root, the player's cell at the start. Lookups follow it (`lookup`).
 ghost use Rattle.std.specs.Prelude.{◌≡◌, ◌+◌, ◌<◌, ◌≤◌, ℕ, IfOk, OnOk, length, slice_index_or};
 ghost use Rattle.std.specs.FinSet as set;
-ghost use Rattle.cellset.specs.Cell.{neighbor};
-ghost use Rattle.cellset.specs.CellSet.{Has, Lacks};
-ghost use Rattle.cellset.specs.declared.cell.Cell.{Cell as GridCell};
-ghost use Rattle.closure.specs.CellIndex.{index_of};
-ghost use Rattle.closure.specs.SpanningTree.{AreJoinedBeside, IsTree, IsGrowing};
+ghost use Rattle.cellset.specs.{Cell.neighbor, CellSet.Has, CellSet.Lacks, declared.cell.Cell.Cell as GridCell};
+ghost use Rattle.closure.specs.{CellIndex.index_of, SpanningTree.AreJoinedBeside, SpanningTree.IsTree, SpanningTree.IsGrowing};
 ghost use Rattle.closure.specs.declared.tree.Node.{Node as NodeValue};
 
 use board::Board;

@@ -1,5 +1,4 @@
-use Rattle.std.proofs.Common.{ℕ, ◌<◌}
-use Rattle.std.specs.Prelude.{IsTrue, false, slice_index_or}
+use Rattle.std.{proofs.Common.ℕ, proofs.Common.◌<◌, specs.Prelude.IsTrue, specs.Prelude.false, specs.Prelude.slice_index_or}
 use Rattle.closure.proofs.checking.are_all.Given as goal
 
 abbrev pub invariant-loop-note : goal.invariant-loop-note

@@ -1,6 +1,4 @@
-use Rattle.std.proofs.Common.{refl}
-use Rattle.std.proofs.lemmas.Bool.{false≢true}
-use Rattle.std.proofs.lemmas.Result.{on_ok_weaker}
+use Rattle.std.proofs.{Common.refl, lemmas.Bool.false≢true, lemmas.Result.on_ok_weaker}
 use Rattle.closure.proofs.checking.check_covering.Goals as goal
 
 pub returns-then-not-is_any_covering-clause-exact : goal.returns-then-not-is_any_covering-clause-exact

@@ -1,5 +1,4 @@
-use Rattle.closure.specs.Arena.{list_in}
-use Rattle.closure.proofs.Traps.{closed_trapped}
+use Rattle.closure.{specs.Arena.list_in, proofs.Traps.closed_trapped}
 use Rattle.closure.proofs.checking.check_lawful.Goals as goal
 
 pub returns-then-meets-clause-ok : goal.returns-then-meets-clause-ok

@@ -3,17 +3,10 @@
 -- other line `first_push` decides. If it returns a push, that is the line's first one whose result isn't covered, and the lines before
 -- it are fine, so it is the first fault of the list (`FirstLines.antt`).
 use Rattle.std.proofs.Common.{◌≡◌, ℕ, ◌<◌, length, refl, sym, ◌∙◌, ap, arith}
-use Rattle.std.specs.Prelude.{slice_index}
-use Rattle.std.proofs.lemmas.List.{get_or-map, length-map}
+use Rattle.std.{specs.Prelude.slice_index, proofs.lemmas.List.get_or-map, proofs.lemmas.List.length-map}
 use Rattle.answers.specs.Body.{PatternLine}
-use Rattle.closure.specs.Arena.{line_at, line_in, lines_in, pattern_at}
-use Rattle.closure.specs.Closed.{CoversPushesOf}
-use Rattle.closure.specs.FirstFault.{HasFirstUncovered}
-use Rattle.closure.specs.Pattern.{Pattern}
-use Rattle.closure.specs.Groups.{list_of}
-use Rattle.closure.proofs.Arenas.{list_long}
-use Rattle.closure.proofs.CellLists.{at_any}
-use Rattle.closure.proofs.GroupPushes.{pattern_of_group}
+use Rattle.closure.specs.{Arena.line_at, Arena.line_in, Arena.lines_in, Arena.pattern_at, Closed.CoversPushesOf, FirstFault.HasFirstUncovered, Pattern.Pattern}
+use Rattle.closure.{specs.Groups.list_of, proofs.Arenas.list_long, proofs.CellLists.at_any, proofs.GroupPushes.pattern_of_group}
 use Rattle.closure.proofs.FirstLines.{each_pattern, one_more, first_line}
 use Rattle.closure.proofs.checking.check_pushes.Goals as goal
 

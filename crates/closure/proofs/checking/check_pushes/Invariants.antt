@@ -1,8 +1,5 @@
 use Rattle.std.proofs.Common.{◌≡◌, ◌<◌, ℕ}
-use Rattle.closure.specs.Arena.{pattern_at}
-use Rattle.closure.specs.Closed.{CoversPushesOf}
-use Rattle.closure.specs.Groups.{list_of}
-use Rattle.closure.specs.Tables.{IsRoomy}
+use Rattle.closure.specs.{Arena.pattern_at, Closed.CoversPushesOf, Groups.list_of, Tables.IsRoomy}
 use Rattle.closure.proofs.checking.check_pushes.Given as goal
 
 abbrev pub invariant-loop-line : goal.invariant-loop-line

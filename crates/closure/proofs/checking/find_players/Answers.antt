@@ -1,10 +1,8 @@
 -- The invariant says that the players' cells are of the region, and that they have each neighbour in the region of a box that came. After
 -- the loop all boxes came. A cell is on the other side of the box that it is beside.
 use Rattle.std.proofs.Common.{sym, ◌∙◌, subst, arith}
-use Rattle.cellset.specs.Cell.{IsOn, neighbor, opposite}
-use Rattle.cellset.proofs.MemberLists.{all_came, next_has}
-use Rattle.cellset.proofs.Members.{has_empty}
-use Rattle.cellset.proofs.Neighbors.{neighbor_back}
+use Rattle.cellset.{specs.Cell.IsOn, specs.Cell.neighbor, specs.Cell.opposite, proofs.MemberLists.all_came, proofs.MemberLists.next_has}
+use Rattle.cellset.proofs.{Members.has_empty, Neighbors.neighbor_back}
 use Rattle.closure.proofs.checking.find_players.Goals as goal
 use Rattle.closure.proofs.checking.find_players.Goals.{In-Some}
 

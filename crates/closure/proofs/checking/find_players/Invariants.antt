@@ -1,10 +1,5 @@
-use Rattle.std.proofs.Common.{◌≡◌, ◌++◌}
-use Rattle.std.specs.List.{Contains}
-use Rattle.cellset.specs.Cell.{neighbor}
-use Rattle.cellset.specs.CellSet.{Has}
-use Rattle.cellset.specs.Members.{AreMembersOf}
-use Rattle.cellset.specs.declared.cell.Cell.{Cell}
-use Rattle.cellset.specs.declared.dir.Dir.{Dir}
+use Rattle.std.{proofs.Common.◌≡◌, proofs.Common.◌++◌, specs.List.Contains}
+use Rattle.cellset.specs.{Cell.neighbor, CellSet.Has, Members.AreMembersOf, declared.cell.Cell.Cell, declared.dir.Dir.Dir}
 use Rattle.closure.proofs.checking.find_players.Given as goal
 
 abbrev pub invariant-loop-from : goal.invariant-loop-from

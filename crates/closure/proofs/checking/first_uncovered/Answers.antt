@@ -2,16 +2,11 @@
 -- push out of the region, so it moves one of the boxes to a cell of the grid that is free, as `is_covered_after` requires. If its result
 -- isn't covered, it is the first such push, because what comes before it in the order came before it. If none is left, all results are
 -- covered.
-use Rattle.std.proofs.Common.{refl, sym, ◌∙◌, subst}
-use Rattle.std.proofs.lemmas.Bool.{false≢true}
+use Rattle.std.proofs.{Common.refl, Common.sym, Common.◌∙◌, Common.subst, lemmas.Bool.false≢true}
 use Rattle.std.proofs.lemmas.List.Elements.{All-push, All-contains}
-use Rattle.cellset.specs.Cell.{IsOn}
-use Rattle.cellset.specs.CellSet.{Has, Lacks}
-use Rattle.reach.specs.Pushes.{ArePushesOut, IsPushOut}
-use Rattle.reach.proofs.PushRuns.{next_is_out, came_before, all_came}
-use Rattle.closure.specs.Pattern.{IsCovered}
-use Rattle.closure.specs.Run.{state_after}
-use Rattle.closure.specs.Groups.{list_of}
+use Rattle.cellset.specs.{Cell.IsOn, CellSet.Has, CellSet.Lacks}
+use Rattle.reach.{specs.Pushes.ArePushesOut, specs.Pushes.IsPushOut, proofs.PushRuns.next_is_out, proofs.PushRuns.came_before, proofs.PushRuns.all_came}
+use Rattle.closure.specs.{Pattern.IsCovered, Run.state_after, Groups.list_of}
 use Rattle.closure.proofs.checking.first_uncovered.Goals as goal
 use Rattle.closure.proofs.checking.first_uncovered.Goals.{After-into_iter-push-iterator, In-Some}
 

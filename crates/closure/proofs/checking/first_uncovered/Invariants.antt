@@ -1,9 +1,5 @@
-use Rattle.std.proofs.Common.{◌≡◌}
-use Rattle.std.specs.List.{All}
-use Rattle.closure.specs.Pattern.{IsCovered}
-use Rattle.closure.specs.Run.{state_after}
-use Rattle.closure.specs.Groups.{list_of}
-use Rattle.closure.specs.Tables.{IsRoomy}
+use Rattle.std.{proofs.Common.◌≡◌, specs.List.All}
+use Rattle.closure.specs.{Pattern.IsCovered, Run.state_after, Groups.list_of, Tables.IsRoomy}
 use Rattle.closure.proofs.checking.first_uncovered.Given as goal
 
 abbrev pub invariant-loop-push : goal.invariant-loop-push

@@ -1,10 +1,7 @@
 use Rattle.std.proofs.Common.{refl, arith}
 use Rattle.board.specs.Game.{start}
-use Rattle.closure.specs.Groups.{boxes_of, list_of}
-use Rattle.closure.proofs.CellLists.{in_list}
-use Rattle.closure.proofs.Grouped.{boxes_on, covered_of_group}
-use Rattle.closure.proofs.Lookups.{all_beside}
-use Rattle.closure.proofs.Traps.{start_trapped}
+use Rattle.closure.{specs.Groups.boxes_of, specs.Groups.list_of, proofs.CellLists.in_list, proofs.Grouped.boxes_on, proofs.Grouped.covered_of_group}
+use Rattle.closure.proofs.{Lookups.all_beside, Traps.start_trapped}
 use Rattle.closure.proofs.checking.is_start_found.Goals as goal
 
 pub returns-then-meets : goal.returns-then-meets

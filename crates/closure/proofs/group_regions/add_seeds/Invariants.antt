@@ -1,5 +1,4 @@
-use Rattle.std.proofs.Common.{◌≡◌, take}
-use Rattle.std.specs.Prelude.{◌⊎◌, ◌↔◌}
+use Rattle.std.{proofs.Common.◌≡◌, proofs.Common.take, specs.Prelude.◌⊎◌, specs.Prelude.◌↔◌}
 use Rattle.cellset.specs.{CellSet.Has, declared.cell.Cell.Cell}
 use Rattle.closure.specs.Sides.{cells_in}
 use Rattle.closure.proofs.group_regions.add_seeds.Given as goal

@@ -2,8 +2,7 @@
 -- of the group, and all free seeds of its lines from `at` on, and that line `at` - 1 is one of them if there is one. A turn adds the free
 -- seeds of this line and goes to the last line of the group before it, so it skips none (`IsLast`). A line that says `*` is what the
 -- result false reports. At the end of the chain no line of the group comes earlier, so the seeds of all its lines are there.
-use Rattle.std.proofs.Common.{◌∙◌, arith}
-use Rattle.std.proofs.lemmas.Bool.{cases_lt}
+use Rattle.std.proofs.{Common.◌∙◌, Common.arith, lemmas.Bool.cases_lt}
 use Rattle.cellset.proofs.{Members.has_empty, Truth.either}
 use Rattle.closure.proofs.{CellLists.at_any, Grouped.seeds_more}
 use Rattle.closure.proofs.group_regions.seed.Goals as goal

@@ -1,10 +1,7 @@
 -- The invariant says that no group in the bucket of a box that came covers the state. A group that covers it has a box of the state for its
 -- bucket, so once all boxes of the state have come, no group covers it.
-use Rattle.std.proofs.Common.{◌∙◌, ap, sym, subst}
-use Rattle.std.proofs.lemmas.List.Elements.{Contains-push_cases}
-use Rattle.cellset.specs.Cell.{IsOn}
-use Rattle.cellset.proofs.MemberLists.{all_came, next_has, next_came}
-use Rattle.cellset.proofs.Truth.{either}
+use Rattle.std.proofs.{Common.◌∙◌, Common.ap, Common.sym, Common.subst, lemmas.List.Elements.Contains-push_cases}
+use Rattle.cellset.{specs.Cell.IsOn, proofs.MemberLists.all_came, proofs.MemberLists.next_has, proofs.MemberLists.next_came, proofs.Truth.either}
 use Rattle.closure.specs.CellIndex.{index_of}
 use Rattle.closure.proofs.lookup.find_covering.Goals as goal
 

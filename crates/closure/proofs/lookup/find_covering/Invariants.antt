@@ -1,9 +1,6 @@
-use Rattle.std.proofs.Common.{◌≡◌, ◌++◌, ℕ, slice_index}
-use Rattle.std.specs.List.{Contains}
-use Rattle.cellset.specs.Members.{AreMembersOf}
-use Rattle.cellset.specs.declared.cell.Cell.{Cell}
-use Rattle.closure.specs.CellIndex.{index_of}
-use Rattle.closure.specs.Tables.{GroupCovers, IsReadyFor}
+use Rattle.std.{proofs.Common.◌≡◌, proofs.Common.◌++◌, proofs.Common.ℕ, proofs.Common.slice_index, specs.List.Contains}
+use Rattle.cellset.specs.{Members.AreMembersOf, declared.cell.Cell.Cell}
+use Rattle.closure.specs.{CellIndex.index_of, Tables.GroupCovers, Tables.IsReadyFor}
 use Rattle.closure.proofs.lookup.find_covering.Given as goal
 
 abbrev pub invariant-loop-cell : goal.invariant-loop-cell

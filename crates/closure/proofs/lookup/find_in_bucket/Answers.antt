@@ -3,11 +3,8 @@
 -- the last group of the bucket before it, so none is skipped (`none_more`). At the end of the chain none is left, so no group of the
 -- bucket covers the state.
 use Rattle.std.proofs.Common.{◌≡◌, ℕ, ◌-◌, ◌<◌, ◌≤◌, List, get_or, sym, ◌∙◌, ap, arith}
-use Rattle.std.specs.Prelude.{slice_index}
-use Rattle.std.proofs.lemmas.Bool.{cases_lt, false≢true}
-use Rattle.closure.specs.Chains.{AreChains, IsLast}
-use Rattle.closure.specs.CellIndex.{index_of}
-use Rattle.closure.specs.Tables.{GroupCovers}
+use Rattle.std.{specs.Prelude.slice_index, proofs.lemmas.Bool.cases_lt, proofs.lemmas.Bool.false≢true}
+use Rattle.closure.specs.{Chains.AreChains, Chains.IsLast, CellIndex.index_of, Tables.GroupCovers}
 use Rattle.closure.proofs.Lookups.{begun, led_on}
 use Rattle.closure.proofs.lookup.find_in_bucket.Goals as goal
 

@@ -1,6 +1,5 @@
 use Rattle.std.proofs.Common.{◌≡◌, ℕ, ◌<◌, ◌≤◌, ◌-◌, length, slice_index}
-use Rattle.closure.specs.CellIndex.{index_of}
-use Rattle.closure.specs.Tables.{GroupCovers, IsReadyFor}
+use Rattle.closure.specs.{CellIndex.index_of, Tables.GroupCovers, Tables.IsReadyFor}
 use Rattle.closure.proofs.lookup.find_in_bucket.Given as goal
 
 abbrev pub invariant-loop-at : goal.invariant-loop-at

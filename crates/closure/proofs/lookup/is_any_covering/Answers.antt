@@ -2,11 +2,9 @@
 -- If the group that covered the last state covers this one, or another group is found, the list covers it (`covered_of_group` in
 -- `Grouped.antt`). If none is found, no group covers the state, and so no pattern of the list does (`no_group_covers`). The path isn't
 -- walked at the start, so the hits of an earlier state are never used.
-use Rattle.std.proofs.Common.{sym, refl}
-use Rattle.std.proofs.lemmas.Bool.{false≢true}
+use Rattle.std.proofs.{Common.sym, Common.refl, lemmas.Bool.false≢true}
 use Rattle.cellset.proofs.Members.{not_both}
-use Rattle.closure.proofs.Grouped.{covered_of_group}
-use Rattle.closure.proofs.Lookups.{no_group_covers, player_in_room}
+use Rattle.closure.proofs.{Grouped.covered_of_group, Lookups.no_group_covers, Lookups.player_in_room}
 use Rattle.closure.proofs.lookup.is_any_covering.Goals as goal
 
 pub returns-then-not-contains-clause-exact : goal.returns-then-not-contains-clause-exact

@@ -2,20 +2,11 @@
 -- group is missing or the player is on one, and a region has no cell of its own boxes (`Regions.antt`). Otherwise, if the region is
 -- `whole`, it has every cell of the room without the boxes, and so the player's. If it isn't, `is_inside` decides by the hits on the path,
 -- which serve for the group because its boxes are among the boxes of the state.
-use Rattle.std.proofs.Common.{get_or, refl, sym, subst}
-use Rattle.std.proofs.lemmas.Bool.{false≢true}
-use Rattle.cellset.specs.CellSet.{Has, Lacks}
-use Rattle.cellset.specs.declared.cell.Cell.{Cell}
-use Rattle.cellset.proofs.Members.{not_both}
-use Rattle.closure.specs.Groups.{boxes_of, position_at}
-use Rattle.closure.specs.Hits.{HitsDecide}
-use Rattle.closure.specs.Sides.{cells_in}
-use Rattle.closure.proofs.CellLists.{in_list}
-use Rattle.closure.proofs.Grouped.{boxes_on}
-use Rattle.closure.proofs.Lookups.{all_beside}
-use Rattle.closure.proofs.Regions.{region_lacks}
+use Rattle.std.proofs.{Common.get_or, Common.refl, Common.sym, Common.subst, lemmas.Bool.false≢true}
+use Rattle.cellset.{specs.CellSet.Has, specs.CellSet.Lacks, specs.declared.cell.Cell.Cell, proofs.Members.not_both}
+use Rattle.closure.{specs.Groups.boxes_of, specs.Groups.position_at, specs.Hits.HitsDecide, specs.Sides.cells_in, proofs.CellLists.in_list}
+use Rattle.closure.proofs.{Grouped.boxes_on, Lookups.all_beside, Regions.region_lacks, lookup.is_covering.Goals.After-is_whole}
 use Rattle.closure.proofs.lookup.is_covering.Goals as goal
-use Rattle.closure.proofs.lookup.is_covering.Goals.{After-is_whole}
 
 pub stand_beside-requires : goal.stand_beside-requires
 stand_beside-requires g c = λ k d low.

@@ -2,15 +2,9 @@
 -- a box of the group. So the first hit that is one decides: the player is in the region exactly if the region lies on the side of the box
 -- where the path meets it, which the facts about the region have. If no hit is a box of the group, the root decides, and these facts have
 -- that too.
-use Rattle.std.proofs.Common.{get_or, sym, ◌∙◌, ap, arith}
-use Rattle.std.specs.Prelude.{◌↔◌, IsTrue}
-use Rattle.cellset.specs.Cell.{neighbor}
-use Rattle.cellset.specs.declared.dir.Dir.TheVariants.{L}
-use Rattle.closure.specs.Pattern.{InPatternRegion}
-use Rattle.closure.specs.Sides.{cell_no}
-use Rattle.closure.specs.Groups.{position_at}
-use Rattle.closure.specs.declared.tree.Hit.{Hit}
-use Rattle.closure.proofs.Turns.{through}
+use Rattle.std.{proofs.Common.get_or, proofs.Common.sym, proofs.Common.◌∙◌, proofs.Common.ap, proofs.Common.arith, specs.Prelude.◌↔◌, specs.Prelude.IsTrue}
+use Rattle.cellset.specs.{Cell.neighbor, declared.dir.Dir.TheVariants.L}
+use Rattle.closure.{specs.Pattern.InPatternRegion, specs.Sides.cell_no, specs.Groups.position_at, specs.declared.tree.Hit.Hit, proofs.Turns.through}
 use Rattle.closure.proofs.CellLists.{in_list, no_cell}
 use Rattle.closure.proofs.lookup.is_inside.Goals as goal
 

@@ -4,16 +4,10 @@
 -- with the side on which the path meets it (`hits_to`). A parent has a lower number, so the walk ends at the root and makes fewer hits
 -- than there are nodes, for which there is room.
 use Rattle.std.proofs.Common.{◌≡◌, ◌<◌, length, get_or, sym, ◌∙◌, ap, subst, arith}
-use Rattle.cellset.specs.Cell.{neighbor, opposite}
-use Rattle.cellset.specs.declared.dir.Dir.TheVariants.{L}
-use Rattle.closure.specs.Hits.{HitsDecide}
-use Rattle.closure.specs.declared.tree.Hit.{Hit}
-use Rattle.closure.specs.declared.tree.Node.{Node}
-use Rattle.closure.proofs.CellLists.{at_any}
-use Rattle.closure.proofs.Hits.{hits_on, hits_to}
-use Rattle.closure.proofs.Lists.{length_more}
+use Rattle.cellset.specs.{Cell.neighbor, Cell.opposite, declared.dir.Dir.TheVariants.L}
+use Rattle.closure.{specs.Hits.HitsDecide, specs.declared.tree.Hit.Hit, specs.declared.tree.Node.Node, proofs.CellLists.at_any, proofs.Lists.length_more}
+use Rattle.closure.proofs.{Hits.hits_on, Hits.hits_to, lookup.walk_to_root.Goals.After-index}
 use Rattle.closure.proofs.lookup.walk_to_root.Goals as goal
-use Rattle.closure.proofs.lookup.walk_to_root.Goals.{After-index}
 
 -- The parent of the present node has a lower number.
 falls : (g : _) (c : After-index g) → c.index-node.result.now.parent < c.loop-at.at

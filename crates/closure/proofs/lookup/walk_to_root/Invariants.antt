@@ -1,6 +1,5 @@
 use Rattle.std.proofs.Common.{◌<◌, ◌≤◌, ◌+◌, length, slice_index_or, vec_capacity}
-use Rattle.closure.specs.Hits.{AreHits}
-use Rattle.closure.specs.declared.tree.Node.{Node}
+use Rattle.closure.specs.{Hits.AreHits, declared.tree.Node.Node}
 use Rattle.closure.proofs.lookup.walk_to_root.Given as goal
 
 abbrev pub invariant-loop-at : goal.invariant-loop-at

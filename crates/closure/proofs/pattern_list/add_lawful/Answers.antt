@@ -2,10 +2,8 @@
 use Rattle.std.proofs.Common.{◌≡◌, ℕ, Ok, Err, Some, None, IfOk, List, ◌∷◌, [], ◌++◌, length, ap, ◌∙◌, arith}
 use Rattle.std.specs.Prelude.{MatchOption, Option, Result}
 use Rattle.std.proofs.lemmas.List.{get_or_push, length-map, map-append}
-use Rattle.answers.specs.Body.{PatternLine}
-use Rattle.answers.specs.Grammar.{said_pattern}
-use Rattle.closure.specs.Pattern.{pattern_of, patterns_of}
-use Rattle.closure.specs.Arena.{lines_in, pattern_at}
+use Rattle.answers.specs.{Body.PatternLine, Grammar.said_pattern}
+use Rattle.closure.specs.{Pattern.pattern_of, Pattern.patterns_of, Arena.lines_in, Arena.pattern_at}
 use Rattle.closure.proofs.pattern_list.add_lawful.Goals as goal
 
 last_pattern : (lines : List PatternLine) (l : PatternLine) (n : ℕ) → n ≡ length lines → pattern_at (patterns_of (lines ++ l ∷ [])) n ≡ pattern_of l

@@ -1,6 +1,5 @@
 use Rattle.std.proofs.Common.{◌≡◌, ◌⊎◌}
-use Rattle.cellset.specs.CellSet.{Has, Lacks}
-use Rattle.cellset.specs.declared.cell.Cell.{Cell}
+use Rattle.cellset.specs.{CellSet.Has, CellSet.Lacks, declared.cell.Cell.Cell}
 use Rattle.closure.specs.Sides.{cells_in}
 use Rattle.closure.proofs.piece.loosen.Given as goal
 

@@ -1,9 +1,6 @@
 use Rattle.std.proofs.Common.{sym, ◌∙◌, ap, subst}
 use Rattle.cellset.specs.Cell.{neighbor, opposite}
-use Rattle.closure.specs.Pattern.{InPatternRegion}
-use Rattle.closure.specs.Sides.{cell_no, cells_in}
-use Rattle.closure.specs.Groups.{position_at}
-use Rattle.closure.proofs.GroupPushes.{covers_result}
+use Rattle.closure.{specs.Pattern.InPatternRegion, specs.Sides.cell_no, specs.Sides.cells_in, specs.Groups.position_at, proofs.GroupPushes.covers_result}
 use Rattle.closure.proofs.pushes.covers_after.Goals as goal
 
 pub returns-in-Some : goal.returns-in-Some

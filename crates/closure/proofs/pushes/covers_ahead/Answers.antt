@@ -1,10 +1,6 @@
 use Rattle.std.proofs.Common.{sym, ◌∙◌, ap, subst}
 use Rattle.cellset.specs.Cell.{neighbor, opposite}
-use Rattle.closure.specs.Pattern.{InPatternRegion}
-use Rattle.closure.specs.Sides.{cell_no}
-use Rattle.closure.specs.Groups.{position_at}
-use Rattle.closure.proofs.CellLists.{empty_lacks}
-use Rattle.closure.proofs.Grouped.{boxes_on}
+use Rattle.closure.{specs.Pattern.InPatternRegion, specs.Sides.cell_no, specs.Groups.position_at, proofs.CellLists.empty_lacks, proofs.Grouped.boxes_on}
 use Rattle.closure.proofs.GroupPushes.{covers_result}
 use Rattle.closure.proofs.pushes.covers_ahead.Goals as goal
 

@@ -1,9 +1,6 @@
-use Rattle.std.proofs.Common.{◌≡◌, true, sym, ◌∙◌}
-use Rattle.std.proofs.lemmas.Bool.{false≢true}
-use Rattle.cellset.specs.declared.dir.Dir.{Dir}
-use Rattle.cellset.specs.declared.dir.Dir.TheVariants.{L, U, R}
-use Rattle.closure.specs.GroupPushes.{CoversToward, pushed_cell}
-use Rattle.closure.specs.Groups.{list_of, position_at}
+use Rattle.std.proofs.{Common.◌≡◌, Common.true, Common.sym, Common.◌∙◌, lemmas.Bool.false≢true}
+use Rattle.cellset.specs.declared.dir.Dir.{Dir, TheVariants.L, TheVariants.U, TheVariants.R}
+use Rattle.closure.specs.{GroupPushes.CoversToward, GroupPushes.pushed_cell, Groups.list_of, Groups.position_at}
 use Rattle.closure.proofs.GroupPushes.{covered_each_way}
 use Rattle.closure.proofs.pushes.covers_each_way.Goals as goal
 use Rattle.closure.proofs.pushes.covers_each_way.Goals.{then-covers_toward, else-covers_toward, then-covers_toward-2, else-covers_toward-2}

@@ -3,10 +3,7 @@
 -- (`sides_of`), so `covers_each_way` may be called for it. Every push out of the group moves one of its boxes, so after the loop the list
 -- covers them all (`covered_each_box`). The result false claims nothing.
 use Rattle.std.proofs.Common.{ap}
-use Rattle.closure.specs.Sides.{cells_in}
-use Rattle.closure.specs.Groups.{list_of, position_at}
-use Rattle.closure.proofs.Grouped.{boxes_on}
-use Rattle.closure.proofs.GroupPushes.{covered_each_box}
+use Rattle.closure.{specs.Sides.cells_in, specs.Groups.list_of, specs.Groups.position_at, proofs.Grouped.boxes_on, proofs.GroupPushes.covered_each_box}
 use Rattle.closure.proofs.pushes.covers_pushes_of.Goals as goal
 
 pub returns-clause-covered : goal.returns-clause-covered

@@ -1,8 +1,5 @@
-use Rattle.std.proofs.Common.{ℕ, ◌<◌}
-use Rattle.std.specs.Prelude.{IfSome}
-use Rattle.closure.specs.GroupPushes.{CoversFrom, IsLoaded, IsReady}
-use Rattle.closure.specs.Groups.{list_of, position_at}
-use Rattle.closure.specs.Sides.{cell_no, cells_in}
+use Rattle.std.{proofs.Common.ℕ, proofs.Common.◌<◌, specs.Prelude.IfSome}
+use Rattle.closure.specs.{GroupPushes.CoversFrom, GroupPushes.IsLoaded, GroupPushes.IsReady, Groups.list_of, Groups.position_at, Sides.cell_no, Sides.cells_in}
 use Rattle.closure.proofs.pushes.covers_pushes_of.Given as goal
 
 abbrev pub invariant-loop-number : goal.invariant-loop-number

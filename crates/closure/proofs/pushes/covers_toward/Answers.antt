@@ -1,16 +1,10 @@
 -- A push to the trap is covered (`toward_trap`). Any other one leaves no box on the trap, so hints and lookups may be asked of its result
 -- (`off_after`), and if one of its pushes in the direction is covered, so are all of them (`covered_one`).
-use Rattle.std.proofs.Common.{refl, subst}
-use Rattle.std.proofs.lemmas.Bool.{false≢true}
-use Rattle.cellset.specs.CellSet.{Has}
-use Rattle.cellset.proofs.Members.{lacks_where}
-use Rattle.closure.specs.Sides.{cells_in}
-use Rattle.closure.specs.GroupPushes.{pushed_cell}
-use Rattle.closure.specs.Groups.{list_of, position_at}
-use Rattle.closure.proofs.CellLists.{in_list, no_cell}
-use Rattle.closure.proofs.Grouped.{box_floor, boxes_on}
+use Rattle.std.proofs.{Common.refl, Common.subst, lemmas.Bool.false≢true}
+use Rattle.cellset.{specs.CellSet.Has, proofs.Members.lacks_where}
+use Rattle.closure.{specs.Sides.cells_in, specs.GroupPushes.pushed_cell, specs.Groups.list_of, specs.Groups.position_at, proofs.Traps.off_after}
+use Rattle.closure.proofs.{CellLists.in_list, CellLists.no_cell, Grouped.box_floor, Grouped.boxes_on}
 use Rattle.closure.proofs.GroupPushes.{covered_one, push_in_box, toward_trap}
-use Rattle.closure.proofs.Traps.{off_after}
 use Rattle.closure.proofs.pushes.covers_toward.Goals as goal
 
 pub is_hinted-requires-clause-back : goal.is_hinted-requires-clause-back

@@ -1,8 +1,6 @@
-use Rattle.std.proofs.Common.{refl}
-use Rattle.std.proofs.lemmas.Bool.{false≢true}
+use Rattle.std.proofs.{Common.refl, lemmas.Bool.false≢true}
 use Rattle.cellset.proofs.Members.{not_both}
-use Rattle.closure.specs.Sides.{cells_in}
-use Rattle.closure.proofs.CellLists.{in_list, no_cell}
+use Rattle.closure.{specs.Sides.cells_in, proofs.CellLists.in_list, proofs.CellLists.no_cell}
 use Rattle.closure.proofs.pushes.is_free.Goals as goal
 
 pub returns-then-not-has : goal.returns-then-not-has

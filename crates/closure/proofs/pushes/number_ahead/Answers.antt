@@ -1,15 +1,11 @@
 -- Each cell that the loop has passed has a box after the push: it is the pushed box's new cell, or one of the boxes that isn't on the old
 -- cell. At the end these are all cells, and the number that was found is the pushed box's.
-use Rattle.std.proofs.Common.{◌≡◌, ◌<◌, IfSome, length, get_or, sym}
+use Rattle.std.proofs.{Common.◌≡◌, Common.◌<◌, Common.IfSome, Common.length, Common.get_or, Common.sym, lemmas.List.Elements.All-more}
 use Rattle.std.specs.Prelude.{None, Some}
 use Rattle.std.specs.FinSet as set
-use Rattle.std.proofs.lemmas.List.Elements.{All-more}
-use Rattle.cellset.specs.CellSet.{Has}
-use Rattle.cellset.specs.declared.cell.Cell.{Cell}
-use Rattle.cellset.proofs.Members.{inserted, kept_by_insert, kept_by_remove}
+use Rattle.cellset.{specs.CellSet.Has, specs.declared.cell.Cell.Cell, proofs.Members.inserted, proofs.Members.kept_by_insert, proofs.Members.kept_by_remove}
 use Rattle.board.specs.Game.{moved}
-use Rattle.closure.specs.Sides.{cell_no, cells_in}
-use Rattle.closure.proofs.CellLists.{each_of, in_list, no_cell}
+use Rattle.closure.{specs.Sides.cell_no, specs.Sides.cells_in, proofs.CellLists.each_of, proofs.CellLists.in_list, proofs.CellLists.no_cell}
 use Rattle.closure.proofs.pushes.number_ahead.Goals as goal
 
 pub loop-number-preserved-then-is_same : goal.loop-number-preserved-then-is_same

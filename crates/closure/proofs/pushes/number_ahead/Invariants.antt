@@ -1,5 +1,4 @@
-use Rattle.std.proofs.Common.{◌≡◌, ◌<◌, IfSome, length, take}
-use Rattle.std.specs.List.{All}
+use Rattle.std.{proofs.Common.◌≡◌, proofs.Common.◌<◌, proofs.Common.IfSome, proofs.Common.length, proofs.Common.take, specs.List.All}
 use Rattle.cellset.specs.CellSet.{Has}
 use Rattle.board.specs.Game.{moved}
 use Rattle.closure.specs.Sides.{cell_no}

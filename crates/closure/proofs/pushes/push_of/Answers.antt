@@ -2,15 +2,10 @@
 -- doesn't lie on the side from which the box is pushed, or that side is off the grid, the player can't come there (`unreached`). If the cell
 -- ahead is off the grid, or has a wall or a box, the box can't go there (`barred`). Otherwise the push is the one of this box in the
 -- direction. A cell of the region has no box (`region_lacks`), and any other cell ahead is compared with the boxes.
-use Rattle.std.proofs.Common.{refl, sym, ◌∙◌, ap}
-use Rattle.std.proofs.lemmas.Bool.{false≢true}
-use Rattle.cellset.specs.Cell.{neighbor, opposite}
-use Rattle.cellset.proofs.Neighbors.{neighbor_back}
-use Rattle.closure.specs.GroupPushes.{pushed_cell}
-use Rattle.closure.specs.Groups.{position_at}
-use Rattle.closure.proofs.Grouped.{group_in_room}
-use Rattle.closure.proofs.GroupPushes.{barred, pushed_on, unreached}
-use Rattle.closure.proofs.Regions.{region_lacks, region_on}
+use Rattle.std.proofs.{Common.refl, Common.sym, Common.◌∙◌, Common.ap, lemmas.Bool.false≢true}
+use Rattle.cellset.{specs.Cell.neighbor, specs.Cell.opposite, proofs.Neighbors.neighbor_back}
+use Rattle.closure.{specs.GroupPushes.pushed_cell, specs.Groups.position_at, proofs.Grouped.group_in_room}
+use Rattle.closure.proofs.{GroupPushes.barred, GroupPushes.pushed_on, GroupPushes.unreached, Regions.region_lacks, Regions.region_on}
 use Rattle.closure.proofs.pushes.push_of.Goals as goal
 use Rattle.closure.proofs.pushes.push_of.Goals.{else-not-has-2-via-then-not-has-2+else-not-is_free, else-not-has-2-via-else-not-has-2}
 

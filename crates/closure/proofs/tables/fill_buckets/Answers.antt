@@ -3,8 +3,7 @@
 -- indexes are within the table (`index_in`). After the loop every group has a key below the length of the table, so the groups can be
 -- chained by their keys.
 use Rattle.std.proofs.Common.{◌<◌, length, slice_index, ap, arith}
-use Rattle.closure.proofs.Lists.{length_more}
-use Rattle.closure.proofs.Lookups.{bucket_more, index_in, key_within, listed_some}
+use Rattle.closure.proofs.{Lists.length_more, Lookups.bucket_more, Lookups.index_in, Lookups.key_within, Lookups.listed_some}
 use Rattle.closure.proofs.tables.fill_buckets.Goals as goal
 
 pub rarest_box-requires-clause-some : goal.rarest_box-requires-clause-some

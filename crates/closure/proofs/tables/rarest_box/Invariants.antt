@@ -1,8 +1,6 @@
 use Rattle.std.proofs.Common.{◌≡◌}
-use Rattle.cellset.specs.CellSet.{Has}
-use Rattle.cellset.specs.declared.cell.Cell.{Cell}
-use Rattle.closure.specs.CellIndex.{index_of}
-use Rattle.closure.specs.Sides.{cells_in}
+use Rattle.cellset.specs.{CellSet.Has, declared.cell.Cell.Cell}
+use Rattle.closure.specs.{CellIndex.index_of, Sides.cells_in}
 use Rattle.closure.proofs.tables.rarest_box.Given as goal
 
 abbrev pub invariant-loop-cell : goal.invariant-loop-cell

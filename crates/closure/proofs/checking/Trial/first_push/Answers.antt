@@ -2,21 +2,12 @@
 -- push out of one is a push out of the other.
 use Rattle.std.proofs.Common.{List, sym, subst}
 use Rattle.std.specs.Prelude.{Option, None, Some, MatchOption}
-use Rattle.cellset.specs.Cell.{neighbor}
-use Rattle.cellset.specs.CellSet.{Cells, Has}
-use Rattle.cellset.specs.declared.cell.Cell.{Cell}
-use Rattle.cellset.specs.declared.dir.Dir.{Dir}
-use Rattle.reach.specs.Pushes.{IsPushOut}
-use Rattle.reach.specs.declared.pushes.Push.{Push}
+use Rattle.cellset.specs.{Cell.neighbor, CellSet.Cells, CellSet.Has, declared.cell.Cell.Cell, declared.dir.Dir.Dir}
+use Rattle.reach.specs.{Pushes.IsPushOut, declared.pushes.Push.Push}
 use Rattle.board.specs.Game.{Level}
-use Rattle.closure.specs.Arena.{pattern_in}
-use Rattle.closure.specs.Pattern.{Pattern, InPatternRegion, IsCovered, PushesOut}
-use Rattle.closure.specs.Closed.{IsLawful, CoversPushesOf}
-use Rattle.closure.specs.FirstFault.{IsFirstUncovered}
-use Rattle.closure.specs.Run.{AllLead, IsFirstAstray}
-use Rattle.closure.specs.Groups.{list_of}
-use Rattle.closure.proofs.Arenas.{listed_at}
-use Rattle.closure.proofs.Regions.{region_on}
+use Rattle.closure.specs.{Arena.pattern_in, Pattern.Pattern, Pattern.InPatternRegion, Pattern.IsCovered, Pattern.PushesOut, FirstFault.IsFirstUncovered}
+use Rattle.closure.specs.{Closed.IsLawful, Closed.CoversPushesOf, Run.AllLead, Run.IsFirstAstray, Groups.list_of}
+use Rattle.closure.proofs.{Arenas.listed_at, Regions.region_on}
 use Rattle.closure.proofs.checking.Trial.first_push.Goals as goal
 
 module _ (level : Level) (patterns : List Pattern) (pattern : Pattern) (players : Cells)

@@ -1,8 +1,7 @@
 -- The invariant says that the free cells are the room without the boxes so far, and that they are in one piece if `whole` still holds. The
 -- room is in one piece at the start. If the free neighbours of a box are joined without it, the free cells stay in one piece when it is
 -- taken out (`one_piece_without` in `Pieces.antt`). If that isn't sure, `whole` is false from then on and claims nothing.
-use Rattle.std.proofs.Common.{sym, ◌∙◌, inl, arith}
-use Rattle.std.proofs.lemmas.Bool.{false≢true}
+use Rattle.std.proofs.{Common.sym, Common.◌∙◌, Common.inl, Common.arith, lemmas.Bool.false≢true}
 use Rattle.cellset.{specs.CellSet.Has, proofs.Members.inserted, proofs.Members.kept_by_insert, proofs.Members.lacks_where, proofs.Members.not_both}
 use Rattle.closure.proofs.{CellLists.over_cells, Pieces.one_piece_without}
 use Rattle.closure.proofs.group_regions.Flood.take_out.Goals.{then-self, else-self}

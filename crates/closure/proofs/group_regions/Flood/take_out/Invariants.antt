@@ -1,5 +1,4 @@
-use Rattle.std.proofs.Common.{◌≡◌, take}
-use Rattle.std.specs.Prelude.{◌↔◌, IsTrue}
+use Rattle.std.{proofs.Common.◌≡◌, proofs.Common.take, specs.Prelude.◌↔◌, specs.Prelude.IsTrue}
 use Rattle.cellset.specs.{CellSet.Has, CellSet.Lacks, declared.cell.Cell.Cell}
 use Rattle.closure.specs.{Sides.cells_in, Around.IsOnePiece}
 use Rattle.closure.proofs.group_regions.Flood.take_out.Given as goal

@@ -1,5 +1,4 @@
-use Rattle.std.proofs.Common.{inl, inr, arith}
-use Rattle.std.proofs.lemmas.Bool.{false≢true}
+use Rattle.std.proofs.{Common.inl, Common.inr, Common.arith, lemmas.Bool.false≢true}
 use Rattle.cellset.proofs.Members.{has_empty, has_insert, inserted}
 use Rattle.closure.proofs.piece.Piece.begin.Goals as goal
 

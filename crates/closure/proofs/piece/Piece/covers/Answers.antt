@@ -1,10 +1,7 @@
 -- The piece has the player. So the group for which the pushed box is loose covers the state of this player, and then it covers the result
 -- (`loose_push` in `Loose.antt`).
 use Rattle.std.proofs.Common.{sym, ◌∙◌}
-use Rattle.closure.specs.Run.{state_after}
-use Rattle.closure.specs.Groups.{position_at}
-use Rattle.closure.proofs.Grouped.{covered_of_group}
-use Rattle.closure.proofs.Loose.{loose_push}
+use Rattle.closure.{specs.Run.state_after, specs.Groups.position_at, proofs.Grouped.covered_of_group, proofs.Loose.loose_push}
 use Rattle.closure.proofs.piece.Piece.covers.Goals as goal
 
 pub returns-clause-covered : goal.returns-clause-covered

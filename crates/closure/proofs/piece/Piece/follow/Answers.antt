@@ -1,9 +1,8 @@
 -- The link to the next group is below the one before it, so the loop ends (`led_on` in `Lookups.antt`). A group that covers the player makes
 -- the boxes that it lacks loose.
 use Rattle.std.proofs.Common.{◌-◌, ◌<◌, ◌∙◌, inl, inr, refl, arith}
-use Rattle.closure.proofs.Lookups.{led_on}
+use Rattle.closure.proofs.{Lookups.led_on, piece.Piece.follow.Goals.After-index}
 use Rattle.closure.proofs.piece.Piece.follow.Goals as goal
-use Rattle.closure.proofs.piece.Piece.follow.Goals.{After-index}
 
 -- The next link is lower.
 falls : (g : _) (c : After-index g) → c.index.result.now < c.loop-self.self.link

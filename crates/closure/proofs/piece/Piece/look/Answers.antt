@@ -1,9 +1,6 @@
 -- Each turn begins the bucket of one more box. The index of a box is within the table, and a link there leads to a group or to none.
 use Rattle.std.proofs.Common.{◌+◌, ◌*◌, ◌<◌, ◌∙◌, ap, get_or, arith}
-use Rattle.closure.specs.CellIndex.{index_of}
-use Rattle.closure.proofs.CellLists.{in_list, no_cell}
-use Rattle.closure.proofs.Lookups.{begun}
-use Rattle.closure.proofs.Spanning.{index_within}
+use Rattle.closure.{specs.CellIndex.index_of, proofs.CellLists.in_list, proofs.CellLists.no_cell, proofs.Lookups.begun, proofs.Spanning.index_within}
 use Rattle.closure.proofs.piece.Piece.look.Goals as goal
 use Rattle.closure.proofs.piece.Piece.look.Goals.{After-index_of}
 

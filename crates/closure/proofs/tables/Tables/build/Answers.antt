@@ -1,6 +1,4 @@
-use Rattle.std.proofs.Common.{◌≡◌, Bool, true, false}
-use Rattle.std.specs.Prelude.{MatchBool}
-use Rattle.std.proofs.lemmas.Bool.{false≢true}
+use Rattle.std.{proofs.Common.◌≡◌, proofs.Common.Bool, proofs.Common.true, proofs.Common.false, specs.Prelude.MatchBool, proofs.lemmas.Bool.false≢true}
 use Rattle.closure.proofs.tables.Tables.build.Goals as goal
 
 if_true : (b : Bool) (A B : Type 0) → b ≡ true → MatchBool b A B → A

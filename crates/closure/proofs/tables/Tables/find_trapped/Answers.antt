@@ -1,6 +1,5 @@
 use Rattle.std.proofs.Common.{◌∙◌}
-use Rattle.closure.specs.Groups.{list_of}
-use Rattle.closure.proofs.Traps.{no_trap}
+use Rattle.closure.{specs.Groups.list_of, proofs.Traps.no_trap}
 use Rattle.closure.proofs.tables.Tables.find_trapped.Goals as goal
 
 pub returns-clause-tables : goal.returns-clause-tables

@@ -1,7 +1,5 @@
-use Rattle.std.proofs.Common.{subst}
-use Rattle.std.proofs.lemmas.Bool.{false≢true}
-use Rattle.cellset.specs.CellSet.{Has}
-use Rattle.cellset.proofs.Members.{has_empty}
+use Rattle.std.proofs.{Common.subst, lemmas.Bool.false≢true}
+use Rattle.cellset.{specs.CellSet.Has, proofs.Members.has_empty}
 use Rattle.closure.proofs.tables.Tables.is_on_trap.Goals as goal
 
 pub returns-then-self : goal.returns-then-self

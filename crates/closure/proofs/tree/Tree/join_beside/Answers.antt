@@ -2,18 +2,11 @@
 -- no cell of the room, and a cell that isn't left was joined before, so nothing changes in the first two. In the last the cell is taken
 -- out of those left and gets the next number, with the given node as its parent (`laid_more` in `Spanning.antt`): one cell less is left,
 -- and there is one node more. In each the neighbour isn't left afterwards, if it is in the room.
-use Rattle.std.proofs.Common.{set, refl, sym, ◌∙◌, ap, subst, arith}
+use Rattle.std.proofs.{Common.set, Common.refl, Common.sym, Common.◌∙◌, Common.ap, Common.subst, Common.arith, lemmas.List.get_or_read}
 use Rattle.std.specs.Vec.{with_item}
-use Rattle.std.proofs.lemmas.List.{get_or_read}
-use Rattle.cellset.specs.Cell.{neighbor}
-use Rattle.cellset.proofs.Members.{remove_absent}
-use Rattle.closure.specs.CellIndex.{index_of}
-use Rattle.closure.specs.SpanningTree.{IsGrowing}
-use Rattle.closure.specs.declared.tree.Node.{Node}
-use Rattle.closure.specs.declared.tree.Tree.{Tree}
-use Rattle.closure.proofs.Counts.{len-remove_member}
-use Rattle.closure.proofs.Spanning.{lacks_remove, laid_more, index_within}
-use Rattle.closure.proofs.Lists.{length_more, old_item}
+use Rattle.cellset.{specs.Cell.neighbor, proofs.Members.remove_absent}
+use Rattle.closure.specs.{CellIndex.index_of, SpanningTree.IsGrowing, declared.tree.Node.Node, declared.tree.Tree.Tree}
+use Rattle.closure.proofs.{Counts.len-remove_member, Spanning.lacks_remove, Spanning.laid_more, Spanning.index_within, Lists.length_more, Lists.old_item}
 use Rattle.closure.proofs.Sets.{removed_lacks}
 use Rattle.closure.proofs.tree.Tree.join_beside.Goals as goal
 
