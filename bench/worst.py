@@ -24,6 +24,7 @@ def worst() -> Iterator[Worst]:
     yield corridor(side=255, lines=1500)
     yield one_way(side=255, levels=10)
     yield decoys(side=120, boxes=60, big=60, lines=1500)
+    yield decoys(side=120, boxes=60, big=60, lines=1500, ahead=True)
     yield squares(side=255, levels=100)
 
 
@@ -62,15 +63,18 @@ def one_way(side: int, levels: int) -> Worst:
                  (f"{walled(side, side, things)}//" * levels, ""), 300)
 
 
-def decoys(side: int, boxes: int, big: int, lines: int) -> Worst:
+def decoys(side: int, boxes: int, big: int, lines: int, ahead: bool = False) -> Worst:
     """Patterns of many boxes, each of whose pushes a pattern of all boxes but the pushed one
     covers, among lines of few boxes that match every state and cover none; and as many lines whose
-    boxes are elsewhere."""
+    boxes are elsewhere. With `ahead` the pattern that covers a push has the box where it goes."""
     plug, pocket = (2, 2), (3, 2)
     every = [(x, y) for y in range(9, side - 4, 4) for x in range(9, side - 4, 4)]
     some, rest = every[:boxes], every[boxes:]
-    heads = [some + [plug], *(some + [plug, it] for it in rest[:big]),
-             *([it for it in some if it != out] + [plug] for out in some)]
+    kept = [[it for it in some if it != out] for out in some]
+    if ahead:
+        kept = [[*it, to] for it, (x, y) in zip(kept, some)
+                for to in ((x, y - 1), (x - 1, y), (x + 1, y), (x, y + 1))]
+    heads = [some + [plug], *(some + [plug, it] for it in rest[:big]), *(it + [plug] for it in kept)]
     few = itertools.islice(itertools.combinations(some, 8), 0, None, 997)
     other = itertools.islice(itertools.combinations(rest, 8), 0, None, 997)
     things = {(side - 1, side - 1): "@", **dict.fromkeys(some + [plug], "$"),
@@ -80,8 +84,8 @@ def decoys(side: int, boxes: int, big: int, lines: int) -> Worst:
                      *(f"{spelled([*it, plug])} @ {spelled([pocket])}"
                        for it in itertools.islice(kind, lines))]) for kind in (few, other)]
     level = walled(side, side, things)
-    return Worst("lines that match every state and cover none", AUDIT, (level, texts[0]),
-                 (level, texts[1]), 8)
+    name = "lines that match every state and cover none" + ", with the box ahead" * ahead
+    return Worst(name, AUDIT, (level, texts[0]), (level, texts[1]), 16 if ahead else 8)
 
 
 def squares(side: int, levels: int) -> Worst:
