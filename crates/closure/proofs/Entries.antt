@@ -1,12 +1,11 @@
 -- An entry covers what its pattern covers. Its cells are the boxes of the pattern, and the player is on none of them; with the room, or
 -- the region of the entry, that is the pattern's region. So a list of entries, one for each pattern in turn, covers what the list of
 -- patterns covers.
-use Rattle.std.proofs.Common.{◌≡◌, ◌≢◌, ℕ, zero, suc, ◌+◌, ◌<◌, List, [], ◌∷◌, ◌++◌, length, get_or, take, refl, inl, inr, arith, ◌⊎◌}
+use Rattle.std.proofs.Common.{◌≡◌, ℕ, zero, suc, ◌+◌, ◌<◌, List, [], ◌∷◌, ◌++◌, length, get_or, take, refl, inl, inr, arith, ◌⊎◌}
 use Rattle.std.{specs.Prelude.◌↔◌, specs.List.All, specs.List.AllZip, specs.List.Contains, proofs.lemmas.List.take_more}
 use Rattle.std.proofs.lemmas.List.Elements.{All-cons, Contains-append_right}
-use Rattle.cellset.{specs.CellSet.Has, specs.declared.cell.Cell.Cell, proofs.Members.not_both, proofs.Members.lacks_where}
 use Rattle.board.specs.Game.{Level, State}
-use Rattle.closure.{specs.Pattern.Pattern, specs.Pattern.Covers, specs.Pattern.IsCovered, proofs.CellLists.each_in, proofs.CellLists.in_list}
+use Rattle.closure.specs.Pattern.{Pattern, Covers, IsCovered}
 use Rattle.closure.specs.Scan.{EntryCells, EntryCovers, EntriesCover, IsEntryOf}
 
 -- An element of a list is its first one or one of the rest.
@@ -17,19 +16,10 @@ first_or_rest x xs y (suc k, lt, is) = grind arith
 module _ (level : Level) (s : State) where
   entry_covers : (pattern : Pattern) (entry : EntryCells) → IsEntryOf level pattern entry → EntryCovers level.room entry s ↔ Covers level pattern s
   entry_covers pattern entry is = (
-    λ covers.
-        let P : Cell → Type 0 = λ c. Has s.boxes c × (c ≢ s.player) in
-        let each = λ (c : Cell) (h : Has pattern.boxes c). each_in P entry.boxes covers.boxes c (rw is.boxes h) in
-        let beside = lacks_where pattern.boxes s.player (λ h. (each s.player h).1 refl) in
-        record { boxes = λ c h. (each c h).0; player = (is.region s.player).0 (covers.player, beside) },
+    λ covers. record { boxes = λ c h. covers.boxes c (rw is.boxes h); player = (is.region s.player).0 (covers.player, rw is.boxes at covers.apart) },
     λ covers.
         let player = (is.region s.player).1 covers.player in
-        record {
-          boxes = λ k d lt.
-              let has = rw is.boxes at (in_list entry.boxes k d lt) in
-              (covers.boxes _ has, λ e. not_both pattern.boxes s.player (rw e at has) player.1);
-          player = player.0;
-        },
+        record { boxes = λ c h. covers.boxes c (rw is.boxes at h); apart = rw is.boxes player.1; player = player.0 },
   )
 
 -- If what holds of an item holds of the item beside it in another list, some item of the one has it exactly if some item of the other does.

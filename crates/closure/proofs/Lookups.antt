@@ -1,11 +1,11 @@
 -- Lookups of a state among groups. A group of a lawful list has a box, so it may be in a bucket, and a key is an index of the table.
-use Rattle.std.proofs.Common.{◌≡◌, ◌≢◌, ℕ, ◌+◌, ◌-◌, ◌*◌, ◌<◌, ◌≤◌, List, [], ◌∷◌, ◌++◌, length, get_or, refl, ◌∙◌, ap, inl, inr, arith}
-use Rattle.std.{specs.Prelude.slice_index, specs.List.All, proofs.lemmas.Bool.cases_lt}
-use Rattle.cellset.{specs.Shape.HasSides, specs.CellSet.Has, specs.CellSet.Lacks, specs.declared.cell.Cell.Cell, proofs.Members.lacks_where}
+use Rattle.std.proofs.Common.{◌≡◌, ℕ, ◌+◌, ◌-◌, ◌*◌, ◌<◌, ◌≤◌, List, [], ◌∷◌, ◌++◌, length, get_or, ◌∙◌, ap, inl, inr, arith}
+use Rattle.std.{specs.Prelude.slice_index, proofs.lemmas.Bool.cases_lt}
+use Rattle.cellset.specs.{Shape.HasSides, CellSet.Has, declared.cell.Cell.Cell}
 use Rattle.board.specs.{Game.Level, Game.State, Board.IsWellFormed}
 use Rattle.closure.specs.{Pattern.IsCovered, Closed.AreLawful, Buckets.IsInBucket, Chains.AreChains, Chains.IsLast, CellIndex.index_of, Sides.cells_in}
 use Rattle.closure.specs.{Groups.IsGrouped, Groups.boxes_of, Groups.list_of, Tables.GroupCovers, Tables.AreTables, declared.groups.Groups.Groups}
-use Rattle.closure.{specs.declared.tables.Tables.Tables, proofs.CellLists.at_any, proofs.CellLists.each_in, proofs.CellLists.of_list}
+use Rattle.closure.{specs.declared.tables.Tables.Tables, proofs.CellLists.at_any, proofs.CellLists.of_list}
 use Rattle.closure.proofs.{Grouped.box_on, Grouped.covered_by_group, Grouped.group_in_room, Grouped.some_box, Spanning.index_within}
 use Rattle.closure.proofs.Lists.{new_item, old_item}
 
@@ -48,13 +48,6 @@ bucket_more groups keys new n key long is old c has at k lt = elim (cases_lt k n
 ]
 
 -- ---- states
--- If a state has each of the boxes and its player is on none of them, it has the set of them, and the player is outside the set.
-pub all_beside : (boxes : List Cell) (s : State) → All (λ c. Has s.boxes c × (c ≢ s.player)) boxes →
-    ((c : Cell) → Has (cells_in boxes) c → Has s.boxes c) × Lacks (cells_in boxes) s.player
-all_beside boxes s each =
-    let each_one = each_in (λ c. Has s.boxes c × (c ≢ s.player)) boxes each in
-    (λ c has. (each_one c has).0, lacks_where (cells_in boxes) s.player (λ has. (each_one s.player has).1 refl))
-
 module _ {S : Type 0} (tables : Tables S) (is : AreTables tables) (s : State) where
   pub no_group_covers : ((g : ℕ) → GroupCovers tables.board.now tables.groups g s → ⊥) → IsCovered tables.board.now (list_of tables.groups) s → ⊥
   no_group_covers none covered =

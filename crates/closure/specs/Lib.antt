@@ -15,6 +15,7 @@ pub mod Groups
 pub mod Hits
 pub mod Piece
 pub mod SpanningTree
+pub mod Subsets
 pub mod Tables
 pub mod Run
 pub mod Scan

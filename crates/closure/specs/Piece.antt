@@ -1,9 +1,9 @@
 -- The piece of a player in the room less some boxes, and which of the boxes are loose there.
-use Rattle.std.specs.Prelude.{◌≡◌, ℕ, ◌≤◌, length}
+use Rattle.std.specs.Prelude.{◌≡◌, ℕ}
 use Rattle.cellset.specs.{Shape.Extent, CellSet.Cells, CellSet.Has, CellSet.Lacks, declared.cell.Cell.Cell}
 use Rattle.board.specs.Game.{Level}
 use Rattle.closure.specs.{Pattern.Pattern, Pattern.Covers, Sides.cells_in, declared.piece.Piece.Piece, declared.groups.Groups.Groups, Groups.boxes_of}
-use Rattle.closure.specs.{declared.tables.Tables.Tables, Tables.GroupCovers, Tables.IsReadyFor, Tables.IsRoomy}
+use Rattle.closure.specs.{declared.tables.Tables.Tables, Tables.GroupCovers, Tables.IsReadyFor, Tables.IsRoomy, Subsets.AreSubsets}
 
 -- each pattern that covers these boxes with the one player covers them with the other
 abbrev pub AreCoveredAlike : Level → Cells → Cell → Cell → Type 0
@@ -29,5 +29,5 @@ pub record IsPiece {S : Type 0} (members : S → Cells) (tables : Tables S) (box
   pub room : Has tables.board.now.room piece.player
   pub cells : (q : Cell) → Has (members piece.cells) q → AreCoveredAlike tables.board.now boxes piece.player q
   pub loose : (c : Cell) → Has (members piece.loose) c → IsLoose tables.board.now tables.groups boxes piece.player c
-  pub link : piece.link ≤ length tables.groups.spans.items
+  pub subsets : AreSubsets tables.groups boxes piece.subsets
   pub lookup : IsReadyFor tables boxes piece.player piece.lookup

@@ -1,6 +1,6 @@
 -- What a scan keeps of a list of patterns.
 --   entry        the cells of a pattern's boxes, and its region, which is left out for `*`
-use Rattle.std.specs.{Prelude.◌≡◌, Prelude.◌≢◌, Prelude.◌↔◌, Prelude.ℕ, Prelude.List, Prelude.Option, Prelude.unwrap_or, Prelude.refl, List.All, List.Contains}
+use Rattle.std.specs.{Prelude.◌≡◌, Prelude.◌↔◌, Prelude.ℕ, Prelude.List, Prelude.Option, Prelude.unwrap_or, Prelude.refl, List.Contains}
 use Rattle.std.specs.Coded.{Coded, code_by, coded×, coded_ℕ, coded_list, coded_option}
 use Rattle.cellset.specs.{Shape.Extent, Coding.coded_cell, Coding.coded_cells, CellSet.Cells, CellSet.Has, CellSet.Lacks, declared.cell.Cell.Cell}
 use Rattle.board.specs.Game.{Level, State}
@@ -23,7 +23,8 @@ coded_entry =
 
 -- the state has the boxes of the entry, and its player is on none of them and in the region
 pub record EntryCovers (room : Cells) (entry : EntryCells) (s : State) : Type 0 where
-  pub boxes : All (λ c. Has s.boxes c × (c ≢ s.player)) entry.boxes
+  pub boxes : (c : Cell) → Has (cells_in entry.boxes) c → Has s.boxes c
+  pub apart : Lacks (cells_in entry.boxes) s.player
   pub player : Has (unwrap_or entry.region room) s.player
 
 -- some entry covers the state

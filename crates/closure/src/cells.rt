@@ -1,7 +1,6 @@
 //! Lists of cells, and the sets of their cells.
 ghost use Rattle.std.specs.Prelude.{◌≡◌, ◌≢◌, ◌+◌, ◌*◌, ◌<◌, ◌↔◌, ◌++◌, IfOk, IsTrue, List, MatchBool, MatchOption, length, map};
 ghost use Rattle.std.specs.FinSet as finset;
-ghost use Rattle.std.specs.List.{All};
 ghost use Rattle.cellset.specs.{Cell.IsOn, CellSet.Has, CellSet.Lacks, declared.cell.Cell.Cell as GridCell};
 ghost use Rattle.closure.specs.{Pattern.cell_of, Pattern.cells_of, Sides.cell_no, Sides.cells_in};
 
@@ -100,19 +99,6 @@ pub(crate) fn take_out<S: CellSet>(cells: &[Cell], set: &mut S)
     }
 }
 
-// Returns whether each of the cells is a member and none is the player's.
-pub(crate) fn stand_beside<S: CellSet>(cells: &[Cell], player: Cell, boxes: &S) -> bool
-    requires { All (IsOn (S.extent boxes.now)) cells.now }
-    ensures { IsTrue result ↔ All (λ c. Has (S.members boxes.now) c × (c ≢ player)) cells.now }
-{
-    for cell in cells {
-        if is_same(*cell, player) || !boxes.contains(*cell) {
-            return false;
-        }
-    }
-    true
-}
-
 // The number of a cell among these.
 #[tactic(auto, using(crate::proofs::CellLists::next_in, crate::proofs::CellLists::list_all, crate::proofs::Turns::lacks_insert, crate::proofs::CellLists::empty_lacks))]
 pub(crate) fn number_of(cells: &[Cell], cell: Cell) -> Option<usize>
@@ -125,6 +111,21 @@ pub(crate) fn number_of(cells: &[Cell], cell: Cell) -> Option<usize>
         }
     }
     None
+}
+
+// Returns whether a cell is one of these members of a set. It asks the set first, because that takes less time and most cells aren't in it.
+pub(crate) fn is_among<S: CellSet>(cells: &[Cell], set: &S, cell: Cell) -> bool
+    requires members { (c : GridCell) → Has (cells_in cells.now) c → Has (S.members set.now) c }
+    requires on { IsOn (S.extent set.now) cell }
+    ensures { MatchBool result (Has (cells_in cells.now) cell) (Lacks (cells_in cells.now) cell) }
+{
+    if !set.contains(cell) {
+        return false;
+    }
+    match number_of(cells, cell) {
+        Some(_) => true,
+        None => false,
+    }
 }
 
 // Replaces the members by the cells.

@@ -8,7 +8,7 @@ ghost use Rattle.closure.specs.{FirstFault.IsFirstPatternFault, Arena.lines_in, 
 ghost use Rattle.closure.specs.Tables.{AreFilled, AreTables, IsRoomy};
 
 use crate::arena::Arena;
-use crate::cells::stand_beside;
+use crate::cells::are_in;
 use crate::fault::CheckFault;
 use crate::lookup::{Scratch, is_any_covering, is_covered_after};
 use crate::pushes::{PushScratch, cover_groups};
@@ -71,7 +71,7 @@ fn is_start_found<S: CellSet>(tables: &Tables<S>) -> bool
     }
     for group in 0..tables.groups.spans.len() {
         let boxes = tables.groups.boxes(group);
-        if tables.is_whole(group) && stand_beside(boxes, board.player(), board.boxes()) {
+        if tables.is_whole(group) && are_in(boxes, board.boxes()) {
             return true;
         }
     }

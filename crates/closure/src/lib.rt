@@ -20,9 +20,10 @@
 //!    boxes after the push, and one side of the pushed box decides. If that settles all pushes, and the start is found as quickly, the list
 //!    is closed (`checking`). This is so for nearly every list that a program writes.
 //! 5. Otherwise the tables are filled. A breadth-first search builds a spanning tree of the room (`tree`), and each group goes into the
-//!    bucket of one of its boxes, the one that the fewest lines have. The start is looked up among all groups (`lookup`). For a push that is left, the
-//!    group that covered the last state is asked first. Then one look through the groups finds which boxes can be pushed by all players of
-//!    one piece of the room less the boxes (`piece`). A push that is still left is looked up by itself, first in the bucket of the cell ahead.
+//!    bucket of one of its boxes, the one that the fewest lines have. The start is looked up among all groups (`lookup`). For a push that is
+//!    left, the group that covered the last state is asked first. Then one look through the groups finds which boxes can be pushed by all
+//!    players of one piece of the room less the boxes (`piece`). The groups whose boxes are among the state's are found once for all pieces
+//!    (`subsets`). A push that is still left is looked up by itself, first in the bucket of the cell ahead.
 //! 6. If a push isn't covered, the lines of its group are gone through again, with one flood each, up to the first fault (`region`).
 //!
 //! So a list takes at most 2n floods, n more for a list with a trap that has to be looked up, and one for each piece that is looked at. A
@@ -31,11 +32,12 @@
 //! steps as the room has cells. In the worst case a lookup or look goes through each group.
 //!
 //! Suppose that a line without the pushed box covers each result. Then the pushes take groups × lines if the region of each group is one
-//! piece, and otherwise pieces × lines, where a piece counts again if the pushes come back to it. If only lines with a box on the cell
-//! ahead cover the results, they take pushes × lines, or less if these lines are in the bucket of this cell.
+//! piece. Otherwise they also take pieces × those lines whose boxes are all there, where a piece counts again if the pushes come back to it.
+//! If only lines with a box on the cell ahead cover the results, they take pushes × lines, or less if these lines are in the bucket of this
+//! cell.
 //!
-//! `Index` answers lookups alone (`index`), and `Scan` answers the same questions line by line (`coverage`, `scan`). Zones are `zone`'s, and `cells` has the loops over
-//! lists of cells. `fault` has the faults, and `laws` what follows from an answer.
+//! `Index` answers lookups alone (`index`), and `Scan` answers the same questions line by line (`coverage`, `scan`). Zones are `zone`'s, and
+//! `cells` has the loops over lists of cells. `fault` has the faults, and `laws` what follows from an answer.
 #![tactic(auto)]
 
 mod arena;
@@ -58,6 +60,7 @@ mod pushes;
 mod region;
 mod scan;
 mod sides;
+mod subsets;
 mod tables;
 mod trap;
 mod tree;

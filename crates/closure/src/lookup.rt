@@ -5,11 +5,11 @@
 //! the side on which the path meets the box. If the path meets none of its boxes, the root decides.
 ghost use Rattle.std.specs.Prelude.{◌≡◌, ◌≤◌, ◌<◌, ◌↔◌, ℕ, IfOk, IsTrue, MatchOption, length, slice_index, vec_capacity};
 ghost use Rattle.cellset.specs.{Cell.IsOn, CellSet.Has, CellSet.Lacks};
-ghost use Rattle.closure.specs.{Pattern.InPatternRegion, Pattern.Covers, Pattern.IsCovered, Sides.cells_in, CellIndex.index_of, GroupPushes.IsPushOf};
+ghost use Rattle.closure.specs.{Pattern.InPatternRegion, Pattern.Covers, Pattern.IsCovered, Subsets.IsSubset, Sides.cells_in, CellIndex.index_of, GroupPushes.IsPushOf};
 ghost use Rattle.closure.specs.{Groups.boxes_of, Groups.list_of, Groups.position_at, Hits.AreHits, Run.state_after};
 ghost use Rattle.closure.specs.Tables.{AreFilled, GroupCovers, IsReadyFor, IsRoomy};
 
-use crate::cells::{number_of, stand_beside};
+use crate::cells::{are_in, is_among, number_of};
 use crate::tables::Tables;
 use crate::tree::{Hit, index_of};
 use cellset::{Cell, CellSet, MembersOf};
@@ -66,7 +66,7 @@ fn is_inside<S: CellSet>(tables: &Tables<S>, group: usize, player: Cell, hits: &
 }
 
 // Returns whether a group covers the state. Its boxes come first, since they decide most often and cost least.
-pub(crate) fn is_covering<S: CellSet>(
+fn is_covering<S: CellSet>(
     tables: &Tables<S>,
     group: usize,
     query: &Query<S>,
@@ -80,7 +80,28 @@ pub(crate) fn is_covering<S: CellSet>(
     ensures scratch { IsReadyFor tables.now (S.members query.now.boxes.now) query.now.player scratch.new }
     ensures exact { IsTrue result ↔ Covers tables.now.board.now (position_at tables.now.board.now tables.now.groups group) (record { player = query.now.player; boxes = S.members query.now.boxes.now }) }
 {
-    if !stand_beside(tables.groups.boxes(group), query.player, query.boxes) {
+    are_in(tables.groups.boxes(group), query.boxes)
+        && is_subset_covering(tables, group, query, scratch)
+}
+
+// Returns whether a group covers the state, which has its boxes.
+pub(crate) fn is_subset_covering<S: CellSet>(
+    tables: &Tables<S>,
+    group: usize,
+    query: &Query<S>,
+    scratch: &mut Scratch,
+) -> bool
+    requires tables { AreFilled tables.now }
+    requires group { IsSubset tables.now.groups (S.members query.now.boxes.now) group }
+    requires player { Has tables.now.board.now.room query.now.player }
+    requires extent { S.extent query.now.boxes.now ≡ tables.now.board.now.shape }
+    requires scratch { IsReadyFor tables.now (S.members query.now.boxes.now) query.now.player scratch.old }
+    ensures scratch { IsReadyFor tables.now (S.members query.now.boxes.now) query.now.player scratch.new }
+    ensures exact { IsTrue result ↔ Covers tables.now.board.now (position_at tables.now.board.now tables.now.groups group) (record { player = query.now.player; boxes = S.members query.now.boxes.now }) }
+{
+    // For the proof: the board is well formed.
+    let _shape = tables.board.shape();
+    if is_among(tables.groups.boxes(group), query.boxes, query.player) {
         return false;
     }
     if tables.is_whole(group) {

@@ -8,13 +8,13 @@
 //! groups with a box on the cell ahead cover the result, and less the more pieces there are.
 ghost use Rattle.std.specs.Prelude.{◌≡◌, ◌⊎◌, ◌<◌, IfOk, IsTrue, length};
 ghost use Rattle.cellset.specs.{Cell.IsOn, CellSet.Cells, CellSet.Has, CellSet.Lacks, declared.cell.Cell.Cell as GridCell};
-ghost use Rattle.closure.specs.{Pattern.IsCovered, Piece.IsPiece, Piece.IsPieceSpace, Run.state_after, Sides.cells_in, GroupPushes.IsPushOf, Groups.list_of};
+ghost use Rattle.closure.specs.{Pattern.IsCovered, Piece.IsPiece, Piece.IsPieceSpace, Subsets.AreSubsets, Run.state_after, Sides.cells_in, GroupPushes.IsPushOf, Groups.list_of};
 ghost use Rattle.closure.specs.Tables.{AreFilled};
 
 use crate::cells::{is_same, number_of};
-use crate::lookup::{Query, Scratch, is_covering};
+use crate::lookup::{Query, Scratch, is_subset_covering};
+use crate::subsets::Subsets;
 use crate::tables::Tables;
-use crate::tree::index_of;
 use cellset::{Cell, CellSet};
 use reach::{Flooder, Push};
 use std::alloc::{AllocError, Global};
@@ -27,9 +27,7 @@ pub(crate) struct Piece<S: CellSet> {
     cells: S,
     flooded: bool,
     loose: S,
-    // How far the look has come: how many boxes' buckets it has begun, and the link to the next group.
-    begun: usize,
-    link: usize,
+    pub(crate) subsets: Subsets,
     pub(crate) lookup: Scratch,
     flooder: Flooder,
     seeds: S,
@@ -45,26 +43,27 @@ impl<S: CellSet> Piece<S> {
         let loose = S::new(alloc, shape)?;
         let seeds = S::new(alloc, shape)?;
         let lookup = Scratch::new(alloc, tables)?;
+        let subsets = Subsets::new(alloc, tables)?;
         let flooder = Flooder::new(alloc, shape)?;
         Ok(Piece {
             player: tables.board.player(),
             cells,
             flooded: true,
             loose,
-            begun: 0,
-            link: 0,
+            subsets,
             lookup,
             flooder,
             seeds,
         })
     }
 
-    // Makes it the piece of a player, for any boxes. Only the player's cell is known then, and no flood finds more if `flooded` is true.
+    // Makes it the piece of a player, for the boxes of the subsets. Only the player's cell is known then, and no flood finds more if
+    // `flooded` is true.
     pub(crate) fn begin(&mut self, tables: &Tables<S>, player: Cell, flooded: bool)
         requires space { IsPieceSpace S.extent tables.now self.old }
         requires player { Has tables.now.board.now.room player }
         ensures space { IsPieceSpace S.extent tables.now self.new }
-        ensures piece { (boxes : Cells) → IsPiece S.members tables.now boxes self.new }
+        ensures piece { (boxes : Cells) → AreSubsets tables.now.groups boxes self.old.subsets → IsPiece S.members tables.now boxes self.new }
         ensures found { Has (S.members self.new.cells) player }
     {
         // For the proof: the board is well formed.
@@ -74,8 +73,7 @@ impl<S: CellSet> Piece<S> {
         self.cells.insert(player);
         self.flooded = flooded;
         self.loose.clear();
-        self.begun = 0;
-        self.link = 0;
+        self.subsets.restart();
         self.lookup.walked = false;
     }
 
@@ -143,42 +141,23 @@ impl<S: CellSet> Piece<S> {
         ensures piece { IsPiece S.members tables.now (S.members state.now) self.new }
         ensures same { self.new.cells ≡ self.old.cells }
     {
-        self.follow(tables, boxes, state, from);
-        while self.begun < boxes.len() && !self.loose.contains(from) {
-            self.link = tables.buckets.chains.first[index_of(boxes[self.begun])] as usize;
-            self.begun += 1;
-            self.follow(tables, boxes, state, from);
-        }
-    }
-
-    // Goes on through the present bucket until the box is loose or no group is left in it.
-    fn follow(&mut self, tables: &Tables<S>, boxes: &[Cell], state: &S, from: Cell)
-        requires tables { AreFilled tables.now }
-        requires space { IsPieceSpace S.extent tables.now self.old }
-        requires extent { S.extent state.now ≡ tables.now.board.now.shape }
-        requires boxes { (c : GridCell) → Has (cells_in boxes.now) c → IsOn tables.now.board.now.shape c }
-        requires piece { IsPiece S.members tables.now (S.members state.now) self.old }
-        requires from { IsOn tables.now.board.now.shape from }
-        ensures space { IsPieceSpace S.extent tables.now self.new }
-        ensures piece { IsPiece S.members tables.now (S.members state.now) self.new }
-        ensures same { (self.new.cells ≡ self.old.cells) × (self.new.begun ≡ self.old.begun) }
-    {
-        while self.link > 0 && !self.loose.contains(from) {
-            let group = self.link - 1;
-            self.link = tables.buckets.chains.next[group] as usize;
-            let kept = tables.groups.boxes(group);
-            // A group that covers the player and has as many boxes lacks none.
-            if kept.len() >= boxes.len() {
-                continue;
+        // No more groups can follow than there are.
+        for _ in 0..tables.groups.spans.len() {
+            if self.loose.contains(from) {
+                return;
             }
+            let Some(group) = self.subsets.next(tables, boxes, state) else {
+                return;
+            };
             let query = Query {
                 player: self.player,
                 boxes: state,
             };
-            if is_covering(tables, group, &query, &mut self.lookup) {
-                self.lookup.last = group;
-                loosen(boxes, kept, &mut self.loose);
+            if !is_subset_covering(tables, group, &query, &mut self.lookup) {
+                continue;
             }
+            self.lookup.last = group;
+            loosen(boxes, tables.groups.boxes(group), &mut self.loose);
         }
     }
 }

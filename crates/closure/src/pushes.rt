@@ -114,6 +114,7 @@ fn load_boxes<S: CellSet>(tables: &Tables<S>, boxes: &[Cell], scratch: &mut Opti
         // For the proof: the board is well formed.
         let _shape = tables.board.shape();
         load(boxes, &mut scratch.state);
+        scratch.piece.subsets.clear(tables);
         scratch.piece.begin(tables, tables.board.player(), true);
     }
 }

@@ -8,7 +8,7 @@ ghost use Rattle.closure.specs.Scan.{EntriesCover, IsEntryOf};
 
 use crate::arena::Arena;
 use crate::cell_patterns::{CellPattern, arena_of};
-use crate::cells::stand_beside;
+use crate::cells::{are_in, is_among};
 use crate::coverage::Coverage;
 use crate::region::Finder;
 use answers::Pattern;
@@ -64,7 +64,13 @@ impl<S: CellSet> Entry<S> {
             Some(region) => region,
             None => room,
         };
-        region.contains(player) && stand_beside(&self.boxes, player, boxes)
+        if !are_in(&self.boxes, boxes) {
+            return false;
+        }
+        if is_among(&self.boxes, boxes, player) {
+            return false;
+        }
+        region.contains(player)
     }
 }
 

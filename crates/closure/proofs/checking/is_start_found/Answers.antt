@@ -1,7 +1,8 @@
 use Rattle.std.proofs.Common.{refl, arith}
 use Rattle.board.specs.Game.{start}
-use Rattle.closure.{specs.Groups.boxes_of, specs.Groups.list_of, proofs.CellLists.in_list, proofs.Grouped.boxes_on, proofs.Grouped.covered_of_group}
-use Rattle.closure.proofs.{Lookups.all_beside, Traps.start_trapped}
+use Rattle.cellset.proofs.Members.{lacks_where, not_both}
+use Rattle.closure.{specs.Groups.boxes_of, specs.Groups.list_of, specs.Sides.cells_in, proofs.Grouped.boxes_on, proofs.Grouped.covered_of_group}
+use Rattle.closure.proofs.{Traps.start_trapped}
 use Rattle.closure.proofs.checking.is_start_found.Goals as goal
 
 pub returns-then-meets : goal.returns-then-meets
@@ -10,18 +11,19 @@ returns-then-meets g c = λ _.
     start_trapped c.args.tables.now.board.now c.requires.formed (list_of c.args.tables.now.groups) c.args.tables.now.trap c.requires.trap met.0 met.2
     (rw c.boxes.ensures.members at met.1)
 
-pub stand_beside-requires : goal.stand_beside-requires
-stand_beside-requires g c = λ k d low.
+pub are_in-requires : goal.are_in-requires
+are_in-requires g c = λ q has.
     let test = c.loop-group-test.true in
     let count = c.len-group-end.ensures in
     rw c.boxes-then-is_whole.ensures.extent (boxes_on c.args.tables.now.board.now c.args.tables.now.groups c.requires.lawful c.requires.grouped
-    c.loop-group.group (omega arith) c.boxes-boxes.result.now c.boxes-boxes.ensures _ (in_list c.boxes-boxes.result.now k d low))
+    c.loop-group.group (omega arith) c.boxes-boxes.result.now c.boxes-boxes.ensures q has)
 
-pub returns-then-stand_beside : goal.returns-then-stand_beside
-returns-then-stand_beside g c = λ _.
+pub returns-then-are_in : goal.returns-then-are_in
+returns-then-are_in g c = λ _.
     let level = c.args.tables.now.board.now in
     let groups = c.args.tables.now.groups in
-    let there = all_beside (boxes_of groups c.loop-group.group) (start level)
-    (rw (c.boxes-then-is_whole.ensures.members, c.player.ensures.value, c.boxes-boxes.ensures) at (c.if-stand_beside.ensures.0 refl)) in
+    let there = rw (c.boxes-then-is_whole.ensures.members, c.boxes-boxes.ensures) at c.if-are_in.ensures in
+    let apart = lacks_where (cells_in (boxes_of groups c.loop-group.group)) level.player
+    (λ has. not_both level.boxes level.player (there level.player has) c.requires.formed.apart) in
     covered_of_group level groups c.requires.grouped (start level) c.loop-group.group
-    (record { boxes = there.0; player = c.if-is_whole.ensures refl level.player c.requires.formed.here there.1 })
+    (record { boxes = there; player = c.if-is_whole.ensures refl level.player c.requires.formed.here apart })

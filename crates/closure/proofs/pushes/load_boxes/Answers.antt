@@ -6,4 +6,4 @@ load-requires g c =
     λ q has. rw ready.state (c.requires.boxes q has)
 
 pub returns-in-Some-clause-loaded : goal.returns-in-Some-clause-loaded
-returns-in-Some-clause-loaded g c = record { state = c.load.ensures.members; piece = c.begin.ensures.piece _ }
+returns-in-Some-clause-loaded g c = record { state = c.load.ensures.members; piece = c.begin.ensures.piece _ (c.clear.ensures _) }

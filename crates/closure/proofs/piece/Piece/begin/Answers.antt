@@ -1,16 +1,16 @@
-use Rattle.std.proofs.{Common.inl, Common.inr, Common.arith, lemmas.Bool.false≢true}
+use Rattle.std.proofs.{Common.inl, Common.inr, lemmas.Bool.false≢true}
 use Rattle.cellset.proofs.Members.{has_empty, has_insert, inserted}
 use Rattle.closure.proofs.piece.Piece.begin.Goals as goal
 
 pub returns-clause-piece : goal.returns-clause-piece
-returns-clause-piece g c = λ boxes. record {
+returns-clause-piece g c = λ boxes subsets. record {
   room = c.requires.player;
   cells = λ q has. elim (has_insert _ c.args.player q (rw c.insert.ensures.members at has)) [
     | inl e ↦ rw e (λ pattern covers. covers)
     | inr old ↦ has_empty q (rw c.clear.ensures.members at old)
   ];
   loose = λ q has. has_empty q (rw c.clear-2.ensures.members at has);
-  link = omega arith;
+  subsets = record { found = rw c.restart.ensures.found subsets.found; link = rw c.restart.ensures.link subsets.link };
   lookup = record { roomy = c.requires.space.roomy; walked = λ h. absurd (false≢true h) };
 }
 

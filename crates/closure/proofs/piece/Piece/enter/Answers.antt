@@ -1,7 +1,8 @@
 use Rattle.std.proofs.Common.{◌≡◌}
 use Rattle.cellset.specs.CellSet.{only}
-use Rattle.closure.proofs.Loose.{covered_alike}
+use Rattle.closure.{specs.Subsets.AreSubsets, proofs.Loose.covered_alike}
 use Rattle.closure.proofs.piece.Piece.enter.Goals as goal
+use Rattle.closure.proofs.piece.Piece.enter.Goals.{then-not-self+else-contains-2, else-not-self}
 
 pub returns-then-contains-2-clause-piece : goal.returns-then-contains-2-clause-piece
 returns-then-contains-2-clause-piece g c =
@@ -12,9 +13,14 @@ returns-then-contains-2-clause-piece g c =
       cells = λ q has. covered_alike c.args.tables.now.board.now (g.S.CellSet.members c.args.state.now) c.args.self.now.player q
           (rw (seeds, c.walls.ensures.members, c.requires.space.flooder) at ((c.flood_into.ensures.exact q).0 has));
       loose = was.loose;
-      link = was.link;
+      subsets = was.subsets;
       lookup = was.lookup;
     }
 
 pub returns-clause-piece : goal.returns-clause-piece
-returns-clause-piece g c = c.begin.ensures.piece _
+returns-clause-piece g c =
+    let subsets : AreSubsets c.args.tables.now.groups (g.S.CellSet.members c.args.state.now) c.if-not-self.self.subsets = elim c.if-not-self.branch [
+      | then-not-self+else-contains-2 w ↦ rw w.self-is c.requires.piece.subsets
+      | else-not-self w ↦ rw w.self-is c.requires.piece.subsets
+    ] in
+    c.begin.ensures.piece _ subsets

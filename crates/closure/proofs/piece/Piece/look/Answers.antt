@@ -1,34 +1,36 @@
--- Each turn begins the bucket of one more box. The index of a box is within the table, and a link there leads to a group or to none.
-use Rattle.std.proofs.Common.{◌+◌, ◌*◌, ◌<◌, ◌∙◌, ap, get_or, arith}
-use Rattle.closure.{specs.CellIndex.index_of, proofs.CellLists.in_list, proofs.CellLists.no_cell, proofs.Lookups.begun, proofs.Spanning.index_within}
+-- A group that covers the player makes the boxes that it lacks loose.
+use Rattle.std.proofs.Common.{◌∙◌, inl, inr, refl}
 use Rattle.closure.proofs.piece.Piece.look.Goals as goal
-use Rattle.closure.proofs.piece.Piece.look.Goals.{After-index_of}
 
-within : (g : _) (c : After-index_of g) → index_of (get_or c.args.boxes.now c.loop-self.self.begun no_cell) < 256 * (c.args.tables.now.board.now.shape.height + 1)
-within g c = index_within c.args.tables.now.board.now.shape c.requires.tables.are.formed.sides _
-    (c.requires.boxes _ (in_list c.args.boxes.now c.loop-self.self.begun no_cell c.loop-self-test.true))
+pub loosen-requires : goal.loosen-requires
+loosen-requires g c = record { on = λ q has. rw c.loop.invariant.space.loose (c.requires.boxes q has) }
 
-pub index-requires : goal.index-requires
-index-requires g c =
-    let low = within g c in
-    let at = c.index_of.ensures in
-    let firsts = c.requires.tables.buckets.chained.firsts in
-    omega arith
-
-pub follow-requires-in-loop-self-clause-piece : goal.follow-requires-in-loop-self-clause-piece
-follow-requires-in-loop-self-clause-piece g c =
-    let all = c.requires.tables.buckets in
-    let buckets = c.args.tables.now.buckets in
-    let piece = c.loop-self.invariant.piece in
-    let long = all.long in
-    let low = within g (goal.at.follow-requires-in-loop-self-clause-piece g c).After-index_of in
-    let last = begun buckets.keys.items buckets.chains.first.items buckets.chains.next.items _ (index_of (get_or c.args.boxes.now c.loop-self.self.begun no_cell))
-    all.chained c.index.result.now low (c.index.ensures ∙ ap (λ k. get_or buckets.chains.first.items k c.index.result.now) c.index_of.ensures) in
-    let link = last.within in
-    record { room = piece.room; cells = piece.cells; loose = piece.loose; link = omega arith; lookup = piece.lookup }
-
-pub loop-self-smaller : goal.loop-self-smaller
-loop-self-smaller g c =
-    let test = c.loop-self-test.true in
-    let same = c.follow-in-loop-self.ensures.same.1 in
-    omega arith
+pub loop-preserved : goal.loop-preserved
+loop-preserved g c =
+    let space = c.loop.invariant.space in
+    let piece = c.loop.invariant.piece in
+    let ready = c.is_subset_covering.ensures.scratch in
+    record {
+      space = record {
+        cells = space.cells;
+        loose = c.loosen.ensures.extent ∙ space.loose;
+        seeds = space.seeds;
+        flooder = space.flooder;
+        roomy = ready.roomy;
+      };
+      piece = record {
+        room = piece.room;
+        cells = piece.cells;
+        loose = λ q has. elim (c.loosen.ensures.members q has) [
+          | inl old ↦ piece.loose q old
+          | inr lacks ↦ record {
+            group = c.in-Some.group;
+            covers = (c.in-Some.ensures.found.within, c.if-not-is_subset_covering.ensures.exact.0 refl);
+            lacks = rw c.boxes.ensures at lacks;
+          }
+        ];
+        subsets = c.in-Some.ensures.subsets;
+        lookup = record { roomy = ready.roomy; walked = ready.walked };
+      };
+      same = c.loop.invariant.same;
+    }

@@ -1,13 +1,10 @@
-use Rattle.std.proofs.Common.{◌≡◌, ◌-◌, length}
+use Rattle.std.proofs.Common.{◌≡◌}
 use Rattle.closure.specs.Piece.{IsPiece, IsPieceSpace}
 use Rattle.closure.proofs.piece.Piece.look.Given as goal
 
-abbrev pub invariant-loop-self : goal.invariant-loop-self
-invariant-loop-self g l = record {
+abbrev pub invariant-loop : goal.invariant-loop
+invariant-loop g l = record {
   space : IsPieceSpace g.S.CellSet.extent l.tables l.self;
   piece : IsPiece g.S.CellSet.members l.tables (g.S.CellSet.members l.state) l.self;
   same : l.self.cells ≡ l.fn.self.cells;
 }
-
-abbrev pub decreases-loop-self : goal.decreases-loop-self
-decreases-loop-self g l = length l.boxes - l.self.begun
