@@ -169,7 +169,7 @@ fn loosen<S: CellSet>(boxes: &[Cell], kept: &[Cell], loose: &mut S)
     ensures members { (c : GridCell) → Has (S.members loose.new) c → Has (S.members loose.old) c ⊎ Lacks (cells_in kept.now) c }
 {
     // The boxes of both lists are mostly in the same order, so that each box of the group is the next one. Without this a list whose
-    // boxes part the room into many pieces takes three times as long.
+    // boxes part the room into many pieces takes nearly four times as long.
     let mut next = 0;
     for cell in boxes {
         if next < kept.len() && is_same(kept[next], *cell) {

@@ -3,7 +3,7 @@
 //! Each piece of the room goes through these groups. The first pass searches the buckets of the boxes and keeps what it finds, so that a
 //! further pass compares no boxes.
 //!
-//! This module exists for speed. Without it a list whose boxes part the room into 60 pieces takes 1.6 times as long.
+//! This module exists for speed. Without it a list whose boxes part the room into 61 pieces takes 1.6 times as long.
 ghost use Rattle.std.specs.Prelude.{◌≡◌, IfOk, IfSome};
 ghost use Rattle.cellset.specs.{Cell.IsOn, CellSet.Cells, CellSet.Has, declared.cell.Cell.Cell as GridCell};
 ghost use Rattle.closure.specs.{Sides.cells_in, Subsets.AreSubsets, Subsets.IsSubset, Tables.AreFilled};
