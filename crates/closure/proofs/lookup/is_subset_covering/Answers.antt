@@ -19,3 +19,6 @@ pub is_inside-requires-clause-hits : goal.is_inside-requires-clause-hits
 is_inside-requires-clause-hits g c = λ pattern within lacks.
     subst (λ l. HitsDecide c.args.tables.now.board.now c.args.query.now.player c.args.tables.now.board.now.player l pattern) (sym c.deref.ensures.value)
     (c.walk_to_root.ensures.scratch.walked c.walk_to_root.ensures.walked pattern (λ q has. c.requires.group.has q (within q has)) lacks)
+
+pub returns-clause-exact : goal.returns-clause-exact
+returns-clause-exact g c = (λ yes. record { boxes = c.requires.group.has; player = c.is_inside.ensures.0 yes }, λ covers. c.is_inside.ensures.1 covers.player)

@@ -22,3 +22,9 @@ are_in-requires g c =
     let up = c.loop-self-test.true in
     λ q has. rw c.requires.extent (boxes_on c.args.tables.now.board.now c.args.tables.now.groups c.requires.tables.are.lawful c.requires.tables.are.grouped
     (c.loop-self.self.link - 1) (omega arith) c.boxes-kept.result.now c.boxes-kept.ensures q has)
+
+pub returns-then-are_in-clause-found : goal.returns-then-are_in-clause-found
+returns-then-are_in-clause-found g c =
+    let link = c.loop-self.invariant.subsets.link in
+    let up = c.loop-self-test.true in
+    record { within = omega arith; has = rw c.boxes-kept.ensures at c.if-are_in.ensures }
