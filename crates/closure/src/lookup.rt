@@ -48,7 +48,6 @@ impl Scratch {
 }
 
 // Returns whether the player is in the region of a group. `hits` has the boxes on the player's path to the root.
-#[tactic(auto, using(crate::proofs::Traps::none_off))]
 fn is_inside<S: CellSet>(tables: &Tables<S>, group: usize, player: Cell, hits: &[Hit]) -> bool
     requires tables { AreFilled tables.now }
     requires group { group < length tables.now.groups.spans.items }
@@ -112,7 +111,6 @@ pub(crate) fn is_subset_covering<S: CellSet>(
 }
 
 // Walks the player's path to the root and lists the boxes on it in order, unless it was walked. Allocates nothing.
-#[tactic(auto, using(crate::proofs::Spanning::index_within, crate::proofs::CellLists::at_any))]
 fn walk_to_root<S: CellSet>(tables: &Tables<S>, query: &Query<S>, scratch: &mut Scratch)
     requires tables { AreFilled tables.now }
     requires player { Has tables.now.board.now.room query.now.player }

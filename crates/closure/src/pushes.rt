@@ -69,7 +69,6 @@ pub(crate) fn cover_groups<S: CellSet>(
 }
 
 // Returns true only if the list covers each push out of a group.
-#[tactic(auto, using(crate::proofs::GroupPushes::trapped_pushes, std::proofs::lemmas::Bool::cases_lt))]
 fn covers_pushes_of<S: CellSet>(
     tables: &Tables<S>,
     group: usize,
@@ -193,7 +192,6 @@ fn is_free<S: CellSet>(board: &Board<S>, boxes: &[Cell], cell: Cell) -> bool
 }
 
 // The push of a box in the direction, if it goes out of its group.
-#[tactic(auto, using(crate::proofs::GroupPushes::pushed_on))]
 #[inline(always)]
 fn push_of<S: CellSet>(tables: &Tables<S>, pushed: &PushedBox, dir: Dir) -> Option<Push>
     requires tables { AreTables tables.now }

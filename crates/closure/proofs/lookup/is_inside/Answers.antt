@@ -5,7 +5,7 @@
 use Rattle.std.{proofs.Common.get_or, proofs.Common.sym, proofs.Common.◌∙◌, proofs.Common.ap, proofs.Common.arith, specs.Prelude.◌↔◌, specs.Prelude.IsTrue}
 use Rattle.cellset.specs.{Cell.neighbor, declared.dir.Dir.TheVariants.L}
 use Rattle.closure.{specs.Pattern.InPatternRegion, specs.Sides.cell_no, specs.Groups.position_at, specs.declared.tree.Hit.Hit, proofs.Turns.through}
-use Rattle.closure.proofs.CellLists.{in_list, no_cell}
+use Rattle.closure.proofs.CellLists.{empty_lacks, in_list, no_cell}
 use Rattle.closure.proofs.lookup.is_inside.Goals as goal
 
 pub returns-in-Some : goal.returns-in-Some
@@ -34,3 +34,9 @@ returns g c =
     let told = (c.requires.hits (position_at c.args.tables.now.board.now c.args.tables.now.groups c.args.group) (λ _ h. h) c.requires.outside).passed
     (λ j e lt. rw is at (c.loop-found.invariant j e (omega arith))) in
     through c.has_root.ensures (told.1, told.0)
+
+pub sides_of-requires-clause-off : goal.sides_of-requires-clause-off
+sides_of-requires-clause-off g c = λ q _. rw c.requires.tables.off (empty_lacks q)
+
+pub has_root-requires-clause-off : goal.has_root-requires-clause-off
+has_root-requires-clause-off g c = λ q _. rw c.requires.tables.off (empty_lacks q)

@@ -3,7 +3,7 @@
 -- the parent's cell, a region without a box on it has both cells or neither (`hits_on` in `Hits.antt`); if there is one, it becomes a hit,
 -- with the side on which the path meets it (`hits_to`). A parent has a lower number, so the walk ends at the root and makes fewer hits
 -- than there are nodes, for which there is room.
-use Rattle.std.proofs.Common.{◌≡◌, ◌<◌, length, get_or, sym, ◌∙◌, ap, subst, arith}
+use Rattle.std.proofs.Common.{◌≡◌, ◌<◌, get_or, sym, ◌∙◌, ap, subst, arith}
 use Rattle.cellset.specs.{Cell.neighbor, Cell.opposite, declared.dir.Dir.TheVariants.L}
 use Rattle.closure.{specs.Hits.HitsDecide, specs.declared.tree.Hit.Hit, specs.declared.tree.Node.Node, proofs.CellLists.at_any, proofs.Lists.length_more}
 use Rattle.closure.proofs.{Hits.hits_on, Hits.hits_to, lookup.walk_to_root.Goals.After-index}
@@ -61,7 +61,7 @@ loop-at-preserved-then-contains g c =
     let within = inv.within in
     let few = inv.few in
     let m : Hit = record { cell = c.index.result.now.cell; side = c.opposite.result } in
-    let longer = ap (λ l. length l) c.push_reserved.ensures.items ∙ length_more c.loop-at.scratch.hits.items m in
+    let longer = length_more c.loop-at.scratch.hits.items m in
     let room = inv.roomy in
     let capacity = c.push_reserved.ensures.capacity in
     record {
@@ -71,7 +71,7 @@ loop-at-preserved-then-contains g c =
           (nodes.room r.parent d (omega arith)) c.loop-at.scratch.hits.items (inv.hits r) m (parent_cell g at d)
           (c.opposite.ensures ∙ ap (λ x. opposite x.dir) c.index-node.ensures));
       roomy = omega arith;
-      few = omega arith;
+      few = rw c.push_reserved.ensures.items (omega arith);
     }
 
 pub returns-clause-scratch : goal.returns-clause-scratch

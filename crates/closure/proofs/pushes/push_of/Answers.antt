@@ -63,3 +63,9 @@ returns-clause-room g c =
     let inside = (c.requires.pushed.sides (opposite c.args.dir)).0 (sym (rw c.opposite.ensures at c.if-not-has.ensures)) in
     rw (c.in-Some-step.ensures.1, c.opposite-2.ensures) (group_in_room tables.board.now c.shape-shape.ensures.formed tables.groups
     c.requires.tables.grouped c.requires.tables.lawful c.args.pushed.now.group _ inside)
+
+pub step-requires : goal.step-requires
+step-requires g c = rw c.shape-shape.ensures.value (pushed_on c.args.tables.now c.requires.tables c.args.pushed.now c.requires.pushed)
+
+pub step-requires-2 : goal.step-requires-2
+step-requires-2 g c = rw c.shape-shape.ensures.value (pushed_on c.args.tables.now c.requires.tables c.args.pushed.now c.requires.pushed)
