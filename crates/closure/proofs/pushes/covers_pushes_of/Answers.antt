@@ -4,7 +4,8 @@
 -- covers them all (`covered_each_box`). The result false claims nothing.
 use borrow.Author.Count.{below_more}
 use Rattle.std.proofs.Common.{ap}
-use Rattle.closure.{specs.Sides.cells_in, specs.Groups.list_of, specs.Groups.position_at, proofs.Grouped.boxes_on, specs.Sides.cell_no, specs.GroupPushes.CoversFrom, proofs.GroupPushes.covered_each_box, proofs.GroupPushes.trapped_pushes}
+use Rattle.closure.specs.{GroupPushes.CoversFrom, Groups.list_of, Groups.position_at, Sides.cell_no, Sides.cells_in}
+use Rattle.closure.proofs.{GroupPushes.covered_each_box, GroupPushes.trapped_pushes, Grouped.boxes_on}
 use Rattle.closure.proofs.pushes.covers_pushes_of.Goals as goal
 
 pub returns-clause-covered : goal.returns-clause-covered
