@@ -22,7 +22,7 @@ loop-at-init g c =
     let at = c.index_of.ensures in
     let long = all.long in
     let last = begun tables.buckets.keys.items tables.buckets.chains.first.items tables.buckets.chains.next.items _ (index_of c.args.cell) all.chained
-    c.index.result.now (omega arith) (c.index.ensures ∙ ap (λ k. get_or tables.buckets.chains.first.items k c.index.result.now) at) in
+    c.index.result.now (omega arith) (rw at at c.index.ensures) in
     let within = last.within in
     record {
       within = omega arith;

@@ -1,5 +1,5 @@
 -- Each turn begins the bucket of one more box. The index of a box is within the table, and a link there leads to a group or to none.
-use Rattle.std.proofs.Common.{◌+◌, ◌*◌, ◌<◌, ◌∙◌, ap, get_or, arith}
+use Rattle.std.proofs.Common.{◌+◌, ◌*◌, ◌<◌, get_or, arith}
 use Rattle.closure.{specs.CellIndex.index_of, proofs.CellLists.in_list, proofs.CellLists.no_cell, proofs.Lookups.begun, proofs.Spanning.index_within}
 use Rattle.closure.proofs.subsets.Subsets.search.Goals as goal
 use Rattle.closure.proofs.subsets.Subsets.search.Goals.{After-index_of}
@@ -22,6 +22,6 @@ search_bucket-requires-in-loop-self-clause-subsets g c =
     let long = all.long in
     let low = within g (goal.at.search_bucket-requires-in-loop-self-clause-subsets g c).After-index_of in
     let last = begun buckets.keys.items buckets.chains.first.items buckets.chains.next.items _ (index_of (get_or c.args.boxes.now c.loop-self.self.begun no_cell))
-    all.chained c.index.result.now low (c.index.ensures ∙ ap (λ k. get_or buckets.chains.first.items k c.index.result.now) c.index_of.ensures) in
+    all.chained c.index.result.now low (rw c.index_of.ensures at c.index.ensures) in
     let link = last.within in
     record { found = c.loop-self.invariant.found; link = omega arith }
