@@ -109,6 +109,7 @@ fn check_covering<S: CellSet>(
     }
     let mut scratch = Some(PushScratch::new(alloc, tables)?);
     cover_groups(tables, &mut scratch, covered);
+    drop(scratch);
     let mut trial = Trial::new(alloc, board.shape())?;
     let checked = check_pushes(tables, covered, &mut lookup, &mut trial);
     drop(trial);
