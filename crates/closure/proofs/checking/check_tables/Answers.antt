@@ -1,4 +1,4 @@
-use Rattle.std.proofs.Common.{refl}
+use Rattle.std.proofs.{Common.refl, Common.◌∙◌, Common.ap, Common.length, lemmas.Bool.false≢true, lemmas.List.get_or-replicate, lemmas.List.length-replicate}
 use Rattle.closure.proofs.GroupPushes.{covers_all}
 use Rattle.closure.proofs.checking.check_tables.Goals as goal
 
@@ -12,3 +12,17 @@ returns-then-are_all-clause-ok g c = record {
 
 pub returns-clause-exact : goal.returns-clause-exact
 returns-clause-exact g c = rw (c.in_ok-fill.ensures.level, c.in_ok-fill.ensures.same) at c.check_covering.ensures.exact
+
+pub cover_groups-requires-clause-covered : goal.cover_groups-requires-clause-covered
+cover_groups-requires-clause-covered g c =
+    let all = c.in_ok-covered.ensures.items_if_clones_equal (λ _ e. e) in
+    record {
+      long = ap (λ l. length l) all ∙ length-replicate _ _ ∙ c.len.ensures ∙ c.args.tables.now.groups.spans.ok.0;
+      covers = λ h lt yes. let low = rw (all, length-replicate) at lt in absurd (false≢true (rw (all, get_or-replicate) at yes));
+    }
+
+pub check_covering-requires-clause-covered : goal.check_covering-requires-clause-covered
+check_covering-requires-clause-covered g c = rw (c.in_ok-fill.ensures.level, c.in_ok-fill.ensures.same) c.cover_groups.ensures
+
+pub returns-clause-ok : goal.returns-clause-ok
+returns-clause-ok g c = rw (c.in_ok-fill.ensures.level, c.in_ok-fill.ensures.same) at c.check_covering.ensures.ok
