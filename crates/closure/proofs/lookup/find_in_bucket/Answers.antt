@@ -2,7 +2,7 @@
 -- covers the state, and that group `at` - 1 is in the bucket if there is one. If this group doesn't cover the state, the chain leads to
 -- the last group of the bucket before it, so none is skipped (`none_more`). At the end of the chain none is left, so no group of the
 -- bucket covers the state.
-use Rattle.std.proofs.Common.{◌≡◌, ℕ, ◌-◌, ◌<◌, ◌≤◌, List, get_or, sym, ◌∙◌, ap, arith}
+use Rattle.std.proofs.Common.{◌≡◌, ℕ, ◌-◌, ◌<◌, ◌≤◌, List, sym, ◌∙◌, arith}
 use Rattle.std.{specs.Prelude.slice_index, proofs.lemmas.Bool.cases_lt, proofs.lemmas.Bool.false≢true}
 use Rattle.closure.specs.{Chains.AreChains, Chains.IsLast, CellIndex.index_of, Tables.GroupCovers}
 use Rattle.closure.proofs.Lookups.{begun, led_on}
