@@ -48,6 +48,7 @@ returns-clause-beside g c = λ q d on within box.
     let back = neighbor_back q d on.top on.left in
     rw back at (c.loop-from.invariant.beside (neighbor q d) came (opposite d) (rw back within))
 
+-- what holds for each direction
 each_way : (P : Dir → Type 0) → P L → P U → P R → P D → (d : Dir) → P d
 each_way P l u r d L = l
 each_way P l u r d U = u

@@ -15,6 +15,7 @@ with_lines L U (Ok (Some why)) e h = h
 with_lines L U (Ok None) e h = (e, h)
 with_lines L U (Err x) e h = tt
 
+-- the line that is read is the pattern that was added
 stored_is : (g : _) (c : After-line g) → stored_pattern c.add.new.self c.line.result ≡ pattern_of (said_pattern c.args.pattern.now)
 stored_is g c =
     let said = said_pattern c.args.pattern.now in
