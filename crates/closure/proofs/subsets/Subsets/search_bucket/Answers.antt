@@ -28,3 +28,13 @@ returns-then-are_in-clause-found g c =
     let link = c.loop-self.invariant.subsets.link in
     let up = c.loop-self-test.true in
     record { within = omega arith; has = rw c.boxes-kept.ensures at c.if-are_in.ensures }
+
+pub loop-self-preserved : goal.loop-self-preserved
+loop-self-preserved g c =
+    let was = c.loop-self.invariant in
+    let low = was.subsets.link in
+    let less = falls g (goal.at.loop-self-preserved g c).After-index in
+    record { subsets = record { found = was.subsets.found; link = omega arith }; same = was.same }
+
+pub loop-self-smaller : goal.loop-self-smaller
+loop-self-smaller g c = falls g (goal.at.loop-self-smaller g c).After-index
