@@ -1,7 +1,7 @@
 -- If the player is on a box of the group, the group covers no state, since a region has no cell of its own boxes (`Regions.antt`). Otherwise,
 -- if the region is `whole`, it has every cell of the room without the boxes, and so the player's. If it isn't, `is_inside` decides by the
 -- hits on the path, which serve for the group because its boxes are among the boxes of the state.
-use Rattle.std.proofs.{Common.sym, Common.subst, lemmas.Bool.false≢true}
+use Rattle.std.proofs.{Common.refl, Common.sym, Common.subst, lemmas.Bool.false≢true}
 use Rattle.cellset.proofs.Members.{not_both}
 use Rattle.closure.{specs.Groups.position_at, specs.Hits.HitsDecide, proofs.Regions.region_lacks}
 use Rattle.closure.proofs.lookup.is_subset_covering.Goals as goal
@@ -22,3 +22,9 @@ is_inside-requires-clause-hits g c = λ pattern within lacks.
 
 pub returns-clause-exact : goal.returns-clause-exact
 returns-clause-exact g c = (λ yes. record { boxes = c.requires.group.has; player = c.is_inside.ensures.0 yes }, λ covers. c.is_inside.ensures.1 covers.player)
+
+pub returns-then-is_whole-clause-exact : goal.returns-then-is_whole-clause-exact
+returns-then-is_whole-clause-exact g c = (
+  λ _. record { boxes = c.requires.group.has; player = c.if-is_whole.ensures refl c.args.query.now.player c.requires.player (rw c.boxes.ensures at c.if-is_among.ensures) },
+  λ _. refl,
+)
