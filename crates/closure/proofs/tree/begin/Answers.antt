@@ -30,8 +30,8 @@ returns-clause-growing g c =
     root_alone level c.player-root.result (rw c.player-root.ensures.value c.shape-shape.ensures.formed.here)
     c.player-root.ensures.value (g.S.CellSet.members c.remove.new.self) s
     (record { numbers = with_item c.in_ok-numbers.numbers c.index_of.result 0; nodes = c.push.new.self })
-    (c.remove.ensures.members ∙ ap (λ s. finset.remove s c.player-root.result) (c.copy_from.ensures.members ∙ c.room.ensures.members)) refl
-    (c.in_ok-push.ensures.items ∙ ap (λ l. l ++ s ∷ []) c.in_ok-nodes.ensures.items) (length-set numbers c.index_of.result 0 ∙ long)
+    (rw (c.copy_from.ensures.members, c.room.ensures.members) at c.remove.ensures.members) refl
+    (rw c.in_ok-nodes.ensures.items at c.in_ok-push.ensures.items) (length-set numbers c.index_of.result 0 ∙ long)
     (rw index (get_or-set_same numbers (index_of c.player-root.result) 0 0
     (omega arith)))
 
