@@ -52,7 +52,10 @@ fn check_tables<S: CellSet>(alloc: Global, tables: &mut Tables<S>) -> Result<(),
         → IsFirstPatternFault tables.old.board.now (lines_in tables.old.groups.arena) fault) }
 {
     let mut covered = vec![in alloc; false; tables.groups.spans.len()]?;
-    cover_groups(tables, &mut None, &mut covered);
+    let mut no_scratch = None;
+    cover_groups(tables, &mut no_scratch, &mut covered);
+    // For the proof: it is dropped once, and not at each return.
+    drop(no_scratch);
     if is_start_found(tables) && are_all(&covered) {
         return Ok(());
     }

@@ -39,8 +39,8 @@ impl<S: CellSet> PushScratch<S> {
         ensures { IfOk result (IsReady S.extent tables.now) }
     {
         let state = S::new(alloc, tables.board.shape())?;
-        let piece = Piece::new(alloc, tables)?;
         let lookup = Scratch::new(alloc, tables)?;
+        let piece = Piece::new(alloc, tables)?;
         Ok(PushScratch {
             state,
             piece,
