@@ -1,4 +1,5 @@
 use Rattle.std.proofs.Common.{◌+◌, sym, ◌∙◌, subst}
+use Rattle.lines.proofs.Cuts.{first_shorter}
 use Rattle.board.proofs.LevelRuns.{IsRunSoFar, cut_at_end, cut_at_text, no_bytes, run_is, run_more, run_none, run_whole}
 use Rattle.board.proofs.SkippedText.{cut_further}
 use Rattle.board.proofs.collection.cut_after_run.Goals as goal
@@ -12,14 +13,27 @@ loop-row-preserved c =
     (run_more _ _ c.first_line.result.0.now _ _ _ c.loop-row.invariant c.first_line.ensures
     (sym c.is_board_line.ensures ∙ c.if-not-is_board_line.false))
 
-pub returns-then-not-is_board_line-clause-cut : goal.returns-then-not-is_board_line-clause-cut
-returns-then-not-is_board_line-clause-cut c =
+pub loop-row-smaller : goal.loop-row-smaller
+loop-row-smaller c = first_shorter _ _ _ c.first_line.ensures
+
+pub returns-then-not-is_board_line : goal.returns-then-not-is_board_line
+returns-then-not-is_board_line c =
     let so_far = c.loop-row.invariant in
     let run = c.split_at.ensures.front ∙ sym (run_is _ _ _ _ so_far) in
     let cut = cut_at_text _ _ _ _ so_far _ _ c.first_line.ensures (sym c.is_board_line.ensures ∙ c.if-not-is_board_line.true) in
-    cut_further _ _ _ _ (rw run cut) c.past_text.ensures
+    record {
+      cut = cut_further _ _ _ _ (rw run cut) c.past_text.ensures;
+      width = rw run so_far.width_is;
+      height = rw run so_far.height_is;
+    }
 
-pub returns-clause-cut : goal.returns-clause-cut
-returns-clause-cut c =
+pub returns : goal.returns
+returns c =
+    let so_far = c.loop-row.invariant in
     let none = no_bytes _ (sym c.is_empty.ensures ∙ c.loop-row-test.false) in
-    rw (run_whole _ _ _ _ c.loop-row.invariant none) at (cut_at_end _ _ _ _ c.loop-row.invariant none)
+    let whole = run_whole _ _ _ _ so_far none in
+    record {
+      cut = rw whole at (cut_at_end _ _ _ _ so_far none);
+      width = rw whole at so_far.width_is;
+      height = rw whole at so_far.height_is;
+    }

@@ -7,6 +7,7 @@ use Rattle.std.proofs.lemmas.Bool.{eqb-true}
 use Rattle.std.proofs.lemmas.List.Elements.{All-drop, All-head}
 use Rattle.bstr.specs.Text.{without_terminator}
 use Rattle.bstr.proofs.lemmas.LineLemmas.{lines-empty}
+use Rattle.lines.proofs.Cuts.{first_shorter}
 use Rattle.board.specs.Lines.{lines_in}
 use Rattle.board.proofs.FirstRows.{next_row, row_split, row_taken}
 use Rattle.board.proofs.sketch.draw.Goals as goal
@@ -19,6 +20,9 @@ draw_row-requires-clause-high g c =
     let was = c.rows.invariant in
     let next = next_row (lines_in c.args.text.now) c.rows.row _ _ (sym was.left ∙ (row_split _ _ _ c.first_line.ensures)) in
     rw was.shape (omega arith, omega arith)
+
+pub draw_row-requires-clause-within : goal.draw_row-requires-clause-within
+draw_row-requires-clause-within g c = (row_taken _ _ _ c.first_line.ensures).1
 
 pub draw_row-requires-clause-wide : goal.draw_row-requires-clause-wide
 draw_row-requires-clause-wide g c =
@@ -48,6 +52,9 @@ rows-preserved g c =
       drawn = rw next.1 (c.draw_row.ensures.drawn (take c.rows.row rows)
           (let long = length-take-le c.rows.row rows was.within in omega arith) was.drawn);
     }
+
+pub rows-smaller : goal.rows-smaller
+rows-smaller g c = first_shorter _ _ _ c.first_line.ensures
 
 pub returns-clause-drawn : goal.returns-clause-drawn
 returns-clause-drawn g c =
