@@ -1,4 +1,4 @@
-use Rattle.std.proofs.Common.{◌+◌, sym, ◌∙◌, subst}
+use Rattle.std.proofs.Common.{◌+◌, length, sym, ◌∙◌, ap, subst, arith, length-append}
 use Rattle.lines.proofs.Cuts.{first_shorter}
 use Rattle.board.proofs.LevelRuns.{IsRunSoFar, cut_at_end, cut_at_text, no_bytes, run_is, run_more, run_none, run_whole}
 use Rattle.board.proofs.SkippedText.{cut_further}
@@ -15,6 +15,9 @@ loop-row-preserved c =
 
 pub loop-row-smaller : goal.loop-row-smaller
 loop-row-smaller c = first_shorter _ _ _ c.first_line.ensures
+
+pub overflow_add-height : goal.overflow_add-height
+overflow_add-height c = omega (arith, ap length c.loop-row.invariant.cut.parts, length-append c.loop-row.invariant.run c.loop-row.rest.now)
 
 pub returns-then-not-is_board_line : goal.returns-then-not-is_board_line
 returns-then-not-is_board_line c =

@@ -1,26 +1,14 @@
-use Rattle.std.proofs.Common.{◌≡◌, ◌≢◌, ℕ, ◌+◌, ◌≤◌, false, ◌&&◌, length, sym, ◌∙◌, ap, arith, below_more}
-use Rattle.std.specs.List.{list_any}
-use Rattle.std.proofs.Math.Bool.{and-false}
+use Rattle.std.proofs.Common.{◌+◌, ◌≤◌, false, ◌||◌, length, sym, ◌∙◌, ap, arith, below_more}
 use Rattle.std.proofs.lemmas.Bool.{false≢true, ne_eqb}
-use Rattle.std.proofs.lemmas.List.Folds.{list_any_at, list_all_at}
+use Rattle.std.proofs.lemmas.List.Folds.{list_any_at}
 use Rattle.std.proofs.lemmas.Simd.{get_or-chunk}
 use Rattle.board.specs.Characters.{is_wall, is_board_character}
 use Rattle.board.proofs.BoardLines.{IsBlockOf, foreign_block, wall_block, tested_wall, tested_more, tested_all}
 use Rattle.board.proofs.collection.is_board_line.Goals as goal
 use Rattle.board.proofs.collection.is_board_line.Goals.{then-walls_in-ne0, else-walls_in-ne0, then-byte-eq35, else-byte-eq35}
 
-no_wall : (b : ℕ) → b ≢ 35 → is_wall b ≡ false
-no_wall b other = grind (arith, ne_eqb)
-
-pub returns-then-not-is_board_character : goal.returns-then-not-is_board_character
-returns-then-not-is_board_character c =
-    let line = c.args.line.now in
-    sym (ap (λ v. list_any is_wall line && v) (list_all_at is_board_character line c.loop-byte.byte-index 0 (omega arith)
-    (sym c.is_board_character.ensures ∙ c.if-not-is_board_character.true)) ∙ and-false (list_any is_wall line))
-
 pub loop-byte-preserved : goal.loop-byte-preserved
 loop-byte-preserved c =
-    let line = c.args.line.now in
     let n = c.loop-byte.byte-index in
     let was = c.loop-byte.invariant in
     let all = below_more _ n was.all (sym c.is_board_character.ensures ∙ c.if-not-is_board_character.false) in
@@ -28,14 +16,14 @@ loop-byte-preserved c =
       | then-byte-eq35 w ↦ rw w.has_wall-is (record {
         within = omega arith;
         all = all;
-        wall = λ _. list_any_at is_wall line n 0 (omega arith) (ap is_wall w.if-byte-eq35.true);
+        wall = λ _. list_any_at is_wall _ n 0 (omega arith) (ap is_wall w.if-byte-eq35.true);
         no_wall = λ h. absurd (false≢true (sym h));
       })
       | else-byte-eq35 w ↦ rw w.has_wall-is (record {
         within = omega arith;
         all = all;
         wall = was.wall;
-        no_wall = λ h. below_more _ n (was.no_wall h) (no_wall _ w.if-byte-eq35.false);
+        no_wall = λ h. below_more _ n (was.no_wall h) (ap (λ t. t || false) (ne_eqb _ _ w.if-byte-eq35.false));
       })
     ]
 
