@@ -19,7 +19,5 @@ draw_board-requires g c = omega (arith, c.in_ok-resize.ensures.len, c.height.ens
 
 pub returns-clause-shown : goal.returns-clause-shown
 returns-clause-shown g c =
-    let new = c.draw_board.new.field in
-    let rest = drop (length new) c.resize.new.self.items in
-    let same : length new ≡ c.resize.new.self.len = c.draw_board.auto.field ∙ c.deref_mut.ensures.len in
-    rw (← same, take-append_seam new rest) c.draw_board.ensures
+    let same : length c.draw_board.new.field ≡ c.resize.new.self.len = c.draw_board.auto.field ∙ c.deref_mut.ensures.len in
+    rw (← same, take-append_seam) c.draw_board.ensures
