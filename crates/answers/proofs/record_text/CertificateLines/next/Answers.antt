@@ -1,5 +1,5 @@
 -- A line is read as a zone, a pattern or neither. In each case, what the patterns before and the lines from it on come to is what is returned.
-use Rattle.std.proofs.Common.{ap, sym, ◌∙◌}
+use Rattle.std.proofs.Common.{ap, arith, sym, ◌∙◌}
 use Rattle.std.specs.Prelude.{option_map}
 use Rattle.answers.specs.Grammar.{said_pattern, said_zone}
 use Rattle.answers.specs.Certificates.{body_by_line, lines_left}
@@ -37,3 +37,6 @@ returns-clause-says c = λ patterns count.
     let read = sym c.in_ok-pattern.ensures ∙ ap (option_map said_pattern) c.in-Some-3.is in
     pattern_next lines.version patterns (said_line c.in-Some.line) (kept_in c.in-Some.rest) (lines_left lines) c.in-Some.ensures.some no_zone
     (said_pattern c.in-Some-3.pattern) read (λ full. c.if-self-eq-MOST_PATTERNS.false (sym count ∙ full))
+
+pub returns-clause-shorter : goal.returns-clause-shorter
+returns-clause-shorter c = λ _ _. rw c.in-Some.ensures.some (omega arith)
