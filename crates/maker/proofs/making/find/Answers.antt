@@ -1,5 +1,7 @@
 use Rattle.std.proofs.Common.{refl}
-use Rattle.maker.specs.Made.{lone_patterns}
+use Rattle.std.proofs.lemmas.Option.{MatchOption-at_some}
+use Rattle.answers.specs.RoundTrip.{IsLawfulBody}
+use Rattle.maker.specs.Made.{IsMade, IsAcceptedMade, body_of, lone_patterns}
 use Rattle.maker.proofs.Accepting.{dead_lists_closed}
 use Rattle.maker.proofs.Living.{dead_on}
 use Rattle.maker.proofs.MadeLists.{dead_lawful, of_dead}
@@ -31,3 +33,21 @@ pub returns-then-meets-clause-lawful : goal.returns-then-meets-clause-lawful
 returns-then-meets-clause-lawful g c =
     dead_lawful c.args.board.now c.shape-shape.ensures.formed c.in_ok-dead.dead.members c.in_ok-dead.ensures.exact
     c.in_ok-coords_in.field-0.items c.in_ok-coords_in.ensures.list c.in_ok-coords_in.ensures.count
+
+pub find_other-requires : goal.find_other-requires
+find_other-requires g c = record {
+  extent = c.in_ok-dead.ensures.extent;
+  exact = c.in_ok-dead.ensures.exact;
+  apart = rw c.boxes.ensures.members at c.if-meets.ensures;
+}
+
+pub returns-in-Some : goal.returns-in-Some
+returns-in-Some g c =
+    let level = c.args.board.now in
+    let made = c.in_ok-made in
+    record {
+      some = MatchOption-at_some _ (IsMade level) c.in-Some.made c.in-Some.is made.ensures.some;
+      none = tt;
+      accepted = MatchOption-at_some _ (IsAcceptedMade level) c.in-Some.made c.in-Some.is made.ensures.accepted;
+      lawful = MatchOption-at_some _ (λ m. IsLawfulBody (body_of m)) c.in-Some.made c.in-Some.is made.ensures.lawful;
+    }
