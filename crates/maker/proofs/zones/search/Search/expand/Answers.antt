@@ -10,7 +10,7 @@ pub returns-in-Some-clause-further : goal.returns-in-Some-clause-further
 returns-in-Some-clause-further g c = further_itself _ _ _
 
 pub returns-in-Some-clause-exact : goal.returns-in-Some-clause-exact
-returns-in-Some-clause-exact g c = grind (arith, goal_of)
+returns-in-Some-clause-exact g c = (goal_of c.args.board.now c.args.matching.now c.args.relay.now _ c.in-Some.ensures.0 c.requires.free).0
 
 pub returns-in-Some-clause-traced : goal.returns-in-Some-clause-traced
 returns-in-Some-clause-traced g c = λ start is_search.
@@ -20,7 +20,8 @@ returns-in-Some-clause-traced g c = λ start is_search.
     ((goal_of c.args.board.now c.args.matching.now c.args.relay.now _ c.in-Some.ensures.0 c.requires.free).1 c.index-here.result.now.cell c.in-Some.ensures.1)
 
 pub returns-then-enqueue_matched-clause-exact : goal.returns-then-enqueue_matched-clause-exact
-returns-then-enqueue_matched-clause-exact g c = grind (arith, read_visit)
+returns-then-enqueue_matched-clause-exact g c =
+    rw (read_visit c.args.self.now.queue.items c.args.at c.index-here.result.now c.requires.at c.index-here.ensures) c.if-enqueue_matched.ensures.exact
 
 pub returns-then-enqueue_matched-clause-traced : goal.returns-then-enqueue_matched-clause-traced
 returns-then-enqueue_matched-clause-traced g c = λ start is_search.
@@ -33,10 +34,10 @@ returns-then-enqueue_matched-clause-traced g c = λ start is_search.
     (is ∙ sym same) (in_own_reach c.args.board.now c.index-here.result.now.cell)
 
 pub enqueue_pushes-requires-clause-search : goal.enqueue_pushes-requires-clause-search
-enqueue_pushes-requires-clause-search g c = grind arith
+enqueue_pushes-requires-clause-search g c = let (start, is) = c.requires.search in (c.args.matching.now, start, c.enqueue_matched.ensures.search start is)
 
 pub returns-clause-further : goal.returns-clause-further
-returns-clause-further g c = grind (arith, further_on)
+returns-clause-further g c = further_on _ _ _ _ _ _ _ c.enqueue_matched.ensures.further c.enqueue_pushes.ensures.further
 
 pub returns-clause-search : goal.returns-clause-search
 returns-clause-search g c = λ start is_search. c.enqueue_pushes.ensures.search c.args.matching.now start (c.enqueue_matched.ensures.search start is_search)
