@@ -1,7 +1,7 @@
 -- Lists of the cells of a set in reading order, and that a text can spell them.
 -- A list in order has each cell once, so it is as long as the set. Each coordinate belongs to a cell of the grid, and a text can spell
 -- every such coordinate.
-use Rattle.std.proofs.Common.{◌≡◌, ◌<◌, List, [], ◌∷◌, ◌++◌, length, refl, sym, ◌∙◌, ap, subst, inl, inr, arith}
+use Rattle.std.proofs.Common.{◌≡◌, ◌<◌, List, [], ◌∷◌, ◌++◌, length, refl, arith}
 use Rattle.std.specs.Prelude.{map}
 use Rattle.std.specs.List.Sorted.{IsStrictlySortedBy}
 use Rattle.std.specs.declared.cmp.Ordering.TheVariants.{Less}

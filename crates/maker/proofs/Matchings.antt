@@ -2,7 +2,7 @@
 -- The boxes handled so far are the first boxes in reading order, and each of them is matched to a goal. The next box is matched too, or the
 -- search from it shows a Hall violator. If no search shows one, all boxes are matched at the end.
 use Rattle.std.proofs.Common.{◌≡◌, ℕ, ◌+◌, List, [], ◌∷◌, ◌++◌, arith}
-use Rattle.std.specs.Prelude.{Option, None, Some, slice_index_or}
+use Rattle.std.specs.Prelude.{Option, None, slice_index_or}
 use Rattle.std.specs.FinSet as set
 use Rattle.std.specs.FinSet.{len-empty}
 use Rattle.cellset.specs.Shape.{Extent}

@@ -1,7 +1,7 @@
 -- Why a level has at most one least zone, and why it refutes the level.
 -- Two least zones have the same least k, so each lies within the other. The floor cells of a crowded set are a closed and crowded set
 -- too, since boxes are on floor. A least zone lies within that set, so it is lawful.
-use Rattle.std.proofs.Common.{◌≡◌, ℕ, ◌≤◌, Bool, not, ◌&&◌, sym, ◌∙◌, ap, subst, inl, inr, arith}
+use Rattle.std.proofs.Common.{◌≡◌, ◌≤◌, Bool, not, ◌&&◌, inl, inr, arith}
 use Rattle.std.proofs.lemmas.Bool.{cases_lt, and_from}
 use Rattle.std.specs.FinSet as set
 use Rattle.std.specs.FinSet.{contains}
@@ -17,7 +17,7 @@ use Rattle.board.specs.Board.{IsWellFormed}
 use Rattle.closure.specs.Zone.{count_in, IsRefuting}
 use Rattle.closure.proofs.Counts.{len-within}
 use Rattle.closure.proofs.Sets.{has_intersection, in_intersection}
-use Rattle.maker.specs.Zones.{IsCrowded, IsCrowdedByFirst, IsLeastZone}
+use Rattle.maker.specs.Zones.{IsCrowded, IsLeastZone}
 use Rattle.maker.proofs.Pairings.{count_within}
 
 -- ---- one zone

@@ -1,9 +1,8 @@
 -- The tree has one node, for the root, and all other cells of the room are left. The table has an entry for each cell of the grid, so the
 -- root's number can be written. `root_alone` of `Spanning.antt` says that such a tree is a growing one: its only node is in the room, and
 -- every cell of the room that isn't left, which is the root alone, has its number.
-use Rattle.std.proofs.Common.{◌≡◌, ◌+◌, ◌*◌, [], ◌∷◌, ◌++◌, length, refl, ◌∙◌, ap, arith}
+use Rattle.std.proofs.Common.{◌≡◌, ◌+◌, ◌*◌, length, refl, ◌∙◌, ap, arith}
 use Rattle.std.{proofs.lemmas.List.get_or-set_same, proofs.lemmas.List.length-set, specs.Vec.with_item}
-use Rattle.std.specs.FinSet as finset
 use Rattle.cellset.specs.declared.dir.Dir.TheVariants.{L}
 use Rattle.closure.{specs.CellIndex.index_of, specs.declared.tree.Node.Node, proofs.Spanning.root_alone}
 use Rattle.closure.proofs.tree.begin.Goals as goal
