@@ -1,4 +1,5 @@
-use Rattle.std.{proofs.Common.◌+◌, proofs.Common.◌<◌, proofs.Common.length, proofs.Common.ap, proofs.Common.◌∙◌, proofs.Common.arith, proofs.lemmas.List.take_all}
+use Rattle.std.proofs.Common.{◌+◌, ◌<◌, length, ap, ◌∙◌, arith}
+use Rattle.std.proofs.lemmas.List.{take_all}
 use Rattle.closure.{specs.Arena.list_in, specs.Arena.pattern_at, specs.Scan.IsEntryOf, proofs.Arenas.list_long, proofs.Arenas.listed_at}
 use Rattle.closure.proofs.{CellLists.at_any, Lists.length_more, Entries.zip_more}
 use Rattle.closure.proofs.scan.enter_each.Goals as goal

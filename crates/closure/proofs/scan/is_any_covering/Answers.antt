@@ -1,7 +1,8 @@
 -- The invariant says that no entry so far covers the state. All entries are on the grid of the room, as are the boxes and the player, so
 -- each may be asked. An entry that covers the state is the one that has to be shown if the result is true. After the loop all entries have
 -- come, so none of them covers it.
-use Rattle.std.proofs.{Common.◌≡◌, Common.◌∙◌, Common.refl, Common.sym, lemmas.Bool.false≢true, lemmas.List.take_all, lemmas.List.Elements.All-contains, lemmas.List.Elements.All-more}
+use Rattle.std.proofs.Common.{◌≡◌, ◌∙◌, refl, sym}
+use Rattle.std.proofs.{lemmas.Bool.false≢true, lemmas.List.take_all, lemmas.List.Elements.All-contains, lemmas.List.Elements.All-more}
 use Rattle.board.specs.Game.{State}
 use Rattle.closure.specs.Scan.{EntryCells, EntryCovers}
 use Rattle.closure.proofs.scan.is_any_covering.Goals as goal
@@ -30,4 +31,5 @@ covers-requires g c =
 
 pub returns-then-covers : goal.returns-then-covers
 returns-then-covers g c =
-    (λ _. (c.entry-item.result, (c.loop-entry.entry-index, c.loop-entry-test.true, sym c.entry-item.is), c.covers.ensures.0 c.if-covers.true), λ _. refl)
+    let item = c.entry-item in
+    (λ _. (item.result, (c.loop-entry.entry-index, c.loop-entry-test.true, sym item.is), c.covers.ensures.0 c.if-covers.true), λ _. refl)

@@ -12,4 +12,5 @@ overflow_sub-result-2 g c =
 
 pub returns-clause-value : goal.returns-clause-value
 returns-clause-value g c =
-    let union = rw (c.union_with.ensures.members, c.copy_from.ensures.members) at c.len-2.ensures in omega (arith, len_union, len_union_right)
+    let union = rw (c.union_with.ensures.members, c.copy_from.ensures.members) at c.len-2.ensures in
+    omega (arith, len_union, len_union_right)
