@@ -129,7 +129,6 @@ pub(crate) fn is_among<S: CellSet>(cells: &[Cell], set: &S, cell: Cell) -> bool
 }
 
 // Replaces the members by the cells.
-#[tactic(auto, using(crate::proofs::CellLists::read_in, crate::proofs::CellLists::next_in, crate::proofs::CellLists::list_all))]
 pub(crate) fn load<S: CellSet>(cells: &[Cell], set: &mut S)
     requires { (c : GridCell) → Has (cells_in cells.now) c → IsOn (S.extent set.old) c }
     ensures extent { S.extent set.new ≡ S.extent set.old }

@@ -150,7 +150,6 @@ fn first_leak<S: CellSet>(board: &Board<S>, zone: &S) -> Option<(Cell, Dir)>
 }
 
 // Returns how many of the cells lie in the zone: both sizes less the size of the union. `union` is a buffer.
-#[tactic(auto, using(crate::proofs::Counts::len_union, crate::proofs::Counts::len_union_right))]
 fn count_in<S: CellSet>(zone: &S, cells: &S, union: &mut S) -> usize
     requires zone { S.extent zone.now ≡ S.extent union.old }
     requires cells { S.extent cells.now ≡ S.extent union.old }

@@ -2,7 +2,7 @@
 -- the grid. A turn makes the room without the boxes of a group free, which are on the grid because the group is lawful; the room is in one
 -- piece at first (`Pieces.antt`). The flood finds the region of the group's position (`reached_position` in `Grouped.antt`). The boxes of a
 -- group come after the boxes of earlier groups, so their sides stay when its own are noted.
-use Rattle.std.proofs.Common.{◌≡◌, ℕ, ◌+◌, ◌<◌, List, [], ◌∷◌, ◌++◌, length, get_or, sym, ◌∙◌, subst, inl, inr, arith}
+use Rattle.std.proofs.Common.{◌≡◌, ℕ, ◌+◌, ◌<◌, List, [], ◌∷◌, ◌++◌, length, get_or, sym, ◌∙◌, ap, subst, inl, inr, arith}
 use Rattle.std.proofs.lemmas.{List.length-drop, List.length-take, Bool.cases_lt, Bool.false≢true}
 use Rattle.std.specs.Prelude.{◌↔◌, Bool, IsTrue, MatchBool, false, true}
 use Rattle.cellset.specs.{Cell.neighbor, CellSet.Cells, CellSet.Has, CellSet.Lacks, declared.cell.Cell.Cell}
@@ -59,7 +59,7 @@ pub note_sides-requires : goal.note_sides-requires
 note_sides-requires g c =
     let groups = c.args.groups.now in
     let lt = rw (c.len-group-end.ensures ∙ groups.spans.ok.0) at c.loop-group-test.true in
-    let on : c.found-region.result.now.extent ≡ c.args.board.now.shape = grind arith in
+    let on : c.found-region.result.now.extent ≡ c.args.board.now.shape = cc in
     record {
       boxes = λ q box. rw on (boxes_on c.args.board.now groups c.requires.lawful c.requires.groups c.loop-group.group lt _ c.boxes-boxes.ensures q box);
       room = rw c.boxes-boxes.ensures (
@@ -104,11 +104,11 @@ loop-group-preserved g c =
       all = λ yes q in_room lacks. (position q).0 (rw (← (rw yes at chosen)) at ((is_free q).1 (in_room, lacks)));
     } in
     record {
-      free_on = grind arith;
-      region_on = grind arith;
+      free_on = rw (found.same.0, c.take_out.ensures.same.0) inv.free_on;
+      region_on = rw (found.same.1, c.take_out.ensures.same.1) inv.region_on;
       long = c.note_sides.ensures.long ∙ inv.long;
-      count = grind (arith, length_more);
-      roomy = grind arith;
+      count = rw c.push_reserved-in-loop-group.ensures.items (length_more c.loop-group.of.items new ∙ ap (λ k. k + 1) inv.count);
+      roomy = rw c.push_reserved-in-loop-group.ensures.capacity inv.roomy;
       sides = one_more (λ k. AreSidesAt level trap groups k sides) n
           (λ k before off i within.
           let end = span_end cells spans inside k (omega arith) in
@@ -132,18 +132,28 @@ loop-group-preserved-then-is_trapped g c =
       free_on = inv.free_on;
       region_on = inv.region_on;
       long = inv.long;
-      count = grind (arith, length_more);
-      roomy = grind arith;
+      count = rw c.push_reserved.ensures.items (length_more c.loop-group.of.items new ∙ ap (λ k. k + 1) inv.count);
+      roomy = rw c.push_reserved.ensures.capacity inv.roomy;
       sides = one_more (λ k. AreSidesAt level trap groups k c.loop-group.sides.items) n inv.sides (λ off. absurd (on off));
       each = region_more (IsRegionAt level trap groups) c.loop-group.of.items _ new n inv.count c.push_reserved.ensures.items inv.each
           (record { root_in = λ off. absurd (on off); all = λ yes. absurd (false≢true yes) });
     }
 
 pub boxes-boxes-requires : goal.boxes-boxes-requires
-boxes-boxes-requires g c = grind arith
+boxes-boxes-requires g c = record {
+  groups = c.requires.groups;
+  group = rw (c.len-group-end.ensures ∙ c.args.groups.now.spans.ok.0) at c.loop-group-test.true;
+}
 
 pub returns : goal.returns
-returns g c = grind arith
+returns g c =
+    let all : c.loop-group.group ≡ length c.args.groups.now.spans.items = omega arith in
+    record {
+      long = c.loop-group.invariant.long;
+      count = c.loop-group.invariant.count ∙ all;
+      sides = rw all at c.loop-group.invariant.sides;
+      each = rw all at c.loop-group.invariant.each;
+    }
 
 pub push_reserved-requires : goal.push_reserved-requires
-push_reserved-requires g c = grind arith
+push_reserved-requires g c = omega arith

@@ -1,11 +1,19 @@
 use Rattle.std.proofs.Common.{◌+◌, ◌<◌, length, ap, ◌∙◌, arith}
+use Rattle.std.proofs.lemmas.List.{take_all}
 use Rattle.closure.{specs.Arena.list_in, specs.Arena.pattern_at, specs.Scan.IsEntryOf, proofs.Arenas.list_long, proofs.Arenas.listed_at}
 use Rattle.closure.proofs.{CellLists.at_any, Lists.length_more, Entries.zip_more}
 use Rattle.closure.proofs.scan.enter_each.Goals as goal
 
-pub enter-requires-clause-lawful : goal.enter-requires-clause-lawful
-enter-requires-clause-lawful g c =
-    rw c.pattern.ensures.pattern (c.requires.lawful _ (listed_at c.args.arena.now c.loop-line.line (omega arith)))
+pub enter-requires : goal.enter-requires
+enter-requires g c = record {
+  lawful = rw c.pattern.ensures.pattern (c.requires.lawful _ (listed_at c.args.arena.now c.loop-line.line (omega arith)));
+  flooder = c.loop-line.invariant.flooder;
+  seeds = c.loop-line.invariant.seeds;
+  set = c.loop-line.invariant.set;
+}
+
+pub push_reserved-requires : goal.push_reserved-requires
+push_reserved-requires g c = omega arith
 
 pub loop-line-preserved : goal.loop-line-preserved
 loop-line-preserved g c =
@@ -25,3 +33,8 @@ loop-line-preserved g c =
           c.in_ok-enter.field-0 low (at_any patterns line _ _ low) old.entries
           (rw c.pattern.ensures.pattern at c.in_ok-enter.ensures.ok));
     }
+
+pub returns : goal.returns
+returns g c =
+    let long = list_long c.args.arena.now in
+    rw (take_all c.loop-line.line (list_in c.args.arena.now) (omega arith)) at c.loop-line.invariant.entries
