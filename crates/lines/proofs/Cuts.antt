@@ -49,7 +49,8 @@ cut_lines text front [] cut = ap lines_of cut.parts ∙ with_nothing front
 cut_lines text front (b ∷ rest) cut = ap lines_of cut.parts ∙ cut.whole (omega arith) (b ∷ rest)
 
 pub cut_lines_in : (text front rest : List ℕ) → IsLineCut text front rest → lines_in text ≡ lines_in front ++ lines_in rest
-cut_lines_in text front rest cut = ap (map without_terminator) (cut_lines text front rest cut) ∙ map-append without_terminator (lines_of front) (lines_of rest)
+cut_lines_in text front rest cut =
+    ap (map without_terminator) (cut_lines text front rest cut) ∙ map-append without_terminator (lines_of front) (lines_of rest)
 
 -- A cut of the rest is a further cut of the text.
 pub cut_more : (text front rest piece left : List ℕ) → IsLineCut text front rest → IsLineCut rest piece left → IsLineCut text (front ++ piece) left
@@ -63,7 +64,8 @@ cut_more text front rest piece left cut next = record {
 pub more_lines : (text front rest piece left : List ℕ) → IsLineCut text front rest → IsLineCut rest piece left →
     lines_of (front ++ piece) ≡ lines_of front ++ lines_of piece
 more_lines text front rest [] left cut next = with_nothing front
-more_lines text front rest (b ∷ piece) left cut next = cut.whole (omega (arith, ap length next.parts, length-append (b ∷ piece) left)) (b ∷ piece)
+more_lines text front rest (b ∷ piece) left cut next =
+    cut.whole (omega (arith, ap length next.parts, length-append (b ∷ piece) left)) (b ∷ piece)
 
 -- A text that isn't empty has a line.
 pub some_lines : (bs : List ℕ) → 0 < length bs → 0 < length (lines_in bs)

@@ -167,6 +167,8 @@ module _ (f s c : ℕ) (fits : f < 2 ^ 64) (small : c ≤ 1) where
 -- a sum of two words and a carry overflows exactly if one of the two additions does
 pub over_by_either : (over over_too : Bool) (a b c : ℕ) → a < 2 ^ 64 → b < 2 ^ 64 → c ≤ 1 → FalseIff over (a + b < 2 ^ 64)
     → FalseIff over_too ((a + b) % 2 ^ 64 + c < 2 ^ 64) → bool_byte (over || over_too) ≡ (a + b + c) / 2 ^ 64
-over_by_either true over_too a b c fits fits' small past _ = elim (cases_lt (a + b) (2 ^ 64)) [ inl h ↦ absurd (past h) | inr h ↦ omega arith ]
-over_by_either false true a b c fits fits' small within past = elim (cases_lt ((a + b) % 2 ^ 64 + c) (2 ^ 64)) [ inl h ↦ absurd (past h) | inr h ↦ omega arith ]
+over_by_either true over_too a b c fits fits' small past _ =
+    elim (cases_lt (a + b) (2 ^ 64)) [ inl h ↦ absurd (past h) | inr h ↦ omega arith ]
+over_by_either false true a b c fits fits' small within past =
+    elim (cases_lt ((a + b) % 2 ^ 64 + c) (2 ^ 64)) [ inl h ↦ absurd (past h) | inr h ↦ omega arith ]
 over_by_either false false a b c fits fits' small within within' = omega arith

@@ -67,7 +67,8 @@ bit_at_low a w k h = sym (bit_at_cat_low (a / 2 ^ w) w (a % 2 ^ w) k h) ∙ ap (
 pub bit_shl : (a s w k : ℕ) → Bit (a * 2 ^ s % 2 ^ w) k → (k < w) × (s ≤ k) × Bit a (k - s)
 bit_shl a s w k h =
     let below : k < w = bit_below (a * 2 ^ s % 2 ^ w) w k (mod-lt (a * 2 ^ s) (pow_pos w)) h in
-    let here : bit_at (a * 2 ^ s + 0) k ≡ 1 = ap (λ v. bit_at v k) (add-zero (a * 2 ^ s)) ∙ sym (bit_at_low (a * 2 ^ s) w k below) ∙ is_one h in
+    let here : bit_at (a * 2 ^ s + 0) k ≡ 1 =
+    ap (λ v. bit_at v k) (add-zero (a * 2 ^ s)) ∙ sym (bit_at_low (a * 2 ^ s) w k below) ∙ is_one h in
     grind (arith, cases_lt, bit_at_cat_low, bit_at-zero, bit_of, bit_at_cat_high, pow_pos)
 
 pub bit_shl_from : (a s w k : ℕ) → k < w → s ≤ k → Bit a (k - s) → Bit (a * 2 ^ s % 2 ^ w) k

@@ -20,7 +20,7 @@ pulls-preserved g c = search (rules, read_after)
 
 pub returns-in_err-count-clause-taken : goal.returns-in_err-count-clause-taken
 returns-in_err-count-clause-taken g c =
-    (_, omega (arith, length-take c.pulls.taken c.pulls.text.items), Consumes-kept _ _ _ _ c.pulls.invariant.bytes c.in_err-count.ensures.same)
+    (_, omega (arith, length-take {A = ℕ}), Consumes-kept _ _ _ _ c.pulls.invariant.bytes c.in_err-count.ensures.same)
 
 pub returns-clause-taken : goal.returns-clause-taken
 returns-clause-taken g c = (_, omega (arith, length-take c.pulls.taken c.pulls.text.items), c.pulls.invariant.bytes)
@@ -30,5 +30,6 @@ returns-then-count-eq0-clause-taken g c =
     let more = c.in_ok-count.ensures in (
       _,
       omega (arith, length-take {A = ℕ}),
-      read_after _ _ _ c.pulls.text.items c.pull_after.new.text.items c.pulls.taken c.in_ok-count.count more.front c.pulls.invariant.bytes more.bytes,
+      read_after _ _ _ c.pulls.text.items c.pull_after.new.text.items c.pulls.taken c.in_ok-count.count more.front
+          c.pulls.invariant.bytes more.bytes,
     )

@@ -7,4 +7,5 @@ loop-i-preserved g c = joining_more c.args.free.now c.args.here.now c.args.row.n
     (omega arith)
 
 pub returns-clause-bits : goal.returns-clause-bits
-returns-clause-bits g c = joined c.args.free.now c.args.here.now c.args.row.now c.loop-i.row c.loop-i.i c.loop-i.grew (omega arith) c.loop-i.invariant
+returns-clause-bits g c =
+    joined c.args.free.now c.args.here.now c.args.row.now c.loop-i.row c.loop-i.i c.loop-i.grew (omega arith) c.loop-i.invariant
