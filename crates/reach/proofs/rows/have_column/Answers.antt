@@ -1,7 +1,6 @@
 use Rattle.std.proofs.Common.{[], refl, arith}
 use Rattle.std.proofs.lemmas.List.{get_or_read}
 use Rattle.cellset.specs.Cell.{cell_at}
-use Rattle.reach.proofs.Written.{to_row}
 use Rattle.reach.proofs.rows.have_column.Goals as goal
 
 pub returns-then-any : goal.returns-then-any
@@ -10,8 +9,3 @@ returns-then-any g c =
     let some = c.if-any.ensures.some refl in
     let both = (c.both.ensures some.0).0 some.1 in
     (cell_at some.0 y, rw (get_or_read c.args.rows.now y _ (omega arith) c.index-rows-y.is []) at both.0, both.1)
-
-pub loop-y-preserved : goal.loop-y-preserved
-loop-y-preserved g c = λ q low here there.
-    let none = rw (get_or_read c.args.rows.now c.loop-y.y _ (omega arith) c.index-rows-y.is []) at c.both.ensures q.column in
-    grind (arith, to_row)
