@@ -2,7 +2,7 @@
 -- The parser is a value, so what it takes and finds can be computed for words whose first bytes are known. Clap asks of a
 -- text only that it has no hyphen in front, and a plain word has none. A level's number in decimal consists of digits with
 -- this value, and the first is no sign. So clap reads these digits, and finds the number in its range.
-use Rattle.std.proofs.Common.{◌≡◌, ◌≢◌, ◌<◌, ◌^◌, ℕ, List, [], ◌∷◌, true, false, nat_eq, refl, codes, length, get_or, None, Some, option_map, inl, inr, sym, subst, arith}
+use Rattle.std.proofs.Common.{◌≡◌, ◌≢◌, ◌<◌, ◌^◌, ℕ, List, [], ◌∷◌, true, false, nat_eq, refl, codes, length, get_or, None, Some, option_map, inl, inr, sym, ap, ◌∙◌, subst, arith}
 use Rattle.std.specs.Prelude.{Option, decimal, int_le, nat_lt, pos}
 use Rattle.std.specs.Char.{digit_value}
 use Rattle.std.specs.List.{list_all}
@@ -39,22 +39,22 @@ only_memory (k ∷ ks) e found is = cc
 audit_faultless : (p : Text) (x : ℕ) (xs : Text) (y : ℕ) (ys : Text) → nat_eq x 45 ≡ false → nat_eq y 45 ≡ false
     → fault_of program_app (p ∷ codes "audit" ∷ (x ∷ xs) ∷ (y ∷ ys) ∷ []) ≡ []
 unfolding clap_on_literals
-audit_faultless p x xs y ys hx hy = simp (hx, hy) refl
+audit_faultless p x xs y ys hx hy = grind arith
 
 audit_given : (p : Text) {x : ℕ} (xs : Text) {y : ℕ} (ys : Text) → nat_eq x 45 ≡ false → nat_eq y 45 ≡ false
     → option_map given_of (subcommand_of program_app (p ∷ codes "audit" ∷ (x ∷ xs) ∷ (y ∷ ys) ∷ []))
     ≡ Some (record { name = codes "audit"; levels = Some (x ∷ xs); answers = Some (y ∷ ys); number = None })
 unfolding clap_on_literals
-audit_given p xs ys hx hy = simp (hx, hy) refl
+audit_given p xs ys hx hy = grind arith
 
 make_faultless : (p : Text) (x : ℕ) (xs : Text) → nat_eq x 45 ≡ false → fault_of program_app (p ∷ codes "make" ∷ (x ∷ xs) ∷ []) ≡ []
 unfolding clap_on_literals
-make_faultless p x xs hx = simp hx refl
+make_faultless p x xs hx = grind arith
 
 make_given : (p : Text) {x : ℕ} (xs : Text) → nat_eq x 45 ≡ false → option_map given_of (subcommand_of program_app (p ∷ codes "make" ∷ (x ∷ xs) ∷ []))
     ≡ Some (record { name = codes "make"; levels = Some (x ∷ xs); answers = None; number = None })
 unfolding clap_on_literals
-make_given p xs hx = simp hx refl
+make_given p xs hx = grind arith
 
 -- clap's tests of a number hold: the text has no sign and digits alone, and the number is in the range
 record IsTestedNumber (y : ℕ) (ys : Text) : Type 0 where
@@ -75,7 +75,7 @@ dead_given : (p : Text) {x : ℕ} (xs : Text) {y : ℕ} (ys : Text) → nat_eq x
     → option_map given_of (subcommand_of program_app (p ∷ codes "dead" ∷ (x ∷ xs) ∷ (y ∷ ys) ∷ []))
     ≡ Some (record { name = codes "dead"; levels = Some (x ∷ xs); answers = None; number = Some (y ∷ ys) })
 unfolding clap_on_literals
-dead_given p xs ys hx hy = simp (hx, hy) refl
+dead_given p xs ys hx hy = grind arith
 
 -- ---- from plain words
 
@@ -101,7 +101,7 @@ make_spelled p (x ∷ xs) ha = record {
 
 are_digits : (ds : Text) → AllDigits 10 ds → list_all (λ d. nat_lt (digit_value d) 10) ds ≡ true
 are_digits [] h = refl
-are_digits (d ∷ ds) h = grind (arith, are_digits ds h.1)
+are_digits (d ∷ ds) h = rw (lt-ltb (digit_value d) 10 h.0, are_digits ds h.1) refl
 
 -- the first digit of a number in decimal isn't 0, and the value of its digits is the number
 record IsDecimalText (n : ℕ) (text : Text) : Type 0 where
@@ -114,13 +114,13 @@ is_decimal : {n : ℕ} → IsLevelNumber n → IsDecimalText n (decimal n)
 is_decimal {n} h =
     let fits : n < 2 ^ 64 = omega arith in
     let numeral = decimal_is_IsNumeral n fits in
-    grind (arith, first_decimal)
+    record { first = first_decimal n (omega arith) fits; some = numeral.0.0; digits = numeral.0.1; value = numeral.1 }
 
 tested : {n y : ℕ} {ys : Text} → IsLevelNumber n → IsDecimalText n (y ∷ ys) → IsTestedNumber y ys
 tested h is = grind (arith, ne_eqb, lt-ltb, are_digits, le-leb)
 
 number_in : {n y : ℕ} {ys : Text} → IsLevelNumber n → IsDecimalText n (y ∷ ys) → nat_eq y 43 ≡ false → IsNumberIn (y ∷ ys) n
-number_in h is plus = grind arith
+number_in h is plus = rw plus ((is.some, is.digits), is.value, h)
 
 dead_spelled : (p a : Text) {n : ℕ} (text : Text) → IsPlainWord a → IsLevelNumber n → IsDecimalText n text
     → IsTakenAs (p ∷ codes "dead" ∷ a ∷ text ∷ []) (dead a n)
@@ -142,11 +142,11 @@ spelled (dead levels n) h = subst (λ ws. IsTakenAs ws (dead levels n)) (sym h.1
 -- clap finds the texts of a subcommand in the words themselves
 pub rows_found : {A : Type 0} (app : App) (words : List Text) (rows : Option (Text × List Row)) → app ≡ program_app
     → (is_simple app ≡ true → A × (rows ≡ subcommand_of app words)) → rows ≡ subcommand_of program_app words
-rows_found app words rows is found = grind (arith, simple)
+rows_found app words rows is found = (found (ap is_simple is ∙ simple)).1 ∙ ap (λ a. subcommand_of a words) is
 
 pub found_in : (words : List Text) (request : Request) (rows : Option (Text × List Row)) → rows ≡ subcommand_of program_app words
     → (given : Given) × (option_map given_of rows ≡ Some given) × GivesRequest given request → ClapFinds words request
-found_in words request rows is h = grind arith
+found_in words request rows is h = (h.0, ap (option_map given_of) (sym is) ∙ h.1, h.2)
 
 -- words have at most one request
 pub found_once : (words : List Text) (one other : Request) → ClapFinds words one → ClapFinds words other → one ≡ other

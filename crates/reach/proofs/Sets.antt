@@ -2,7 +2,8 @@
 use Rattle.std.proofs.Common.{◌≡◌, ℕ, ◌+◌, ◌*◌, ◌<◌, ◌≤◌, Bool, true, false, ◌||◌, List, ◌++◌, take, drop, length, refl, sym, ◌∙◌, ap, inl}
 use Rattle.std.proofs.Common.{inr, arith}
 use Rattle.std.specs.Prelude.{◌⊎◌, ◌↔◌}
-use Rattle.std.proofs.Math.ListN.{replicate}
+use Rattle.std.proofs.Math.ListN.{replicate, length-set}
+use Rattle.std.proofs.Math.ListN as lists
 use Rattle.std.proofs.lemmas.Bool.{false≢true, cases_lt}
 use Rattle.std.proofs.lemmas.List.{get_or-replicate, length-replicate, append-nil, take_all, drop_all}
 use Rattle.std.specs.FinSet as set
@@ -48,6 +49,12 @@ put_back n old new same_len kept = grind (arith, drop_all, append-nil, take_all)
 pub rows_put_back : (n : ℕ) (shape : Extent) (len : ℕ) (old new : List (List ℕ)) → len ≡ length old → AreRowsOf n shape old → length new ≡ length old
     → ((c : Cell) → InRows new c → IsOn shape c) → AreRowsOf n shape (take len (new ++ drop (length new) old))
 rows_put_back n shape len old new same_len were kept on = grind (arith, put_back)
+
+-- rows of which one was written
+pub rows_written : (n : ℕ) (shape : Extent) (items : List (List ℕ)) (y : ℕ) (row : List ℕ) → AreRowsOf n shape items
+    → ((c : Cell) → InRows (lists.set items y row) c → IsOn shape c) → AreRowsOf n shape (lists.set items y row)
+rows_written n shape items y row r on =
+    record { few = r.few; wide = r.wide; sides = r.sides; long = length-set items y row ∙ r.long; on = on }
 
 -- rows of the same grid are equally many
 pub rows_alike : (n : ℕ) (a b : Extent) (xs ys : List (List ℕ)) → a ≡ b → AreRowsOf n a xs → AreRowsOf n b ys → length xs ≡ length ys
