@@ -19,7 +19,7 @@ use Rattle.cellset.proofs.Bits.{bit-and, bit-not}
 
 -- ---- no bits
 pub zero_bit : (i : ℕ) → bit 0 i ≡ false
-zero_bit i = ap (λ b. nat_eq b 1) (bit_at-zero i)
+zero_bit i = search (bit_at-zero)
 
 pub none_in_zeros : (n k : ℕ) → has_bit (replicate n zero) k ≡ false
 none_in_zeros n k = ap (λ w. bit w (k % 64)) (zero_at n (k / 64)) ∙ zero_bit (k % 64)
@@ -38,7 +38,7 @@ pub or_zero : (a b : ℕ) → b ≡ 0 → a ≡ bit_or a b
 or_zero a b none = same_from_bits a (bit_or a b) (λ i. grind (arith, bit_at_or, bit_at-zero))
 
 pub none_past : (words : List ℕ) (k : ℕ) → length words ≤ k / 64 → has_bit words k ≡ false
-none_past words k past = ap (λ w. bit w (k % 64)) (word_past words (k / 64) past) ∙ zero_bit (k % 64)
+none_past words k past = search (word_past, zero_bit)
 
 -- bit 64 * i + j is bit j of word i
 pub bit_there : (words : List ℕ) (i j : ℕ) → j < 64 → has_bit words (64 * i + j) ≡ bit (get_or words i 0) j
@@ -61,7 +61,7 @@ mask_inside : (k j : ℕ) → k ≤ j → j < 64 → bit (mask_from k) j ≡ tru
 mask_inside k j low high = ap (λ m. bit m j) (ones_shl 64 k (omega arith)) ∙ ap (λ b. nat_eq b 1) (bit_at_mask_inside k 64 j low high)
 
 mask_below : (k j : ℕ) → j < k → k ≤ 64 → bit (mask_from k) j ≡ false
-mask_below k j low high = ap (λ m. bit m j) (ones_shl 64 k high) ∙ ap (λ b. nat_eq b 1) (bit_at_mask_below k 64 j low)
+mask_below k j low high = search (ones_shl, bit_at_mask_below)
 
 pub search_starts : (words : List ℕ) (n : ℕ) → n / 64 < length words → get_or words (n / 64) 0 < 2 ^ 64
     → IsSearched words n (n / 64) (bit_and (get_or words (n / 64) 0) (mask_from (n % 64)))
@@ -136,8 +136,7 @@ pub count_word : (words : List ℕ) (i : ℕ) → get_or words i 0 < 2 ^ 64
     → bits_below words (64 * (i + 1)) ≡ bits_below words (64 * i) + count_ones (get_or words i 0)
 count_word words i fits =
     let up : 64 * (i + 1) ≡ 64 * i + 64 = omega arith in
-    ap (bits_below words) up ∙ count_within words i 64 (omega arith)
-    ∙ ap (λ n. bits_below words (64 * i) + n) (ones_all 64 (get_or words i 0) fits)
+    grind (arith, count_within, ones_all)
 
 -- at most n of the first n bits are set
 pub count_le : (words : List ℕ) (n : ℕ) → bits_below words n ≤ n

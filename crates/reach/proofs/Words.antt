@@ -10,54 +10,54 @@ use Rattle.std.proofs.lemmas.Nat.Bits.{bit_at_set_other, bit_at_clear_same, bit_
 use Rattle.reach.specs.Bits.{Bit}
 
 pub bit_of : (a k : ℕ) → bit_at a k ≡ 1 → Bit a k
-bit_of a k e = record { is = eq-eqb (bit_at a k) 1 e }
+bit_of a k e = search (eq-eqb)
 
 pub is_one : {a k : ℕ} → Bit a k → bit_at a k ≡ 1
 is_one {a = a} {k = k} b = eqb-true (bit_at a k) 1 b.is
 
 -- a bit is set or not
 pub bit_cases : {G : Type 0} (a k : ℕ) → (Bit a k → G) → (bit_at a k ≡ 0 → G) → G
-bit_cases a k f g = elim (cases_lt (bit_at a k) 1) [ inl h ↦ g (omega arith) | inr h ↦ f (bit_of a k (omega (arith, bit_at-lt a k))) ]
+bit_cases a k f g = grind (arith, cases_lt, bit_of)
 
 pub no_bit_zero : (k : ℕ) → Bit 0 k → ⊥
-no_bit_zero k b = let e = is_one b in let z = bit_at-zero k in omega arith
+no_bit_zero k b = grind (arith, is_one, bit_at-zero)
 
 pub not_both : (a k : ℕ) → bit_at a k ≡ 0 → Bit a k → ⊥
 not_both a k z b = let e = is_one b in omega arith
 
 -- bits of a word lie below its width
 pub bit_below : (a w k : ℕ) → a < 2 ^ w → Bit a k → k < w
-bit_below a w k fits b = elim (cases_lt k w) [ inl h ↦ h | inr h ↦ absurd (not_both a k (bit_at_above a w k fits h) b) ]
+bit_below a w k fits b = grind (arith, cases_lt, not_both, bit_at_above)
 
 -- the bits of `a & b`
 pub bit_and_l : (a b k : ℕ) → Bit (bit_and a b) k → Bit a k
-bit_and_l a b k h = bit_of a k (let e = is_one h in omega (arith, bit_at_and a b k, bit_at-lt a k, bit_at-lt b k))
+bit_and_l a b k h = grind (arith, bit_of, is_one, bit_at_and, bit_at-lt)
 
 pub bit_and_r : (a b k : ℕ) → Bit (bit_and a b) k → Bit b k
-bit_and_r a b k h = bit_of b k (let e = is_one h in omega (arith, bit_at_and a b k, bit_at-lt a k, bit_at-lt b k))
+bit_and_r a b k h = grind (arith, bit_of, is_one, bit_at_and, bit_at-lt)
 
 pub bit_and_from : (a b k : ℕ) → Bit a k → Bit b k → Bit (bit_and a b) k
-bit_and_from a b k h g = bit_of (bit_and a b) k (let e = is_one h in let e' = is_one g in omega (arith, bit_at_and a b k))
+bit_and_from a b k h g = search (bit_of, is_one, bit_at_and)
 
 -- the bits of `a | b`
 pub bit_or_cases : {G : Type 0} (a b k : ℕ) → Bit (bit_or a b) k → (Bit a k → G) → (Bit b k → G) → G
-bit_or_cases a b k h f g = bit_cases a k f (λ z. g (bit_of b k (let e = is_one h in omega (arith, bit_at_or a b k))))
+bit_or_cases a b k h f g = grind (arith, bit_cases, bit_of, is_one, bit_at_or)
 
 pub bit_or_l : (a b k : ℕ) → Bit a k → Bit (bit_or a b) k
-bit_or_l a b k h = bit_of (bit_or a b) k (let e = is_one h in omega (arith, bit_at_or a b k, bit_at-lt b k))
+bit_or_l a b k h = grind (arith, bit_of, is_one, bit_at_or)
 
 pub bit_or_r : (a b k : ℕ) → Bit b k → Bit (bit_or a b) k
-bit_or_r a b k h = bit_of (bit_or a b) k (let e = is_one h in omega (arith, bit_at_or a b k, bit_at-lt a k))
+bit_or_r a b k h = grind (arith, bit_of, is_one, bit_at_or)
 
 -- the bits of `a >> s`
 bit_at_shr : (a s k : ℕ) → bit_at (a / 2 ^ s) k ≡ bit_at a (s + k)
-bit_at_shr a s k = ap (λ v. v % 2) (shr-shr a s k)
+bit_at_shr a s k = search (shr-shr)
 
 pub bit_shr : (a s k : ℕ) → Bit (a / 2 ^ s) k → Bit a (s + k)
-bit_shr a s k h = bit_of a (s + k) (sym (bit_at_shr a s k) ∙ is_one h)
+bit_shr a s k h = grind (arith, bit_of, bit_at_shr, is_one)
 
 pub bit_shr_from : (a s k : ℕ) → Bit a (s + k) → Bit (a / 2 ^ s) k
-bit_shr_from a s k h = bit_of (a / 2 ^ s) k (bit_at_shr a s k ∙ is_one h)
+bit_shr_from a s k h = search (bit_of, bit_at_shr, is_one)
 
 -- the low bits of a word
 pub bit_at_low : (a w k : ℕ) → k < w → bit_at (a % 2 ^ w) k ≡ bit_at a k
@@ -66,9 +66,8 @@ bit_at_low a w k h = sym (bit_at_cat_low (a / 2 ^ w) w (a % 2 ^ w) k h) ∙ ap (
 -- the bits of `a << s` at w bits
 pub bit_shl : (a s w k : ℕ) → Bit (a * 2 ^ s % 2 ^ w) k → (k < w) × (s ≤ k) × Bit a (k - s)
 bit_shl a s w k h =
-    let below : k < w = bit_below (a * 2 ^ s % 2 ^ w) w k (mod-lt (a * 2 ^ s) (pow_pos w)) h in
-    let here : bit_at (a * 2 ^ s + 0) k ≡ 1 =
-    ap (λ v. bit_at v k) (add-zero (a * 2 ^ s)) ∙ sym (bit_at_low (a * 2 ^ s) w k below) ∙ is_one h in
+    let below : k < w = search (bit_below, mod-lt, pow_pos) in
+    let here : bit_at (a * 2 ^ s + 0) k ≡ 1 = grind (arith, add-zero, bit_at_low, is_one) in
     grind (arith, cases_lt, bit_at_cat_low, bit_at-zero, bit_of, bit_at_cat_high, pow_pos)
 
 pub bit_shl_from : (a s w k : ℕ) → k < w → s ≤ k → Bit a (k - s) → Bit (a * 2 ^ s % 2 ^ w) k
@@ -96,7 +95,7 @@ lowest_bit a some fits = let low = bit_at-trailing_zeros w64 a some fits in (low
 
 -- a word that lacks a bit of another, and has none that the other lacks, is less
 pub less_by_bit : (a b k : ℕ) → b ≤ a → Bit a k → (Bit b k → ⊥) → b < a
-less_by_bit a b k le has lacks = elim (cases_lt b a) [ inl h ↦ h | inr h ↦ let e : a ≡ b = omega arith in absurd (lacks (rw e at has)) ]
+less_by_bit a b k le has lacks = grind (arith, cases_lt)
 
 -- the bits of `!a` at 64 bits
 pub bit_not_l : (a k : ℕ) → a < 2 ^ 64 → Bit (bit_not w64 a) k → Bit a k → ⊥
