@@ -32,7 +32,7 @@ returns-in-Err g c =
     record {
       ok = λ _ _ _ _. tt;
       refused = λ lt at is_lt is_at. rw is (due_levels lt at _ (λ long. said (λ b. most_bytes < length b) _ lt is_lt (c.in-Err.ensures.too_long (ap Err long))));
-      beginning = λ _ _ _ _ failed. absurd (no_write _ _ (sym is ∙ same_error _ _ failed));
+      beginning = λ _ _ _ _ failed. absurd (no_write _ _ (rw is at (same_error _ _ failed)));
       untouched = λ _. keeps_same _;
       cause = rw is (counts_levels (Unit {0}) (Unit {0}) _ _ _ _ c.in-Err.ensures.cause refl refl);
       taken = (c.read_whole.ensures.taken, takes_none _ _);
@@ -46,7 +46,7 @@ returns-in-Err-read_whole g c =
       ok = λ _ _ _ _. tt;
       refused = λ lt at is_lt is_at. rw is (due_answers lt at _ (rw (known_text _ _ lt c.in-Ok.ensures.value is_lt) at fits)
           (λ long. said (λ b. most_bytes < length b) _ at is_at (c.in-Err-read_whole.ensures.too_long (ap Err long))));
-      beginning = λ _ _ _ _ failed. absurd (no_write _ _ (sym is ∙ same_error _ _ failed));
+      beginning = λ _ _ _ _ failed. absurd (no_write _ _ (rw is at (same_error _ _ failed)));
       untouched = λ _. keeps_same _;
       cause = rw is (counts_answers (Unit {0}) (Unit {0}) _ _ _ _ c.in-Ok.ensures.cause c.in-Err-read_whole.ensures.cause refl);
       taken = (c.read_whole.ensures.taken, c.read_whole-2.ensures.taken);
