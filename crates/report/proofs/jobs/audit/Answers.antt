@@ -2,7 +2,7 @@
 -- at its place in the order of work, because a text that was read before isn't too long. The texts that were read are the bytes of the
 -- sources, if these are known, so what `audit_texts` says of the texts holds of the bytes. The count of a device rises only in the way
 -- out that returns its error. Nothing is written before the last two.
-use Rattle.std.proofs.Common.{◌≡◌, ◌<◌, ℕ, List, length, subst, Some, IfSome, Err, ap, refl, sym, ◌∙◌}
+use Rattle.std.proofs.Common.{◌≡◌, ◌<◌, ℕ, List, length, subst, Some, IfSome, Err, ap, refl}
 use Rattle.std.specs.Prelude.{Option}
 use Rattle.std.proofs.lemmas.Result.{err_from_is_err_and}
 use Rattle.report.specs.Audit.{IsDue}

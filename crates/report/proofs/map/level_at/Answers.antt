@@ -13,7 +13,8 @@ at_index : (levels : List (List (List ℕ))) (n : ℕ) (found : Option (Bor (Lis
     → option_map (λ level. level.now) found ≡ level_at levels n
 at_index levels zero found some at = absurd (some refl)
 at_index levels (suc i) None some past = sym (slice_get_past levels i (rw sub-one at past))
-at_index levels (suc i) (Some level) some (below, is) = sym (slice_get_read levels _ i level.now refl (rw sub-one at below) (rw sub-one at (is level.now)))
+at_index levels (suc i) (Some level) some (below, is) =
+    sym (slice_get_read levels _ i level.now refl (rw sub-one at below) (rw sub-one at (is level.now)))
 
 pub returns : goal.returns
 returns c = at_index _ _ _ c.if-n-eq0.false c.get.ensures.lookup.3
