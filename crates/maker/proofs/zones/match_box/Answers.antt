@@ -61,3 +61,6 @@ returns g c = record {
   relay = relay_kept c.args.board.now c.goal_in_reach.new.self _ c.find_path.ensures.same c.goal_in_reach.ensures.relay;
   exact = c.flip.ensures.valid;
 }
+
+pub bounds-matching-index_of : goal.bounds-matching-index_of
+bounds-matching-index_of g c = rw c.requires.entries (rw c.shape-shape.ensures.value at c.index_of.ensures.within)
