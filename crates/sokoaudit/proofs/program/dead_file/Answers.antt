@@ -11,10 +11,7 @@ returns-clause-printed g c known =
     let (text, map, now) = c.in_ok-dead_map.ensures.ok levels_text left in
     (text, Appends-kept _ _ _ text now c.flush.ensures.same, (levels_text, levels_is, map, refl))
 
-pub returns-in_err-dead_map : goal.returns-in_err-dead_map
-returns-in_err-dead_map g c = rw (err_from_is_err_and c.from_residual-in_err-dead_map.result c.from_residual-in_err-dead_map.ensures.1).1 record {
-  printed = λ _. tt;
-  kept = kept_by_map _ _ c.in_err-dead_map.field-0.0 _ _ c.in_err-dead_map.ensures.cause c.in_err-dead_map.ensures.untouched;
-  status = tt;
-  sound = tt;
-}
+pub returns-in_err-dead_map-clause-kept : goal.returns-in_err-dead_map-clause-kept
+returns-in_err-dead_map-clause-kept g c =
+    let p = err_from_is_err_and c.from_residual-in_err-dead_map.result c.from_residual-in_err-dead_map.ensures.1 in
+    rw p.1 (kept_by_map _ _ c.in_err-dead_map.field-0.0 _ _ c.in_err-dead_map.ensures.cause c.in_err-dead_map.ensures.untouched)

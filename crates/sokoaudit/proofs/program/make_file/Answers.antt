@@ -1,4 +1,4 @@
-use Rattle.std.proofs.Common.{refl, arith}
+use Rattle.std.proofs.Common.{refl}
 use Rattle.std.proofs.KnownBytes.{Appends-kept}
 use Rattle.std.proofs.lemmas.Result.{err_from_is_err_and}
 use Rattle.sokoaudit.proofs.Printed.{bytes_of, kept_by_making}
@@ -10,18 +10,7 @@ returns-clause-printed g c known =
     let (text, made, now) = c.in_ok-make_answers.ensures.ok levels_text (c.in_ok-levels.ensures.bytes levels_text levels_is) in
     (text, Appends-kept _ _ _ text now c.flush.ensures.same, (levels_text, levels_is, c.in_ok-make_answers.field-0, made, refl))
 
-pub returns-in_err-make_answers : goal.returns-in_err-make_answers
-returns-in_err-make_answers g c = rw (err_from_is_err_and c.from_residual-in_err-make_answers.result c.from_residual-in_err-make_answers.ensures.1).1 record {
-  printed = λ _. tt;
-  kept = kept_by_making _ _ c.in_err-make_answers.field-0.0 _ _ c.in_err-make_answers.ensures.cause c.in_err-make_answers.ensures.untouched;
-  status = tt;
-  sound = tt;
-}
-
-pub returns-in_err-flush : goal.returns-in_err-flush
-returns-in_err-flush g c = rw (err_from_is_err_and c.from_residual-in_err-flush.result c.from_residual-in_err-flush.ensures.1).1 record {
-  printed = λ _. tt;
-  kept = λ below stayed. absurd (omega (arith, c.in_err-flush.ensures.cause, c.in_ok-make_answers.ensures.cause));
-  status = tt;
-  sound = tt;
-}
+pub returns-in_err-make_answers-clause-kept : goal.returns-in_err-make_answers-clause-kept
+returns-in_err-make_answers-clause-kept g c =
+    let p = err_from_is_err_and c.from_residual-in_err-make_answers.result c.from_residual-in_err-make_answers.ensures.1 in
+    rw p.1 (kept_by_making _ _ c.in_err-make_answers.field-0.0 _ _ c.in_err-make_answers.ensures.cause c.in_err-make_answers.ensures.untouched)
