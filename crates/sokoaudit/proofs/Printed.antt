@@ -36,7 +36,7 @@ abbrev pub IsPrinted : (List ℕ → Option (List ℕ)) → Option (List ℕ) �
 IsPrinted known old new request status = (text : List ℕ) × Appends old new text × Prints known request text status
 
 -- a status below 2 comes from an outcome without an error
-without_error : {E : Type 0} (P : ℕ → Type 0) (outcome : Result ℕ E) (status : ℕ) → IfOk outcome P
+pub without_error : {E : Type 0} (P : ℕ → Type 0) (outcome : Result ℕ E) (status : ℕ) → IfOk outcome P
     → MatchResult outcome (λ own. status ≡ own) (λ _. status ≡ 2) → status < 2 → P status
 without_error P (Ok own) status known is less = subst P (sym is) known
 without_error P (Err error) status known is less = absurd (omega (arith, is, less))

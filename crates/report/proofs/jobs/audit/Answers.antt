@@ -2,7 +2,7 @@
 -- at its place in the order of work, because a text that was read before isn't too long. The texts that were read are the bytes of the
 -- sources, if these are known, so what `audit_texts` says of the texts holds of the bytes. The count of a device rises only in the way
 -- out that returns its error. Nothing is written before the last two.
-use Rattle.std.proofs.Common.{◌≡◌, ◌<◌, ℕ, List, length, subst, Some, IfSome, Err, ap, refl, sym, ◌∙◌}
+use Rattle.std.proofs.Common.{◌≡◌, ◌<◌, ℕ, List, length, subst, Some, IfSome, Err, ap, refl}
 use Rattle.std.specs.Prelude.{Option}
 use Rattle.std.proofs.lemmas.Result.{err_from_is_err_and}
 use Rattle.report.specs.Audit.{IsDue}
@@ -32,7 +32,7 @@ returns-in-Err g c =
     record {
       ok = λ _ _ _ _. tt;
       refused = λ lt at is_lt is_at. rw is (due_levels lt at _ (λ long. said (λ b. most_bytes < length b) _ lt is_lt (c.in-Err.ensures.too_long (ap Err long))));
-      beginning = λ _ _ _ _ failed. absurd (no_write _ _ (sym is ∙ same_error _ _ failed));
+      beginning = λ _ _ _ _ failed. absurd (no_write _ _ (rw is at (same_error _ _ failed)));
       untouched = λ _. keeps_same _;
       cause = rw is (counts_levels (Unit {0}) (Unit {0}) _ _ _ _ c.in-Err.ensures.cause refl refl);
       taken = (c.read_whole.ensures.taken, takes_none _ _);
@@ -46,7 +46,7 @@ returns-in-Err-read_whole g c =
       ok = λ _ _ _ _. tt;
       refused = λ lt at is_lt is_at. rw is (due_answers lt at _ (rw (known_text _ _ lt c.in-Ok.ensures.value is_lt) at fits)
           (λ long. said (λ b. most_bytes < length b) _ at is_at (c.in-Err-read_whole.ensures.too_long (ap Err long))));
-      beginning = λ _ _ _ _ failed. absurd (no_write _ _ (sym is ∙ same_error _ _ failed));
+      beginning = λ _ _ _ _ failed. absurd (no_write _ _ (rw is at (same_error _ _ failed)));
       untouched = λ _. keeps_same _;
       cause = rw is (counts_answers (Unit {0}) (Unit {0}) _ _ _ _ c.in-Ok.ensures.cause c.in-Err-read_whole.ensures.cause refl);
       taken = (c.read_whole.ensures.taken, c.read_whole-2.ensures.taken);

@@ -1,4 +1,4 @@
-use Rattle.std.proofs.Common.{refl, sym}
+use Rattle.std.proofs.Common.{refl}
 use Rattle.std.proofs.lemmas.Option.{MatchOption-at_some}
 use Rattle.maker.specs.Made.{body_of}
 use Rattle.maker.specs.declared.making.Made.TheVariants.{Patterns, Zone}
@@ -15,7 +15,7 @@ returns-in-Some-Dead-clause-some c =
     let small = few_cells rows dead.cells found in (
       body_of (made_of dead.cells small),
       body_is_made dead.cells small rows found,
-      record { text = sym (text_of dead.cells small c.args.number); zone = refl },
+      record { text = rw (text_of dead.cells small c.args.number); zone = refl },
     )
 
 pub returns-in-Some-Other-Zone-clause-some : goal.returns-in-Some-Other-Zone-clause-some

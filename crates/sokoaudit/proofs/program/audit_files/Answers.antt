@@ -1,8 +1,20 @@
-use Rattle.std.proofs.Common.{◌∙◌, ap}
-use Rattle.std.proofs.KnownBytes.{Appends-kept}
+use Rattle.std.proofs.Common.{◌∙◌, ap, arith}
+use Rattle.std.proofs.KnownBytes.{Appends-kept, Keeps-refl}
 use Rattle.std.proofs.lemmas.Result.{err_from_is_err_and}
 use Rattle.sokoaudit.proofs.Printed.{bytes_of, kept_by_audit}
 use Rattle.sokoaudit.proofs.program.audit_files.Goals as goal
+
+pub returns-in_err-levels : goal.returns-in_err-levels
+returns-in_err-levels g c = rw (err_from_is_err_and c.from_residual.result c.from_residual.ensures.1).1
+    record { printed = λ _. tt; kept = λ _ _. Keeps-refl _; status = tt; sound = tt }
+
+pub returns-in_err-answers : goal.returns-in_err-answers
+returns-in_err-answers g c = rw (err_from_is_err_and c.from_residual-in_err-answers.result c.from_residual-in_err-answers.ensures.1).1
+    record { printed = λ _. tt; kept = λ _ _. Keeps-refl _; status = tt; sound = tt }
+
+pub returns-in_err-flush : goal.returns-in_err-flush
+returns-in_err-flush g c = rw (err_from_is_err_and c.from_residual-in_err-flush.result c.from_residual-in_err-flush.ensures.1).1
+    record { printed = λ _. tt; kept = λ below stayed. absurd (omega (arith, c.in_err-flush.ensures.cause, c.in_ok-summary.ensures.cause)); status = tt; sound = tt }
 
 pub returns-clause-printed : goal.returns-clause-printed
 returns-clause-printed g c known =
@@ -17,7 +29,10 @@ returns-clause-printed g c known =
       (levels_text, levels_is, answers_text, answers_is, c.in_ok-summary.summary, report, c.exit_status.ensures.value),
     )
 
-pub returns-in_err-summary-clause-kept : goal.returns-in_err-summary-clause-kept
-returns-in_err-summary-clause-kept g c =
-    let p = err_from_is_err_and c.from_residual-in_err-summary.result c.from_residual-in_err-summary.ensures.1 in
-    rw p.1 (kept_by_audit _ _ _ c.in_err-summary.field-0.0 _ _ c.in_err-summary.ensures.cause c.in_err-summary.ensures.untouched)
+pub returns-in_err-summary : goal.returns-in_err-summary
+returns-in_err-summary g c = rw (err_from_is_err_and c.from_residual-in_err-summary.result c.from_residual-in_err-summary.ensures.1).1 record {
+  printed = λ _. tt;
+  kept = kept_by_audit _ _ _ c.in_err-summary.field-0.0 _ _ c.in_err-summary.ensures.cause c.in_err-summary.ensures.untouched;
+  status = tt;
+  sound = tt;
+}
