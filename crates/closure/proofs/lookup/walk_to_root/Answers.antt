@@ -85,3 +85,18 @@ returns-clause-scratch g c = record {
       subst (λ q. HitsDecide c.args.tables.now.board.now c.args.query.now.player q c.loop-at.scratch.hits.items pattern) end
       (c.loop-at.invariant.hits d pattern within lacks);
 }
+
+pub index-requires : goal.index-requires
+index-requires g c =
+    let within = c.loop-at.invariant.within in
+    let less = rw (← c.index-node.ensures) at (c.requires.tables.tree.nodes.down c.loop-at.at c.index-node.result.now c.loop-at-test.true within) in
+    omega arith
+
+pub loop-at-smaller : goal.loop-at-smaller
+loop-at-smaller g c = falls g (goal.at.loop-at-smaller g c).After-index
+
+pub loop-at-smaller-then-contains : goal.loop-at-smaller-then-contains
+loop-at-smaller-then-contains g c = falls g (goal.at.loop-at-smaller-then-contains g c).After-index
+
+pub loop-at-init : goal.loop-at-init
+loop-at-init g c = grind (arith, at_any)
