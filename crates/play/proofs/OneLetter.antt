@@ -98,7 +98,7 @@ module _ (level : Level) (done field : List ℕ) (run : Run) (before : Progress 
       rw (ahead_is d step) (before.shown.places _ (near_neighbor level.shape d before.stands.player.0))
   ahead_within (inr (inr (inl (d, named, step, kind_is)))) =
       rw (ahead_is d step) (before.shown.places _ (near_neighbor level.shape d before.stands.player.0))
-  ahead_within (inr (inr (inr (_, _, step, kind_is)))) = rw (still step) (before.shown.places _ (near_on level.shape before.stands.player.0))
+  ahead_within (inr (inr (inr (_, _, step, _)))) = rw (still step) (before.shown.places _ (near_on level.shape before.stands.player.0))
 
   ahead_shown : (d : Dir) → letter.step ≡ stride d → IsShown level before.state.boxes (neighbor before.state.player d) (get_or field ahead 0)
   ahead_shown d step = rw (ahead_is d step) (before.shown.shown _ (near_neighbor level.shape d before.stands.player.0))
