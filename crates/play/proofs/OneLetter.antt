@@ -75,12 +75,13 @@ module _ (level : Level) (done field : List ℕ) (run : Run) (before : Progress 
   still none = grind (arith, place_fits)
 
   here_free : get_or field (place_of before.state.player) 0 ≡ FREE
-  here_free = grind (arith, free_byte, near_on)
+  here_free = free_byte level before.state.boxes _ _ (before.shown.shown _ (near_on level.shape before.stands.player.0))
+      before.stands.player before.stands.apart
 
   directed : IsRead letter → IsNoWalk field run letter → letter.kind ≢ FOREIGN → (d : Dir) × Directs letter d
-  directed (inl (blank, step, kind_is)) no_walk known = grind (arith, still, here_free)
-  directed (inr (inl (d, named, step, kind_is))) no_walk known = grind arith
-  directed (inr (inr (inl (d, named, step, kind_is)))) no_walk known = grind arith
+  directed (inl (blank, step, kind_is)) no_walk known = absurd (no_walk kind_is (rw (still step) here_free))
+  directed (inr (inl (d, named, step, kind_is))) no_walk known = (d, record { step = step; named = inl (named, kind_is) })
+  directed (inr (inr (inl (d, named, step, kind_is)))) no_walk known = (d, record { step = step; named = inr (named, kind_is) })
   directed (inr (inr (inr (_, _, step, kind_is)))) no_walk known = absurd (known kind_is)
 
   -- ---- the cell ahead, and the one beyond it
@@ -92,13 +93,12 @@ module _ (level : Level) (done field : List ℕ) (run : Run) (before : Progress 
   beyond_is d step on = grind (arith, ahead_is, place_step)
 
   pub ahead_within : IsRead letter → ahead < length field
-  ahead_within (inl (blank, step, kind_is)) = grind (arith, still, near_on)
-  ahead_within (inr (inl (d, named, step, kind_is))) = subst (λ n. n < length field) (sym (ahead_is d step))
-      (before.shown.places (neighbor before.state.player d) (near_neighbor level.shape d before.stands.player.0))
+  ahead_within (inl (blank, step, kind_is)) = rw (still step) (before.shown.places _ (near_on level.shape before.stands.player.0))
+  ahead_within (inr (inl (d, named, step, kind_is))) =
+      rw (ahead_is d step) (before.shown.places _ (near_neighbor level.shape d before.stands.player.0))
   ahead_within (inr (inr (inl (d, named, step, kind_is)))) =
-      subst (λ n. n < length field) (sym (ahead_is d step))
-      (before.shown.places (neighbor before.state.player d) (near_neighbor level.shape d before.stands.player.0))
-  ahead_within (inr (inr (inr (_, _, step, kind_is)))) = grind (arith, still, near_on)
+      rw (ahead_is d step) (before.shown.places _ (near_neighbor level.shape d before.stands.player.0))
+  ahead_within (inr (inr (inr (_, _, step, _)))) = rw (still step) (before.shown.places _ (near_on level.shape before.stands.player.0))
 
   ahead_shown : (d : Dir) → letter.step ≡ stride d → IsShown level before.state.boxes (neighbor before.state.player d) (get_or field ahead 0)
   ahead_shown d step = rw (ahead_is d step) (before.shown.shown _ (near_neighbor level.shape d before.stands.player.0))
@@ -112,10 +112,12 @@ module _ (level : Level) (done field : List ℕ) (run : Run) (before : Progress 
   pub walked : IsRead letter → letter.kind ≡ WALK → get_or field ahead 0 ≡ FREE → (moves : ℕ)
       → ((d : Dir) → letter.byte ≡ small d → moves ≡ run.tally.moves + 1) → (is_blank letter.byte ≡ true → moves ≡ run.tally.moves)
       → Progress level (done ++ letters (letter.byte ∷ [])) field (record { player = ahead; last = run.last; tally = record run.tally { moves = moves } })
-  walked (inl (blank, step, kind_is)) kind free moves counted none = grind (arith, letters_none, append-nil, still)
+  walked (inl (blank, step, kind_is)) kind free moves counted none =
+      rw (letters_none letter.byte [] blank, append-nil done, still step ∙ sym before.player, none blank) before
   walked (inr (inl (d, named, step, kind_is))) kind free moves counted none =
       let (floor, lacks) = free_by level before.state.boxes (neighbor before.state.player d) (get_or field ahead 0) (ahead_shown d step) free in
-      grind (arith, letters_one, not_blank, ahead_is, progress_walk)
+      rw (letters_one {x = letter.byte} [] (not_blank d (inl named)), ahead_is d step, counted d named)
+      (progress_walk level done field run before d floor lacks named)
   walked (inr (inr (inl (d, named, step, kind_is)))) kind free moves counted none = absurd (omega arith)
   walked (inr (inr (inr (_, _, step, kind_is)))) kind free moves counted none = absurd (omega arith)
 
@@ -135,7 +137,11 @@ module _ (level : Level) (done field : List ℕ) (run : Run) (before : Progress 
         let (floor, box) = box_by level before.state.boxes (neighbor before.state.player d) (get_or field ahead 0) (ahead_shown d directs.step) is in
         let (there, lacks) = free_by level before.state.boxes (neighbor (neighbor before.state.player d) d) (get_or field beyond 0)
         (beyond_shown d directs.step floor.0) free in
-        grind (arith, ahead_is, beyond_is, letters_one, not_blank, progress_push, is_capital)
+        let named = is_capital d directs.named in
+        let at = ahead_is d directs.step in
+        let to = beyond_is d directs.step floor.0 in
+        rw (letters_one {x = letter.byte} [] (not_blank d (inr named)), to, at)
+        (progress_push level done field run before d box there lacks named (rw (to, at) at counted))
       where
         is_capital : (d : Dir) → ((letter.byte ≡ small d) × (letter.kind ≡ WALK)) ⊎ ((letter.byte ≡ capital d) × (letter.kind ≡ PUSH)) → letter.byte ≡ capital d
         is_capital d (inl (_, walk)) = absurd (omega arith)
@@ -156,7 +162,11 @@ module _ (level : Level) (done field : List ℕ) (run : Run) (before : Progress 
 
   module _ (after : List ℕ) (read : IsRead letter) (no_walk : IsNoWalk field run letter) (known : letter.kind ≢ FOREIGN) where
     pub fails_wall : get_or field ahead 0 ≡ WALL → FailsAt level (done ++ (letters (letter.byte ∷ []) ++ after)) (run.tally.moves + 1) Wall
-    fails_wall is = grind (arith, directed, names, wall_by, ahead_shown, fails, not_blank)
+    fails_wall is =
+        let (d, directs) = directed read no_walk known in
+        let name = names letter d directs.named in
+        let wall = wall_by level before.state.boxes _ _ (ahead_shown d directs.step) is in
+        fails after Wall (not_blank d name) (d, name, record { stuck = λ t. grind arith; wall = wall })
 
     pub fails_blocked : get_or field ahead 0 ≡ BOX → get_or field beyond 0 ≢ FREE
         → FailsAt level (done ++ (letters (letter.byte ∷ []) ++ after)) (run.tally.moves + 1) Blocked
@@ -164,7 +174,8 @@ module _ (level : Level) (done field : List ℕ) (run : Run) (before : Progress 
         let (d, directs) = directed read no_walk known in
         let name = names letter d directs.named in
         let (floor, box) = box_by level before.state.boxes (neighbor before.state.player d) (get_or field ahead 0) (ahead_shown d directs.step) is in
-        grind (arith, fails, not_blank, barred_by, beyond_shown)
+        let behind = barred_by level before.state.boxes _ _ (beyond_shown d directs.step floor.0) other in
+        fails after Blocked (not_blank d name) (d, name, record { floor = floor; box = box; behind = behind })
 
     -- a small letter fails if its step is a push
     pub fails_small : get_or field ahead 0 ≡ BOX → get_or field beyond 0 ≡ FREE → letter.kind ≢ PUSH

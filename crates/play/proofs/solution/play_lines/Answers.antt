@@ -55,3 +55,6 @@ returns-clause-ok c = rw (take_all c.loop-line.line-index c.args.lines.now (omeg
 
 pub play_line-requires-clause-under_way : goal.play_line-requires-clause-under_way
 play_line-requires-clause-under_way c = under_way_then c.loop-line.invariant.continues c.requires.under_way
+
+pub play_line-requires-clause-masked : goal.play_line-requires-clause-masked
+play_line-requires-clause-masked c = rw c.loop-line.auto.field c.requires.masked
