@@ -1,9 +1,13 @@
 """The page: its data, its messages, and the exit status. test_viewer shows it in a browser."""
+import io
 import json
 import os
 import re
 import shutil
 import unittest
+from contextlib import redirect_stderr, redirect_stdout
+
+from sokotool.main import main
 
 from tests.runner import call
 from tests.tools.helping import ONE, SAMPLES, Case
@@ -115,3 +119,19 @@ class Texts(Case):
         result = self.tool("page", *first[:2])
         self.assertEqual(result.status, 2)
         self.assertTrue(result.err.endswith("the following arguments are required: REPORT\n"))
+
+    def test_terminal(self):
+        words = ["page", *(f"samples/first.{end}" for end in ("xsb", "answers", "report"))]
+        with redirect_stdout(Terminal()) as screen, redirect_stderr(io.StringIO()) as err:
+            self.assertEqual(main(words), 2)
+            self.assertEqual(main([*words, "-o", "page.html"]), 0)
+        said = "page: the page is for a browser, not for a terminal: add -o page.html\n"
+        self.assertEqual((screen.getvalue(), err.getvalue()), ("", said))
+        self.assertEqual(data_of(self.read("page.html"))["fault"], "")
+
+
+class Terminal(io.StringIO):
+    """Standard output that is a terminal."""
+
+    def isatty(self):
+        return True

@@ -28,6 +28,8 @@ def arguments(parser: argparse.ArgumentParser) -> None:
 
 def run(options: argparse.Namespace) -> int:
     """Prints the page, and returns 1 if the report isn't of the levels and answers."""
+    if sys.stdout.isatty():
+        raise texts.Stop("the page is for a browser, not for a terminal: add -o page.html")
     names = [options.levels, options.answers, options.report]
     texts.check_names(names)
     files = [texts.read(name) for name in names]
