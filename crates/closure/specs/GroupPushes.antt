@@ -5,7 +5,7 @@ use Rattle.cellset.specs.declared.dir.Dir.{Dir}
 use Rattle.reach.specs.declared.pushes.Push.{Push}
 use Rattle.board.specs.Game.{Level, IsFloor}
 use Rattle.closure.specs.{Pattern.Pattern, Pattern.InPatternRegion, Pattern.IsCovered, Pattern.PushesOut, Pattern.after_push, Closed.CoversPushesOf}
-use Rattle.closure.specs.{Sides.IsAround, Sides.cell_no, declared.pushes.PushedBox.PushedBox, declared.pushes.PushScratch.PushScratch}
+use Rattle.closure.specs.{Sides.IsAround, Sides.cell_no, declared.pushes.PushedBox.PushedBox, declared.push_lookups.PushScratch.PushScratch}
 use Rattle.closure.specs.{declared.tables.Tables.Tables, declared.groups.Groups.Groups, Groups.boxes_of, Groups.list_of, Groups.position_at}
 use Rattle.closure.specs.{Piece.IsPiece, Piece.IsPieceSpace, Tables.AreFilled, Tables.IsRoomy}
 

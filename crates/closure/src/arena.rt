@@ -1,7 +1,7 @@
 //! The lines of a list in two vectors of cells.
 //!
 //! A place in them takes four bytes, which saves a quarter of the memory of a long list.
-ghost use Rattle.std.specs.Prelude.{◌≡◌, IfOk, length};
+ghost use Rattle.std.specs.Prelude.{◌≡◌, ◌≤◌, ◌^◌, IfErr, IfOk, length};
 ghost use Rattle.closure.specs.Spans.{AreWithin, IsWithin, part as part_of};
 
 use cellset::Cell;
@@ -42,7 +42,8 @@ pub(crate) fn part(cells: &[Cell], span: Span) -> &[Cell]
 // Returns a number in four bytes. One that doesn't fit is past all limits of texts, and takes more memory than there is.
 #[inline(always)]
 pub(crate) fn to_u32(number: usize) -> Result<u32, AllocError>
-    ensures { IfOk result (λ n. n ≡ number) }
+    ensures value { IfOk result (λ n. n ≡ number) }
+    ensures err { IfErr result (λ _. 2 ^ 32 ≤ number) }
 {
     match u32::try_from(number) {
         Ok(number) => Ok(number),

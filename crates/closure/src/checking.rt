@@ -2,16 +2,17 @@
 ghost use Rattle.std.specs.Prelude.{◌≡◌, ◌≢◌, ◌<◌, ◌↔◌, ℕ, Bool, IsTrue, IfOk, IfErr, OnOk, MatchOption, length, slice_index_or};
 ghost use Rattle.std.specs.List.{Contains};
 ghost use Rattle.cellset.specs.{Cell.IsOn, Cell.neighbor, CellSet.Has, CellSet.Lacks, declared.cell.Cell.Cell as GridCell, declared.dir.Dir.Dir as GridDir};
-ghost use Rattle.board.specs.Game.{start};
-ghost use Rattle.closure.specs.{Pattern.Pattern as PatternSet, Pattern.IsCovered, Closed.AreLawful, Closed.CoversPushesOf, Closed.Closed, GroupPushes.AreNoted};
-ghost use Rattle.closure.specs.{FirstFault.IsFirstPatternFault, Arena.lines_in, Arena.list_in, Run.state_after, Run.AllLead, Run.IsFirstAstray, Groups.list_of};
-ghost use Rattle.closure.specs.Tables.{AreFilled, AreTables, IsRoomy};
+ghost use Rattle.board.specs.Game.{IsFloor, start};
+ghost use Rattle.closure.specs.{Pattern.Pattern as PatternSet, Pattern.IsCovered, Closed.AreLawful, Closed.CoversPushesOf, Closed.Closed, GroupPushes.AreNoted, GroupPushes.IsLoaded, GroupPushes.IsReady};
+ghost use Rattle.closure.specs.{FirstFault.IsFirstPatternFault, Arena.lines_in, Arena.list_in, Run.state_after, Run.AllLead, Run.IsFirstAstray, Groups.boxes_of, Groups.list_of, Sides.cells_in};
+ghost use Rattle.closure.specs.Tables.{AreTables};
 
 use crate::arena::Arena;
 use crate::cells::are_in;
 use crate::fault::CheckFault;
-use crate::lookup::{Scratch, is_any_covering, is_covered_after};
-use crate::pushes::{PushScratch, cover_groups};
+use crate::lookup::is_any_covering;
+use crate::push_lookups::{PushScratch, note_found};
+use crate::pushes::note_hinted;
 use crate::region::Finder;
 use crate::tables::Tables;
 use crate::trap::find_trap;
@@ -52,15 +53,15 @@ fn check_tables<S: CellSet>(alloc: Global, tables: &mut Tables<S>) -> Result<(),
         → IsFirstPatternFault tables.old.board.now (lines_in tables.old.groups.arena) fault) }
 {
     let mut covered = vec![in alloc; false; tables.groups.spans.len()]?;
-    let mut no_scratch = None;
-    cover_groups(tables, &mut no_scratch, &mut covered);
-    // For the proof: it is dropped once, and not at each return.
-    drop(no_scratch);
+    note_hinted(tables, &mut covered);
     if is_start_found(tables) && are_all(&covered) {
         return Ok(());
     }
     tables.fill(alloc)?;
-    check_covering(alloc, tables, &mut covered)
+    let mut scratch = PushScratch::new(alloc, tables)?;
+    let checked = check_covering(alloc, tables, &mut covered, &mut scratch);
+    drop(scratch);
+    checked
 }
 
 // Returns true only if the trap, or a group whose region is all of the room but its boxes, covers the start.
@@ -98,35 +99,32 @@ fn check_covering<S: CellSet>(
     alloc: Global,
     tables: &Tables<S>,
     covered: &mut Vec<bool>,
+    scratch: &mut PushScratch<S>,
 ) -> Result<(), CheckFault>
-    requires tables { AreFilled tables.now }
     requires covered { AreNoted tables.now.board.now tables.now.groups covered.old.items }
+    requires ready { IsReady S.extent tables.now scratch.old }
     ensures ok { OnOk result (Closed tables.now.board.now (list_of tables.now.groups)) }
     ensures exact { IfErr result (λ fault. fault ≢ CheckFault.Memory
         → IsFirstPatternFault tables.now.board.now (lines_in tables.now.groups.arena) fault) }
 {
     let board = tables.board;
-    let mut lookup = Scratch::new(alloc, tables)?;
-    if !is_any_covering(tables, board.player(), board.boxes(), &mut lookup) {
+    if !is_any_covering(tables, board.player(), board.boxes(), &mut scratch.lookup) {
         return Err(CheckFault::Start);
     }
-    let mut scratch = Some(PushScratch::new(alloc, tables)?);
-    cover_groups(tables, &mut scratch, covered);
-    drop(scratch);
+    note_found(tables, scratch, covered);
     let mut trial = Trial::new(alloc, board.shape())?;
-    let checked = check_pushes(tables, covered, &mut lookup, &mut trial);
+    let checked = check_pushes(tables, covered, scratch, &mut trial);
     drop(trial);
     checked
 }
 
-// Tries the pushes out of patterns, one line after another, in the same memory. `moving` holds the boxes too.
+// Tries the pushes out of patterns, one line after another, in the same memory.
 #[derive(Drop)]
 struct Trial<S: CellSet> {
     finder: Finder<S>,
     boxes: S,
     region: S,
     players: S,
-    moving: S,
 }
 
 impl<S: CellSet> Model for Trial<S> {
@@ -138,19 +136,18 @@ impl<S: CellSet> Model for Trial<S> {
     ghost view = { λ t. t.finder.flooder };
 
     ghost invariant = { λ t. (S.extent t.finder.seeds ≡ t.finder.flooder) × (S.extent t.boxes ≡ t.finder.flooder)
-        × (S.extent t.region ≡ t.finder.flooder) × (S.extent t.players ≡ t.finder.flooder) × (S.extent t.moving ≡ t.finder.flooder) };
+        × (S.extent t.region ≡ t.finder.flooder) × (S.extent t.players ≡ t.finder.flooder) };
 }
 
 // Returns the first push out of a pattern whose result isn't covered as an error.
 fn check_pushes<S: CellSet>(
     tables: &Tables<S>,
     covered: &[bool],
-    lookup: &mut Scratch,
+    scratch: &mut PushScratch<S>,
     trial: &mut Trial<S>,
 ) -> Result<(), CheckFault>
-    requires tables { AreFilled tables.now }
     requires start { IsCovered tables.now.board.now (list_of tables.now.groups) (start tables.now.board.now) }
-    requires lookup { IsRoomy tables.now lookup.old }
+    requires ready { IsReady S.extent tables.now scratch.old }
     requires trial { trial.old ≡ tables.now.board.now.shape }
     requires covered { AreNoted tables.now.board.now tables.now.groups covered.now }
     ensures ok { OnOk result ((pattern : PatternSet) → Contains (list_of tables.now.groups) pattern
@@ -158,11 +155,14 @@ fn check_pushes<S: CellSet>(
     ensures exact { IfErr result (λ fault. fault ≢ CheckFault.Memory
         → IsFirstPatternFault tables.now.board.now (lines_in tables.now.groups.arena) fault) }
 {
+    let mut loaded = tables.groups.spans.len();
     for line in 0..tables.groups.arena.lines.len() {
-        if covered[tables.groups.of[line] as usize] {
+        let group = tables.groups.of[line] as usize;
+        if covered[group] {
             continue;
         }
-        if let Some(push) = trial.first_push(tables, line, lookup) {
+        load_group(tables, group, &mut loaded, scratch);
+        if let Some(push) = trial.first_push(tables, line, scratch) {
             return Err(CheckFault::Push {
                 line: tables.groups.arena.lines[line].number,
                 player: push.player,
@@ -173,8 +173,28 @@ fn check_pushes<S: CellSet>(
     Ok(())
 }
 
+// Loads the boxes of a group, unless they are loaded.
+fn load_group<S: CellSet>(
+    tables: &Tables<S>,
+    group: usize,
+    loaded: &mut usize,
+    scratch: &mut PushScratch<S>,
+)
+    requires group { group < length tables.now.groups.spans.items }
+    requires ready { IsReady S.extent tables.now scratch.old }
+    requires loaded { loaded.old < length tables.now.groups.spans.items → IsLoaded S.members tables.now (cells_in (boxes_of tables.now.groups loaded.old)) scratch.old }
+    ensures ready { IsReady S.extent tables.now scratch.new }
+    ensures same { loaded.new ≡ group }
+    ensures loaded { IsLoaded S.members tables.now (cells_in (boxes_of tables.now.groups group)) scratch.new }
+{
+    if *loaded != group {
+        scratch.load(tables, tables.groups.boxes(group));
+        *loaded = group;
+    }
+}
+
 impl<S: CellSet> Trial<S> {
-    ghost use Rattle.closure.specs.Arena.{pattern_at};
+    ghost use Rattle.closure.specs.Arena.{boxes_at, pattern_at};
     ghost use Rattle.closure.specs.FirstFault.{IsFirstUncovered};
 
     // Returns a trial for boards of this shape.
@@ -184,25 +204,29 @@ impl<S: CellSet> Trial<S> {
         let boxes = S::new(alloc, shape)?;
         let region = S::new(alloc, shape)?;
         let players = S::new(alloc, shape)?;
-        let moving = S::new(alloc, shape)?;
         let finder = Finder::new(alloc, shape)?;
         Ok(Trial {
             finder,
             boxes,
             region,
             players,
-            moving,
         })
     }
 
     // Returns the first push out of the pattern of a line whose result isn't covered.
-    fn first_push(&mut self, tables: &Tables<S>, line: usize, lookup: &mut Scratch) -> Option<Push>
+    fn first_push(
+        &mut self,
+        tables: &Tables<S>,
+        line: usize,
+        scratch: &mut PushScratch<S>,
+    ) -> Option<Push>
         requires shape { self.old ≡ tables.now.board.now.shape }
-        requires tables { AreFilled tables.now }
         requires line { line < length tables.now.groups.arena.lines.items }
-        requires lookup { IsRoomy tables.now lookup.old }
+        requires ready { IsReady S.extent tables.now scratch.old }
+        requires loaded { IsLoaded S.members tables.now (cells_in (boxes_at tables.now.groups.arena line)) scratch.old }
         ensures shape { self.new ≡ tables.now.board.now.shape }
-        ensures lookup { IsRoomy tables.now lookup.new }
+        ensures ready { IsReady S.extent tables.now scratch.new }
+        ensures loaded { IsLoaded S.members tables.now (cells_in (boxes_at tables.now.groups.arena line)) scratch.new }
         ensures exact { MatchOption result
             (CoversPushesOf tables.now.board.now (list_of tables.now.groups) (pattern_at (list_of tables.now.groups) line))
             (IsFirstUncovered tables.now.board.now (list_of tables.now.groups) (pattern_at (list_of tables.now.groups) line)) }
@@ -211,8 +235,7 @@ impl<S: CellSet> Trial<S> {
         self.finder
             .find(tables.board, pattern, &mut self.boxes, &mut self.region);
         find_players(&self.boxes, &self.region, &mut self.players);
-        self.moving.copy_from(&self.boxes);
-        first_uncovered(tables, &self.boxes, &self.players, lookup, &mut self.moving)
+        first_uncovered(tables, pattern.boxes, &self.boxes, &self.players, scratch)
     }
 }
 
@@ -251,31 +274,31 @@ fn add_player<S: CellSet>(region: &S, from: Cell, dir: Dir, players: &mut S)
     }
 }
 
-// Returns the first push of the boxes out of the region whose result isn't covered. `moving` holds the boxes too. Each push moves
-// one of its boxes and moves it back.
+// Returns the first push of the boxes out of the region whose result isn't covered. The boxes are loaded, and given as a set too.
 fn first_uncovered<S: CellSet>(
     tables: &Tables<S>,
+    loaded: &[Cell],
     boxes: &S,
     region: &S,
-    lookup: &mut Scratch,
-    moving: &mut S,
+    scratch: &mut PushScratch<S>,
 ) -> Option<Push>
-    requires tables { AreFilled tables.now }
     requires boxes { S.extent boxes.now ≡ tables.now.board.now.shape }
     requires region { S.extent region.now ≡ tables.now.board.now.shape }
-    requires lookup { IsRoomy tables.now lookup.old }
-    requires moving { S.extent moving.old ≡ tables.now.board.now.shape }
-    requires same { S.members moving.old ≡ S.members boxes.now }
-    ensures moving { S.extent moving.new ≡ tables.now.board.now.shape }
-    ensures lookup { IsRoomy tables.now lookup.new }
+    requires same { S.members boxes.now ≡ cells_in loaded.now }
+    requires floor { (c : GridCell) → Has (cells_in loaded.now) c → IsFloor tables.now.board.now c }
+    requires room { (c : GridCell) → Has (S.members region.now) c → Has tables.now.board.now.room c }
+    requires ready { IsReady S.extent tables.now scratch.old }
+    requires loaded { IsLoaded S.members tables.now (cells_in loaded.now) scratch.old }
+    ensures ready { IsReady S.extent tables.now scratch.new }
+    ensures loaded { IsLoaded S.members tables.now (cells_in loaded.now) scratch.new }
     ensures exact { MatchOption result
-        (AllLead tables.now.board.now.shape tables.now.board.now.walls (S.members boxes.now)
+        (AllLead tables.now.board.now.shape tables.now.board.now.walls (cells_in loaded.now)
         (Has (S.members region.now)) (IsCovered tables.now.board.now (list_of tables.now.groups)))
-        (IsFirstAstray tables.now.board.now.shape tables.now.board.now.walls (S.members boxes.now)
+        (IsFirstAstray tables.now.board.now.shape tables.now.board.now.walls (cells_in loaded.now)
         (Has (S.members region.now)) (IsCovered tables.now.board.now (list_of tables.now.groups))) }
 {
     for push in Pushes::new(boxes.shape(), tables.board.walls(), boxes, region) {
-        if !is_covered_after(push, tables, lookup, moving) {
+        if !scratch.covers(tables, loaded, push) {
             return Some(push);
         }
     }

@@ -20,11 +20,12 @@
 //!    boxes after the push, and one side of the pushed box decides. If that settles all pushes, and the start is found as quickly, the list
 //!    is closed (`checking`). This is so for nearly every list that a program writes.
 //! 5. Otherwise the tables are filled. A breadth-first search builds a spanning tree of the room (`tree`), and each group goes into the
-//!    bucket of one of its boxes, the one that the fewest lines have. The start is looked up among all groups (`lookup`). For a push that is
-//!    left, the group that covered the last state is asked first. Then one look through the groups finds which boxes can be pushed by all
-//!    players of one piece of the room less the boxes (`piece`). The groups whose boxes are among the state's are found once for all pieces
-//!    (`subsets`). A push that is still left is looked up by itself, first in the bucket of the cell ahead.
-//! 6. If a push isn't covered, the lines of its group are gone through again, with one flood each, up to the first fault (`region`).
+//!    bucket of one of its boxes, the one that the fewest lines have. The start is looked up among all groups (`lookup`), and then the pushes
+//!    that are left (`push_lookups`): the group that covered the last state is asked first. Then one look through the groups finds which boxes
+//!    can be pushed by all players of one piece of the room less the boxes (`piece`). The groups whose boxes are among the state's are found
+//!    once for all pieces (`subsets`). A push that is still left is looked up by itself, first in the bucket of the cell ahead.
+//! 6. If a push isn't covered, the lines of its group are gone through again, with one flood each, up to the first fault (`region`). Their
+//!    pushes are looked up in the same way.
 //!
 //! So a list takes at most 2n floods, n more for a list with a trap that has to be looked up, and one for each piece that is looked at. A
 //! lookup goes through the buckets of the state's boxes, and a look through the buckets of a group's boxes. A group costs a look at its
@@ -56,6 +57,7 @@ mod laws;
 mod lookup;
 mod pattern_list;
 mod piece;
+mod push_lookups;
 mod pushes;
 mod region;
 mod scan;

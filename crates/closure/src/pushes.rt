@@ -1,122 +1,24 @@
-//! The pushes out of groups, and whether the list covers their results.
+//! The pushes out of groups, and whether the trap and hints show that the list covers their results.
 //!
 //! After a push the player is beside the box that was pushed. So the group of just the boxes after the push covers the result
-//! exactly if its region lies on that side of that box. Hints find such a group. If they fail and the tables are filled for lookups, the
-//! group that covered the last state is asked, then the groups that lack the pushed box (`piece`), then those in the bucket of its new
-//! cell, and then all groups.
-ghost use Rattle.std.specs.Prelude.{◌≡◌, ◌<◌, ◌↔◌, IsTrue, IfOk, IfSome, MatchOption, length};
-ghost use Rattle.cellset.specs.{Cell.IsOn, CellSet.Has, CellSet.Lacks, declared.cell.Cell.Cell as GridCell};
+//! exactly if its region lies on that side of that box. Hints find such a group. Pushes that they don't settle are looked up
+//! (`push_lookups`).
+ghost use Rattle.std.specs.Prelude.{◌≡◌, ◌<◌, ◌↔◌, IsTrue, IfSome, MatchOption, length};
+ghost use Rattle.cellset.specs.{CellSet.Has, CellSet.Lacks, declared.cell.Cell.Cell as GridCell};
 ghost use Rattle.reach.specs.Region.{IsFree};
 ghost use Rattle.board.specs.Game.{moved};
 ghost use Rattle.closure.specs.{Pattern.IsCovered, Closed.CoversPushesOf, Run.state_after, Sides.cell_no, Sides.cells_in, Groups.list_of, Groups.position_at};
-ghost use Rattle.closure.specs.GroupPushes.{AreNoted, CoversFrom, CoversToward, HasNoPush, IsLoaded, IsPushAt, IsPushOf, IsPushedBox, IsReady, IsStepBack, pushed_cell};
-ghost use Rattle.closure.specs.{Tables.AreFilled, Tables.AreTables, Trap.AreOff};
+ghost use Rattle.closure.specs.GroupPushes.{AreNoted, CoversFrom, CoversToward, HasNoPush, IsPushAt, IsPushedBox, IsStepBack, pushed_cell};
+ghost use Rattle.closure.specs.{Tables.AreTables, Trap.AreOff};
 
-use crate::cells::{is_same, load, number_of};
+use crate::cells::{is_same, number_of};
 use crate::hints::{TRIES, hash_of, hash_with, hash_without};
-use crate::lookup::{Scratch, is_covered_after, is_last_after};
-use crate::piece::Piece;
 use crate::sides::Sides;
 use crate::tables::Tables;
-use crate::tree::index_of;
 use board::Board;
 use cellset::{Cell, CellSet, Dir};
 use reach::Push;
 use std::alloc::{AllocError, Global};
-
-// Memory for lookups of states after a push, with a set for them.
-#[derive(Drop)]
-pub(crate) struct PushScratch<S: CellSet> {
-    pub(crate) state: S,
-    pub(crate) piece: Piece<S>,
-    pub(crate) lookup: Scratch,
-}
-
-impl<S: CellSet> PushScratch<S> {
-    // Returns memory for lookups in these tables.
-    pub(crate) fn new(alloc: Global, tables: &Tables<S>) -> Result<PushScratch<S>, AllocError>
-        requires { AreFilled tables.now }
-        ensures { IfOk result (IsReady S.extent tables.now) }
-    {
-        let state = S::new(alloc, tables.board.shape())?;
-        let lookup = Scratch::new(alloc, tables)?;
-        let piece = Piece::new(alloc, tables)?;
-        Ok(PushScratch {
-            state,
-            piece,
-            lookup,
-        })
-    }
-}
-
-// Notes further groups whose pushes the list covers. Without scratch memory only the trap and hints are asked.
-pub(crate) fn cover_groups<S: CellSet>(
-    tables: &Tables<S>,
-    scratch: &mut Option<PushScratch<S>>,
-    covered: &mut Vec<bool>,
-)
-    requires tables { AreTables tables.now }
-    requires covered { AreNoted tables.now.board.now tables.now.groups covered.old.items }
-    requires ready { IfSome scratch.old (IsReady S.extent tables.now) }
-    ensures { AreNoted tables.now.board.now tables.now.groups covered.new.items }
-{
-    for group in 0..tables.groups.spans.len() {
-        if covered[group] {
-            continue;
-        }
-        covered[group] = covers_pushes_of(tables, group, scratch);
-    }
-}
-
-// Returns true only if the list covers each push out of a group.
-fn covers_pushes_of<S: CellSet>(
-    tables: &Tables<S>,
-    group: usize,
-    scratch: &mut Option<PushScratch<S>>,
-) -> bool
-    requires tables { AreTables tables.now }
-    requires group { group < length tables.now.groups.spans.items }
-    requires ready { IfSome scratch.old (IsReady S.extent tables.now) }
-    ensures ready { IfSome scratch.new (IsReady S.extent tables.now) }
-    ensures covered { IsTrue result → CoversPushesOf tables.now.board.now (list_of tables.now.groups) (position_at tables.now.board.now tables.now.groups group) }
-{
-    let boxes = tables.groups.boxes(group);
-    if tables.is_trapped(boxes) {
-        return true;
-    }
-    load_boxes(tables, boxes, scratch);
-    let hash = hash_of(boxes);
-    for number in 0..boxes.len() {
-        let sides = tables.sides_of(group, number);
-        let pushed = PushedBox {
-            group,
-            boxes,
-            others: hash_without(hash, boxes[number]),
-            number,
-            sides,
-        };
-        if !covers_each_way(tables, &pushed, scratch) {
-            return false;
-        }
-    }
-    true
-}
-
-// Makes these boxes the state, if there is scratch memory.
-fn load_boxes<S: CellSet>(tables: &Tables<S>, boxes: &[Cell], scratch: &mut Option<PushScratch<S>>)
-    requires boxes { (c : GridCell) → Has (cells_in boxes.now) c → IsOn tables.now.board.now.shape c }
-    requires ready { IfSome scratch.old (IsReady S.extent tables.now) }
-    ensures ready { IfSome scratch.new (IsReady S.extent tables.now) }
-    ensures loaded { IfSome scratch.new (IsLoaded S.members tables.now (cells_in boxes.now)) }
-{
-    if let Some(scratch) = scratch {
-        // For the proof: the board is well formed.
-        let _shape = tables.board.shape();
-        load(boxes, &mut scratch.state);
-        scratch.piece.subsets.clear(tables);
-        scratch.piece.begin(tables, tables.board.player(), true);
-    }
-}
 
 // A box of a group, by its number, the hash of the other boxes, and on which sides of it the region lies.
 #[derive(Clone, Copy)]
@@ -128,53 +30,71 @@ pub(crate) struct PushedBox<'a> {
     pub(crate) sides: Sides,
 }
 
-// Returns whether the list covers each push of a box out of its group.
-fn covers_each_way<S: CellSet>(
-    tables: &Tables<S>,
-    pushed: &PushedBox,
-    scratch: &mut Option<PushScratch<S>>,
-) -> bool
+// Notes the groups whose pushes the trap and hints settle.
+pub(crate) fn note_hinted<S: CellSet>(tables: &Tables<S>, covered: &mut Vec<bool>)
+    requires tables { AreTables tables.now }
+    requires covered { AreNoted tables.now.board.now tables.now.groups covered.old.items }
+    ensures { AreNoted tables.now.board.now tables.now.groups covered.new.items }
+{
+    for group in 0..tables.groups.spans.len() {
+        covered[group] = are_pushes_hinted(tables, group);
+    }
+}
+
+// Returns true only if the list covers each push out of a group.
+fn are_pushes_hinted<S: CellSet>(tables: &Tables<S>, group: usize) -> bool
+    requires tables { AreTables tables.now }
+    requires group { group < length tables.now.groups.spans.items }
+    ensures { IsTrue result → CoversPushesOf tables.now.board.now (list_of tables.now.groups) (position_at tables.now.board.now tables.now.groups group) }
+{
+    let boxes = tables.groups.boxes(group);
+    if tables.is_trapped(boxes) {
+        return true;
+    }
+    let hash = hash_of(boxes);
+    for number in 0..boxes.len() {
+        let sides = tables.sides_of(group, number);
+        let pushed = PushedBox {
+            group,
+            boxes,
+            others: hash_without(hash, boxes[number]),
+            number,
+            sides,
+        };
+        if !is_hinted_each_way(tables, &pushed) {
+            return false;
+        }
+    }
+    true
+}
+
+// Returns true only if the list covers each push of a box out of its group.
+fn is_hinted_each_way<S: CellSet>(tables: &Tables<S>, pushed: &PushedBox) -> bool
     requires tables { AreTables tables.now }
     requires pushed { IsPushedBox tables.now.board.now tables.now.groups pushed.now }
     requires off { AreOff tables.now.trap.members pushed.now.boxes.now }
-    requires ready { IfSome scratch.old (IsReady S.extent tables.now) }
-    requires loaded { IfSome scratch.old (IsLoaded S.members tables.now (cells_in pushed.now.boxes.now)) }
-    ensures ready { IfSome scratch.new (IsReady S.extent tables.now) }
-    ensures loaded { IfSome scratch.new (IsLoaded S.members tables.now (cells_in pushed.now.boxes.now)) }
-    ensures covered { IsTrue result → CoversFrom tables.now.board.now (list_of tables.now.groups) (position_at tables.now.board.now tables.now.groups pushed.now.group) (pushed_cell pushed.now) }
+    ensures { IsTrue result → CoversFrom tables.now.board.now (list_of tables.now.groups) (position_at tables.now.board.now tables.now.groups pushed.now.group) (pushed_cell pushed.now) }
 {
-    covers_toward(tables, pushed, Dir::L, scratch)
-        && covers_toward(tables, pushed, Dir::U, scratch)
-        && covers_toward(tables, pushed, Dir::R, scratch)
-        && covers_toward(tables, pushed, Dir::D, scratch)
+    is_hinted_toward(tables, pushed, Dir::L)
+        && is_hinted_toward(tables, pushed, Dir::U)
+        && is_hinted_toward(tables, pushed, Dir::R)
+        && is_hinted_toward(tables, pushed, Dir::D)
 }
 
-// Returns whether the list covers the push of a box in a direction, if it goes out of its group.
+// Returns true only if the list covers the push of a box in a direction, or the push doesn't go out of its group.
 //
 // It and what it calls are inlined, so that the direction is a constant. Without that a list takes a tenth longer.
 #[inline(always)]
-fn covers_toward<S: CellSet>(
-    tables: &Tables<S>,
-    pushed: &PushedBox,
-    dir: Dir,
-    scratch: &mut Option<PushScratch<S>>,
-) -> bool
+fn is_hinted_toward<S: CellSet>(tables: &Tables<S>, pushed: &PushedBox, dir: Dir) -> bool
     requires tables { AreTables tables.now }
     requires pushed { IsPushedBox tables.now.board.now tables.now.groups pushed.now }
     requires off { AreOff tables.now.trap.members pushed.now.boxes.now }
-    requires ready { IfSome scratch.old (IsReady S.extent tables.now) }
-    requires loaded { IfSome scratch.old (IsLoaded S.members tables.now (cells_in pushed.now.boxes.now)) }
-    ensures ready { IfSome scratch.new (IsReady S.extent tables.now) }
-    ensures loaded { IfSome scratch.new (IsLoaded S.members tables.now (cells_in pushed.now.boxes.now)) }
-    ensures covered { IsTrue result → CoversToward tables.now.board.now (list_of tables.now.groups) (position_at tables.now.board.now tables.now.groups pushed.now.group) (pushed_cell pushed.now) dir }
+    ensures { IsTrue result → CoversToward tables.now.board.now (list_of tables.now.groups) (position_at tables.now.board.now tables.now.groups pushed.now.group) (pushed_cell pushed.now) dir }
 {
     let Some(push) = push_of(tables, pushed, dir) else {
         return true;
     };
-    if tables.is_on_trap(push.to) {
-        return true;
-    }
-    is_hinted(tables, pushed, push) || is_found(tables, pushed.boxes, push, scratch)
+    tables.is_on_trap(push.to) || is_hinted(tables, pushed, push)
 }
 
 // Returns whether a cell is floor without one of the boxes.
@@ -193,7 +113,7 @@ fn is_free<S: CellSet>(board: &Board<S>, boxes: &[Cell], cell: Cell) -> bool
 
 // The push of a box in the direction, if it goes out of its group.
 #[inline(always)]
-fn push_of<S: CellSet>(tables: &Tables<S>, pushed: &PushedBox, dir: Dir) -> Option<Push>
+pub(crate) fn push_of<S: CellSet>(tables: &Tables<S>, pushed: &PushedBox, dir: Dir) -> Option<Push>
     requires tables { AreTables tables.now }
     requires pushed { IsPushedBox tables.now.board.now tables.now.groups pushed.now }
     ensures found { MatchOption result
@@ -270,7 +190,7 @@ fn covers_after<S: CellSet>(
 
 // Returns whether a group that hints name covers the result of a push.
 #[inline(always)]
-fn is_hinted<S: CellSet>(tables: &Tables<S>, pushed: &PushedBox, push: Push) -> bool
+pub(crate) fn is_hinted<S: CellSet>(tables: &Tables<S>, pushed: &PushedBox, push: Push) -> bool
     requires tables { AreTables tables.now }
     requires back { IsStepBack push }
     requires off { (c : GridCell) → Has (moved (cells_in pushed.now.boxes.now) push.from push.to) c → Lacks tables.now.trap.members c }
@@ -288,86 +208,4 @@ fn is_hinted<S: CellSet>(tables: &Tables<S>, pushed: &PushedBox, push: Push) -> 
         }
     }
     false
-}
-
-// Returns true only if some group covers the result of a push of these boxes. Without scratch memory it returns false.
-fn is_found<S: CellSet>(
-    tables: &Tables<S>,
-    boxes: &[Cell],
-    push: Push,
-    scratch: &mut Option<PushScratch<S>>,
-) -> bool
-    requires boxes { (c : GridCell) → Has (cells_in boxes.now) c → IsOn tables.now.board.now.shape c }
-    requires push { IsPushOf tables.now.board.now (cells_in boxes.now) push }
-    requires back { IsStepBack push }
-    requires ready { IfSome scratch.old (IsReady S.extent tables.now) }
-    requires loaded { IfSome scratch.old (IsLoaded S.members tables.now (cells_in boxes.now)) }
-    ensures ready { IfSome scratch.new (IsReady S.extent tables.now) }
-    ensures loaded { IfSome scratch.new (IsLoaded S.members tables.now (cells_in boxes.now)) }
-    ensures covered { IsTrue result → IsCovered tables.now.board.now (list_of tables.now.groups) (state_after (cells_in boxes.now) push) }
-{
-    let Some(scratch) = scratch else {
-        return false;
-    };
-    if is_last_after(push, tables, &mut scratch.lookup, &mut scratch.state) {
-        return true;
-    }
-    if scratch.piece.covers(tables, boxes, &scratch.state, push) {
-        scratch.lookup.last = scratch.piece.lookup.last;
-        return true;
-    }
-    is_ahead(tables, &scratch.state, push)
-        || is_covered_after(push, tables, &mut scratch.lookup, &mut scratch.state)
-}
-
-// Returns true only if a group in the bucket of the cell ahead covers the result of a push.
-fn is_ahead<S: CellSet>(tables: &Tables<S>, state: &S, push: Push) -> bool
-    requires tables { AreFilled tables.now }
-    requires extent { S.extent state.now ≡ tables.now.board.now.shape }
-    requires to_on { IsOn tables.now.board.now.shape push.to }
-    requires back { IsStepBack push }
-    ensures { IsTrue result → IsCovered tables.now.board.now (list_of tables.now.groups) (state_after (S.members state.now) push) }
-{
-    let mut at = tables.buckets.chains.first[index_of(push.to)] as usize;
-    while at > 0 {
-        let group = at - 1;
-        if covers_ahead(tables, group, state, push) {
-            return true;
-        }
-        at = tables.buckets.chains.next[group] as usize;
-    }
-    false
-}
-
-// Returns true only if a group with a box on the cell ahead covers the result of a push.
-fn covers_ahead<S: CellSet>(tables: &Tables<S>, group: usize, state: &S, push: Push) -> bool
-    requires tables { AreFilled tables.now }
-    requires group { group < length tables.now.groups.spans.items }
-    requires extent { S.extent state.now ≡ tables.now.board.now.shape }
-    requires back { IsStepBack push }
-    ensures { IsTrue result → IsCovered tables.now.board.now (list_of tables.now.groups) (state_after (S.members state.now) push) }
-{
-    let Some(number) = number_ahead(tables.groups.boxes(group), state, push) else {
-        return false;
-    };
-    tables.sides_of(group, number).has(push.dir.opposite())
-}
-
-// Returns the number of the pushed box among `after`, if the others are boxes that stay.
-fn number_ahead<S: CellSet>(after: &[Cell], state: &S, push: Push) -> Option<usize>
-    requires { (c : GridCell) → Has (cells_in after.now) c → IsOn (S.extent state.now) c }
-    ensures { IfSome result (λ number. (number < length after.now) × (cell_no after.now number ≡ push.to)
-        × ((c : GridCell) → Has (cells_in after.now) c → Has (moved (S.members state.now) push.from push.to) c)) }
-{
-    let mut found = None;
-    for (number, at) in after.iter().enumerate() {
-        if is_same(*at, push.to) {
-            found = Some(number);
-            continue;
-        }
-        if is_same(*at, push.from) || !state.contains(*at) {
-            return None;
-        }
-    }
-    found
 }

@@ -18,8 +18,8 @@ loop-at-preserved c =
 
 pub returns-clause-exact : goal.returns-clause-exact
 returns-clause-exact c =
-    let from = c.in_ok-to_u32.ensures ∙ c.len-from.ensures ∙ c.args.cells.now.ok.0 in
-    let to = c.in_ok-to_u32-2.ensures ∙ c.len.ensures ∙ c.loop-at.cells.ok.0 in
+    let from = c.in_ok-to_u32.ensures.value ∙ c.len-from.ensures ∙ c.args.cells.now.ok.0 in
+    let to = c.in_ok-to_u32-2.ensures.value ∙ c.len.ensures ∙ c.loop-at.cells.ok.0 in
     let all = take_all c.loop-at.at-index c.args.coords.now c.loop-at-test.false in (
       λ i. record { from = from i; to = to i },
       c.loop-at.invariant.same ∙ ap (λ l. c.args.cells.now.items ++ map cell_of l) all,

@@ -29,9 +29,9 @@ loop-item-preserved c =
     let far = c.loop-item-test.true in
     let low = c.requires c.loop-item.item far in
     record {
-      firsts = rw c.in_ok-first-2.ensures (simp length-set inv.firsts);
+      firsts = rw c.in_ok-first-2.ensures.value (simp length-set inv.firsts);
       nexts = rw c.push_reserved.ensures.items (length_more c.loop-item.next.items c.index.result.now ∙ ap (λ k. k + 1) inv.nexts);
       roomy = rw c.push_reserved.ensures.capacity inv.roomy;
-      lasts = rw c.in_ok-first-2.ensures (lasts_more _ _ c.loop-item.next.items _ _ far low inv.firsts inv.nexts inv.lasts);
+      lasts = rw c.in_ok-first-2.ensures.value (lasts_more _ _ c.loop-item.next.items _ _ far low inv.firsts inv.nexts inv.lasts);
       before = rw c.push_reserved.ensures.items (before_more _ _ _ _ _ far low inv.firsts inv.nexts inv.lasts _ c.index.ensures inv.before);
     }

@@ -3,7 +3,7 @@ use Rattle.closure.proofs.checking.check_covering.Goals as goal
 
 pub returns-then-not-is_any_covering-clause-exact : goal.returns-then-not-is_any_covering-clause-exact
 returns-then-not-is_any_covering-clause-exact g c = λ _. (
-  c.requires.tables.are.lawful,
+  c.requires.ready.filled.are.lawful,
   λ covered. false≢true (c.if-not-is_any_covering.ensures.exact.1 (rw (c.player.ensures.value, c.boxes.ensures.members) covered)),
 )
 
@@ -14,20 +14,20 @@ check_pushes-checked-requires-clause-start g c =
 pub returns-clause-ok : goal.returns-clause-ok
 returns-clause-ok g c =
     on_ok_weaker c.check_pushes-checked.result (λ pushes. record {
-      lawful = c.requires.tables.are.lawful;
+      lawful = c.requires.ready.filled.are.lawful;
       start = rw (c.player.ensures.value, c.boxes.ensures.members) at (c.if-not-is_any_covering.ensures.exact.0 refl);
       pushes = pushes;
     }) c.check_pushes-checked.ensures.ok
 
 pub check_pushes-checked-requires-clause-covered : goal.check_pushes-checked-requires-clause-covered
-check_pushes-checked-requires-clause-covered g c = rw c.deref.ensures.value c.cover_groups.ensures
+check_pushes-checked-requires-clause-covered g c = rw c.deref.ensures.value c.note_found.ensures.covered
 
 pub returns-clause-exact : goal.returns-clause-exact
 returns-clause-exact g c = c.check_pushes-checked.ensures.exact
 
 pub is_any_covering-requires-clause-player : goal.is_any_covering-requires-clause-player
 is_any_covering-requires-clause-player g c =
-    let formed = c.requires.tables.are.formed in rw c.player.ensures.value (formed.room _ formed.here).0
+    let formed = c.requires.ready.filled.are.formed in rw c.player.ensures.value (formed.room _ formed.here).0
 
 pub is_any_covering-requires-clause-boxes : goal.is_any_covering-requires-clause-boxes
 is_any_covering-requires-clause-boxes g c = c.boxes.ensures.extent

@@ -5,10 +5,29 @@
 use Rattle.std.proofs.Common.{◌≡◌, ℕ, ◌<◌, length, refl, sym, ◌∙◌, ap, arith}
 use Rattle.std.{specs.Prelude.slice_index, proofs.lemmas.List.get_or-map, proofs.lemmas.List.length-map}
 use Rattle.answers.specs.Body.{PatternLine}
-use Rattle.closure.specs.{Arena.line_at, Arena.line_in, Arena.lines_in, Arena.pattern_at, Closed.CoversPushesOf, FirstFault.HasFirstUncovered, Pattern.Pattern}
-use Rattle.closure.{specs.Groups.list_of, proofs.Arenas.list_long, proofs.CellLists.at_any, proofs.GroupPushes.pattern_of_group}
+use Rattle.closure.specs.{Arena.boxes_at, Arena.line_at, Arena.line_in, Arena.lines_in, Arena.pattern_at, Closed.CoversPushesOf, FirstFault.HasFirstUncovered, Pattern.Pattern}
+use Rattle.closure.{specs.Groups.boxes_of, specs.Groups.list_of, proofs.Arenas.list_long, proofs.CellLists.at_any, proofs.GroupPushes.pattern_of_group}
 use Rattle.closure.proofs.FirstLines.{each_pattern, one_more, first_line}
 use Rattle.closure.proofs.checking.check_pushes.Goals as goal
+use Rattle.closure.proofs.checking.check_pushes.Goals.{After-index}
+
+-- The group of the line has the boxes of the line.
+own_boxes : (g : _) (c : After-index g) → boxes_of c.args.tables.now.groups c.index.result.now ≡ boxes_at c.args.tables.now.groups.arena c.loop-line.line
+own_boxes g c =
+    let groups = c.args.tables.now.groups in
+    let grouped = c.requires.ready.filled.are.grouped in
+    let of = groups.of.items in
+    let line = c.loop-line.line in
+    let test = c.loop-line-test.true in
+    let len = c.len-line-end.ensures in
+    let long = grouped.all.long in
+    let lt : line < length groups.arena.lines.items = omega arith in
+    let read : c.index.result.now ≡ slice_index of line = c.index.ensures ∙ at_any of line c.index.result.now 0 (omega arith) in
+    ap (boxes_of groups) read ∙ grouped.all.same line lt
+
+pub first_push-requires-clause-loaded : goal.first_push-requires-clause-loaded
+first_push-requires-clause-loaded g c =
+    rw (own_boxes g (goal.at.first_push-requires-clause-loaded g c).After-index) at c.load_group.ensures.loaded
 
 pub returns-in-Some-clause-exact : goal.returns-in-Some-clause-exact
 returns-in-Some-clause-exact g c = λ _.
@@ -26,7 +45,7 @@ returns-in-Some-clause-exact g c = λ _.
     let number = ap (λ l. l.line) (get_or-map here arena.lines.items line c.index-in-Some.result.now read within)
     ∙ ap (λ l. l.number) (sym c.index-in-Some.ensures) in
     let low : line < length (lines_in arena) = rw (length-map arena.lines.items here) within in (
-      c.requires.tables.are.lawful,
+      c.requires.ready.filled.are.lawful,
       c.requires.start,
       rw number at (first_line (CoversPushesOf level patterns) Faulty (lines_in arena) line _ read low c.loop-line.invariant.covered
           (push, refl, refl, c.in-Some.ensures.exact)),
@@ -38,7 +57,8 @@ loop-line-preserved g c =
     let patterns = list_of c.args.tables.now.groups in
     record {
       shape = c.first_push.ensures.shape;
-      lookup = c.first_push.ensures.lookup;
+      ready = c.first_push.ensures.ready;
+      loaded = λ low. rw (c.load_group.ensures.same, own_boxes g (goal.at.loop-line-preserved g c).After-index) c.first_push.ensures.loaded;
       covered = one_more (λ (j : ℕ). CoversPushesOf level patterns (pattern_at patterns j)) c.loop-line.line c.loop-line.invariant.covered
           c.in_default.ensures.exact;
     }
@@ -51,11 +71,11 @@ returns-clause-ok g c =
     let len = c.len-line-end.ensures in
     each_pattern (CoversPushesOf c.args.tables.now.board.now patterns) patterns c.loop-line.line _ (omega arith) c.loop-line.invariant.covered
 
-pub loop-line-preserved-then-covered-index : goal.loop-line-preserved-then-covered-index
-loop-line-preserved-then-covered-index g c =
+pub loop-line-preserved-then-covered-group : goal.loop-line-preserved-then-covered-group
+loop-line-preserved-then-covered-group g c =
     let level = c.args.tables.now.board.now in
     let groups = c.args.tables.now.groups in
-    let grouped = c.requires.tables.are.grouped in
+    let grouped = c.requires.ready.filled.are.grouped in
     let of = groups.of.items in
     let line = c.loop-line.line in
     let test = c.loop-line-test.true in
@@ -67,8 +87,9 @@ loop-line-preserved-then-covered-index g c =
     let read : c.index.result.now ≡ slice_index of line = c.index.ensures ∙ at_any of line c.index.result.now 0 (omega arith) in
     record {
       shape = c.loop-line.invariant.shape;
-      lookup = c.loop-line.invariant.lookup;
+      ready = c.loop-line.invariant.ready;
+      loaded = c.loop-line.invariant.loaded;
       covered = one_more (λ (j : ℕ). CoversPushesOf level (list_of groups) (pattern_at (list_of groups) j)) line c.loop-line.invariant.covered
           (pattern_of_group level groups grouped line lt (c.requires.covered.covers (slice_index of line) (omega arith)
-          (rw read at c.if-covered-index.true)));
+          (rw read at c.if-covered-group.true)));
     }

@@ -1,13 +1,15 @@
-use Rattle.std.proofs.Common.{◌≡◌, ◌<◌, ℕ}
-use Rattle.closure.specs.{Arena.pattern_at, Closed.CoversPushesOf, Groups.list_of, Tables.IsRoomy}
+use Rattle.std.proofs.Common.{◌≡◌, ◌<◌, ℕ, length}
+use Rattle.closure.specs.{Arena.pattern_at, Closed.CoversPushesOf, GroupPushes.IsLoaded, GroupPushes.IsReady, Groups.boxes_of, Groups.list_of, Sides.cells_in}
 use Rattle.closure.proofs.checking.check_pushes.Given as goal
 
 abbrev pub invariant-loop-line : goal.invariant-loop-line
 invariant-loop-line g l =
     let level = l.tables.board.now in
-    let patterns = list_of l.tables.groups in
+    let groups = l.tables.groups in
+    let patterns = list_of groups in
     record {
       shape : l.trial ≡ level.shape;
-      lookup : IsRoomy l.tables l.lookup;
+      ready : IsReady g.S.CellSet.extent l.tables l.scratch;
+      loaded : l.loaded < length groups.spans.items → IsLoaded g.S.CellSet.members l.tables (cells_in (boxes_of groups l.loaded)) l.scratch;
       covered : (j : ℕ) → j < l.line → CoversPushesOf level patterns (pattern_at patterns j);
     }

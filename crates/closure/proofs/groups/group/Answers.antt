@@ -15,7 +15,7 @@ loop-line-preserved c =
     let so_far = c.loop-line.invariant.grouped in
     let Grouped : List Span → Type 0 = λ l. AreGroups arena (of ++ group ∷ []) l (n + 1) in
     record {
-      grouped = rw (c.push_reserved.ensures.items, c.in_ok-to_u32.ensures) (elim (rw (c.deref.ensures.value, c.deref-line-items.ensures.value) at c.in_ok-group.ensures) [
+      grouped = rw (c.push_reserved.ensures.items, c.in_ok-to_u32.ensures.value) (elim (rw (c.deref.ensures.value, c.deref-line-items.ensures.value) at c.in_ok-group.ensures) [
         | inl old ↦ rw old.0 (line_more arena of spans n group so_far old.1 old.2)
         | inr new ↦ rw new.1 (group_more arena of spans n group so_far (rw c.deref-line-items.ensures.value at c.loop-line-test.true) new.0)
       ]);

@@ -1,14 +1,15 @@
 -- The set that `find` returns is the region of the line's pattern. Its cells beside the boxes are the players' of all pushes out, so a
 -- push out of one is a push out of the other.
-use Rattle.std.proofs.Common.{List, sym, subst}
+use Rattle.std.proofs.Common.{List, inl, sym, subst}
 use Rattle.std.specs.Prelude.{Option, None, Some, MatchOption}
 use Rattle.cellset.specs.{Cell.neighbor, CellSet.Cells, CellSet.Has, declared.cell.Cell.Cell, declared.dir.Dir.Dir}
 use Rattle.reach.specs.{Pushes.IsPushOut, declared.pushes.Push.Push}
 use Rattle.board.specs.Game.{Level}
 use Rattle.closure.specs.{Arena.pattern_in, Pattern.Pattern, Pattern.InPatternRegion, Pattern.IsCovered, Pattern.PushesOut, FirstFault.IsFirstUncovered}
 use Rattle.closure.specs.{Closed.IsLawful, Closed.CoversPushesOf, Run.AllLead, Run.IsFirstAstray, Groups.list_of}
-use Rattle.closure.proofs.{Arenas.listed_at, Regions.region_on}
+use Rattle.closure.proofs.{Arenas.listed_at, Grouped.region_in_room, Regions.region_on}
 use Rattle.closure.proofs.checking.Trial.first_push.Goals as goal
+use Rattle.closure.proofs.checking.Trial.first_push.Goals.{After-pattern-pattern}
 
 module _ (level : Level) (patterns : List Pattern) (pattern : Pattern) (players : Cells)
     (inside : (c : Cell) → Has players c → InPatternRegion level pattern c)
@@ -38,11 +39,26 @@ module _ (level : Level) (patterns : List Pattern) (pattern : Pattern) (players 
     first = λ earlier out before. found.first earlier (out_of_set earlier out) before;
   }
 
-pub find-requires-clause-lawful : goal.find-requires-clause-lawful
-find-requires-clause-lawful g c =
+-- The pattern of the line is lawful.
+lawful_line : (g : _) (c : After-pattern-pattern g) → IsLawful c.args.tables.now.board.now (pattern_in c.pattern-pattern.result)
+lawful_line g c =
     let tables = c.args.tables.now in
     subst (IsLawful tables.board.now) (sym c.pattern-pattern.ensures.pattern)
-    (c.requires.tables.are.lawful _ (listed_at tables.groups.arena c.args.line c.requires.line))
+    (c.requires.ready.filled.are.lawful _ (listed_at tables.groups.arena c.args.line c.requires.line))
+
+pub find-requires-clause-lawful : goal.find-requires-clause-lawful
+find-requires-clause-lawful g c = lawful_line g (goal.at.find-requires-clause-lawful g c).After-pattern-pattern
+
+pub first_uncovered-requires-clause-floor : goal.first_uncovered-requires-clause-floor
+first_uncovered-requires-clause-floor g c =
+    let lawful = lawful_line g (goal.at.first_uncovered-requires-clause-floor g c).After-pattern-pattern in
+    λ q has. (lawful.board q (inl has), lawful.wall q has)
+
+pub first_uncovered-requires-clause-room : goal.first_uncovered-requires-clause-room
+first_uncovered-requires-clause-room g c =
+    let lawful = lawful_line g (goal.at.first_uncovered-requires-clause-room g c).After-pattern-pattern in
+    λ q has. region_in_room c.args.tables.now.board.now c.requires.ready.filled.are.formed (pattern_in c.pattern-pattern.result) lawful q
+    ((c.find.ensures.exact q).0 (c.find_players.ensures.inside q has))
 
 pub returns-clause-exact : goal.returns-clause-exact
 returns-clause-exact g c =
@@ -54,4 +70,4 @@ returns-clause-exact g c =
     (λ q d within box. near.beside q d (rw c.find.ensures.region (region_on level (pattern_in c.pattern-pattern.result) q within))
     ((c.find.ensures.exact q).1 within) (rw c.find.ensures.members box))
     c.first_uncovered.result
-    (rw c.find.ensures.members at c.first_uncovered.ensures.exact))
+    c.first_uncovered.ensures.exact)

@@ -1,4 +1,4 @@
-use Rattle.closure.proofs.pushes.PushScratch.new.Goals as goal
+use Rattle.closure.proofs.push_lookups.PushScratch.new.Goals as goal
 
 pub returns : goal.returns
 returns g c = record {

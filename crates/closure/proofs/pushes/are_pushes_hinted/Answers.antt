@@ -1,26 +1,22 @@
 -- A group with a box on the trap needs no look (`trapped_pushes`). The invariant says that the list covers the pushes of each box so far out
--- of any other group, and that the set, if there is one, has its boxes. The tables have the sides of the next box on which the region lies
--- (`sides_of`), so `covers_each_way` may be called for it. Every push out of the group moves one of its boxes, so after the loop the list
+-- of any other group. The tables have the sides of the next box on which the region lies
+-- (`sides_of`), so `is_hinted_each_way` may be called for it. Every push out of the group moves one of its boxes, so after the loop the list
 -- covers them all (`covered_each_box`). The result false claims nothing.
 use borrow.Author.Count.{below_more}
 use Rattle.std.proofs.Common.{ap}
 use Rattle.closure.specs.{GroupPushes.CoversFrom, Groups.list_of, Groups.position_at, Sides.cell_no, Sides.cells_in}
-use Rattle.closure.proofs.{GroupPushes.covered_each_box, GroupPushes.trapped_pushes, Grouped.boxes_on}
-use Rattle.closure.proofs.pushes.covers_pushes_of.Goals as goal
+use Rattle.closure.proofs.GroupPushes.{covered_each_box, trapped_pushes}
+use Rattle.closure.proofs.pushes.are_pushes_hinted.Goals as goal
 
-pub returns-clause-covered : goal.returns-clause-covered
-returns-clause-covered g c = λ _.
+pub returns : goal.returns
+returns g c = λ _.
     let level = c.args.tables.now.board.now in
     let groups = c.args.tables.now.groups in
     covered_each_box level (list_of groups) (position_at level groups c.args.group) c.boxes-boxes.result.now c.loop-number.number c.loop-number-test.false
     (ap cells_in c.boxes-boxes.ensures) c.loop-number.invariant.covered
 
-pub load_boxes-requires-clause-boxes : goal.load_boxes-requires-clause-boxes
-load_boxes-requires-clause-boxes g c = boxes_on c.args.tables.now.board.now c.args.tables.now.groups c.requires.tables.lawful c.requires.tables.grouped
-    c.args.group c.requires.group c.boxes-boxes.result.now c.boxes-boxes.ensures
-
-pub returns-then-is_trapped-clause-covered : goal.returns-then-is_trapped-clause-covered
-returns-then-is_trapped-clause-covered g c = λ _.
+pub returns-then-is_trapped : goal.returns-then-is_trapped
+returns-then-is_trapped g c = λ _.
     let on = c.if-is_trapped.ensures in
     trapped_pushes c.args.tables.now c.requires.tables c.args.group c.requires.group on.0 (rw c.boxes-boxes.ensures at on.1) on.2
 
@@ -28,19 +24,15 @@ pub loop-number-preserved : goal.loop-number-preserved
 loop-number-preserved g c =
     let level = c.args.tables.now.board.now in
     let groups = c.args.tables.now.groups in
-    let after = c.covers_each_way.ensures in
+    let after = c.is_hinted_each_way.ensures in
     record {
-      ready = after.ready;
-      loaded = after.loaded;
       covered = below_more (λ i. CoversFrom level (list_of groups) (position_at level groups c.args.group) (cell_no c.boxes-boxes.result.now i)) c.loop-number.number
-          c.loop-number.invariant.covered (after.covered c.if-not-covers_each_way.false);
+          c.loop-number.invariant.covered (after c.if-not-is_hinted_each_way.false);
     }
 
-pub covers_each_way-requires : goal.covers_each_way-requires
-covers_each_way-requires g c = record {
+pub is_hinted_each_way-requires : goal.is_hinted_each_way-requires
+is_hinted_each_way-requires g c = record {
   tables = c.requires.tables;
   pushed = record { group = c.requires.group; boxes = c.boxes-boxes.ensures; number = c.loop-number-test.true; sides = rw c.boxes-boxes.ensures c.sides_of-sides.ensures };
   off = c.if-is_trapped.ensures;
-  ready = c.loop-number.invariant.ready;
-  loaded = c.loop-number.invariant.loaded;
 }

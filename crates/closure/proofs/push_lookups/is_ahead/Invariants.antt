@@ -1,5 +1,5 @@
 use Rattle.std.proofs.Common.{◌≤◌, length}
-use Rattle.closure.proofs.pushes.is_ahead.Given as goal
+use Rattle.closure.proofs.push_lookups.is_ahead.Given as goal
 
 abbrev pub invariant-loop-at : goal.invariant-loop-at
 invariant-loop-at g l = record { within : l.at ≤ length l.tables.groups.spans.items }

@@ -6,7 +6,7 @@ use Rattle.std.specs.FinSet as set
 use Rattle.cellset.{specs.CellSet.Has, specs.declared.cell.Cell.Cell, proofs.Members.inserted, proofs.Members.kept_by_insert, proofs.Members.kept_by_remove}
 use Rattle.board.specs.Game.{moved}
 use Rattle.closure.{specs.Sides.cell_no, specs.Sides.cells_in, proofs.CellLists.each_of, proofs.CellLists.in_list, proofs.CellLists.no_cell}
-use Rattle.closure.proofs.pushes.number_ahead.Goals as goal
+use Rattle.closure.proofs.push_lookups.number_ahead.Goals as goal
 
 pub loop-number-preserved-then-is_same : goal.loop-number-preserved-then-is_same
 loop-number-preserved-then-is_same g c =

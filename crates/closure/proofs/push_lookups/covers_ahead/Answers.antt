@@ -2,7 +2,7 @@ use Rattle.std.proofs.Common.{sym, ◌∙◌, ap, subst}
 use Rattle.cellset.specs.Cell.{neighbor, opposite}
 use Rattle.closure.{specs.Pattern.InPatternRegion, specs.Sides.cell_no, specs.Groups.position_at, proofs.CellLists.empty_lacks, proofs.Grouped.boxes_on}
 use Rattle.closure.proofs.GroupPushes.{covers_result}
-use Rattle.closure.proofs.pushes.covers_ahead.Goals as goal
+use Rattle.closure.proofs.push_lookups.covers_ahead.Goals as goal
 
 pub returns : goal.returns
 returns g c = λ has.

@@ -2,7 +2,7 @@ use Rattle.std.{proofs.Common.◌≡◌, proofs.Common.◌<◌, proofs.Common.If
 use Rattle.cellset.specs.CellSet.{Has}
 use Rattle.board.specs.Game.{moved}
 use Rattle.closure.specs.Sides.{cell_no}
-use Rattle.closure.proofs.pushes.number_ahead.Given as goal
+use Rattle.closure.proofs.push_lookups.number_ahead.Given as goal
 
 abbrev pub invariant-loop-number : goal.invariant-loop-number
 invariant-loop-number g l = record {

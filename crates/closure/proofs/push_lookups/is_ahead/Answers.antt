@@ -1,6 +1,6 @@
 use Rattle.std.proofs.Common.{arith}
 use Rattle.closure.proofs.CellLists.{at_any}
-use Rattle.closure.proofs.pushes.is_ahead.Goals as goal
+use Rattle.closure.proofs.push_lookups.is_ahead.Goals as goal
 
 pub loop-at-init : goal.loop-at-init
 loop-at-init g c = grind (arith, at_any)
