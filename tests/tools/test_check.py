@@ -507,8 +507,8 @@ class Screen(Check):
                        stdout=subprocess.DEVNULL, check=False,
                        stdin=subprocess.DEVNULL)
         said = self.read("said").decode()
-        self.assertIn("\r\x1b[Kcheck: auditing", said)
-        self.assertIn("\r\x1b[Kcheck: level 1: solved (1 of 1 done, 1 found)\r\n", said)
+        self.assertIn(" \rcheck: auditing", said)
+        self.assertIn(" \rcheck: level 1: solved (1 of 1 done, 1 found)\r\n", said)
         self.assertIn("mine: 1 levels, 1 solved, 0 unsolvable, 0 refused, 0 missing\r\n", said)
 
 

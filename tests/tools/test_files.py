@@ -5,6 +5,7 @@ import re
 import resource
 import signal
 import subprocess
+import sys
 import time
 import zipfile
 
@@ -14,6 +15,14 @@ from .helping import ONE, TOP, Case
 
 TOOL = os.path.join(TOP, "sokotool")
 OTHER = "######\n#@ $.#\n######\n"
+# runs a script, after a line that says that Python has started
+STARTED = """
+import os, runpy, signal, sys
+signal.signal(signal.SIGINT, lambda *_: os._exit(130))
+print(flush=True)
+sys.argv.pop(0)
+runpy.run_path(sys.argv[0], run_name="__main__")
+"""
 HAND = "sokoban-answers 1\nlevel 1\nsolution\nR\nend\n"
 
 
@@ -158,18 +167,23 @@ class Whole(Case):
         self.assertFalse(os.path.isfile("/dev/null"))
 
     def test_interrupts(self):
-        """At any moment the status is 130 and nothing is printed; outputs are whole or missing."""
-        began = time.monotonic()
-        subprocess.run([TOOL, "convert", "done", "many.xsb"], check=True, stderr=subprocess.PIPE)
-        whole, files = time.monotonic() - began, set(os.listdir("."))
-        for part in range(8):
-            tool = subprocess.Popen([TOOL, "convert", "done", "many.xsb"], stderr=subprocess.PIPE)
-            time.sleep(whole * part / 8)
-            tool.send_signal(signal.SIGINT)
+        """Once Python has started, the status is 130 at any moment and nothing is printed; outputs
+        are whole or missing."""
+        whole, files = 0.0, set()
+        started = [sys.executable, "-c", STARTED, TOOL, "convert", "done", "many.xsb"]
+        for part in range(9):
+            tool = subprocess.Popen(started, stdout=subprocess.PIPE, stderr=subprocess.PIPE)
+            assert tool.stdout
+            tool.stdout.readline()
+            began = time.monotonic()
+            if part:
+                time.sleep(whole * (part - 1) / 8)
+                tool.send_signal(signal.SIGINT)
             said = tool.communicate()[1].decode()
+            if not part:
+                whole, files = time.monotonic() - began, set(os.listdir("."))
             if tool.returncode:
-                # In the first milliseconds the signal ends env.
-                self.assertIn(tool.returncode, (130, -signal.SIGINT))
+                self.assertEqual(tool.returncode, 130)
                 # The last one may come when everything is written and reported.
                 self.assertIn(said, ("", "convert: 3000 levels, 0 solutions, 0 left out\n"))
             self.assertEqual(set(os.listdir(".")), files)

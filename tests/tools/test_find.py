@@ -233,7 +233,7 @@ class Signs(Case):
         self.find("levels", "--seconds", "1.5", stdout=subprocess.DEVNULL, stderr=theirs).wait(20)
         os.close(theirs)
         said = os.read(ours, 65536).decode()
-        self.assertIn("\r\x1b[Kfind: level 1 for 1 s (0 of 1 done)", said)
+        self.assertIn(" \rfind: level 1 for 1 s (0 of 1 done)", said)
         self.assertTrue(said.rstrip().endswith(total(1, stopped=1)), said)
 
     def test_searches_end_with_their_parent(self):

@@ -1,13 +1,12 @@
 """Finds the program sokoaudit and runs it, or the reference in Python if there is nothing else."""
 import contextlib
 import os
-import resource
 import shutil
 import subprocess
 import sys
 from typing import List, NamedTuple, Optional
 
-from . import texts
+from . import system, texts
 
 REFERENCE_NOTE = "checked by the reference in Python, not by the proved program"
 _HERE = os.path.dirname(os.path.realpath(__file__))
@@ -40,15 +39,11 @@ class Auditor(NamedTuple):
 
     def run(self, *words: str, limits: Optional[Limits] = None) -> Ran:
         """Runs the program. If the run exceeds a limit, its fault names the limit."""
-        def bound() -> None:
-            if limits:
-                most = limits.megabytes * 1_000_000
-                resource.setrlimit(resource.RLIMIT_AS, (most, most))
-
         command = [sys.executable, "-B", self.path] if self.is_reference else [self.path]
         try:
             ran = subprocess.run([*command, *words], stdin=subprocess.DEVNULL, check=False,
-                                 stdout=subprocess.PIPE, stderr=subprocess.PIPE, preexec_fn=bound,
+                                 stdout=subprocess.PIPE, stderr=subprocess.PIPE,
+                                 preexec_fn=limits and system.memory_limit(limits.megabytes),
                                  timeout=limits and limits.seconds)
         except subprocess.TimeoutExpired as late:
             return Ran(2, b"", f"stopped after {late.timeout:g} s")
@@ -75,12 +70,13 @@ class Auditor(NamedTuple):
 
 
 def find() -> Auditor:
-    """Finds the program: the one that SOKOAUDIT names, that of this checkout or installation, one
-    on the PATH, or the reference. The script 'sokoaudit' doesn't count: it may build first, or run
-    the reference."""
+    """Finds the program: the one that SOKOAUDIT names, that of this checkout, one beside sokotool,
+    that of this installation, one on the PATH, or the reference. The script 'sokoaudit' doesn't
+    count: it may build first, or run the reference."""
     named = os.environ.get("SOKOAUDIT")
     paths: List[Optional[str]] = [named] if named and not _is_script(named) else [
         os.path.join(_TOP, "crates", "sokoaudit", "out", "sokoaudit"),
+        os.path.join(_TOP, "sokoaudit" + system.PROGRAM),
         os.path.join(_TOP, "..", "bin", "sokoaudit"),
         shutil.which("sokoaudit"),
         *_REFERENCES]

@@ -59,10 +59,22 @@ def own(name: str, ends: Sequence[str]) -> Callable[[str], bool]:
 
 def published(names: Sequence[str]) -> Dict[str, str]:
     """Returns the names of files from their common folder on, so that they don't tell where they
-    are on this machine."""
+    are on this machine. On several drives each has a common folder, and its letter comes first."""
     paths = {name: os.path.abspath(name) for name in names if name != "-"}
-    folder = os.path.commonpath([os.path.dirname(path) for path in paths.values()] or ["/"])
-    return {"-": "-", **{name: os.path.relpath(path, folder) for name, path in paths.items()}}
+    drives: Dict[str, List[str]] = {}
+    for path in paths.values():
+        drives.setdefault(_drive(path), []).append(os.path.dirname(path))
+    found = {"-": "-"}
+    for name, path in paths.items():
+        drive = _drive(path)
+        inner = os.path.relpath(path, os.path.commonpath(drives[drive])).replace(os.sep, "/")
+        found[name] = inner if len(drives) == 1 else f"{drive}/{inner}"
+    return found
+
+
+def _drive(path: str) -> str:
+    """Returns the drive of a path as a part of a name: "" where there are no drives."""
+    return os.path.splitdrive(path)[0].lower().replace(os.sep, "/").strip(":/")
 
 
 def _of(name: str, seen: Set[Tuple[int, int]], is_own: Callable[[str], bool]) -> Iterator[Export]:
@@ -129,7 +141,7 @@ def _in_file(path: str) -> Iterator[Export]:
 
 def _packed(path: str, member: zipfile.ZipInfo) -> Export:
     """Returns an export in an archive."""
-    name = os.path.join(path, member.filename)
+    name = f"{path}/{member.filename}"
 
     def read() -> bytes:
         try:

@@ -1,13 +1,11 @@
 """Runs searches for certificates, each in a process of its own: several at once, within a time
 limit. A search that dies loses only its own level."""
-import multiprocessing
 import multiprocessing.connection
-import os
 import signal
 import time
 from typing import Any, Callable, Dict, Iterator, List, NamedTuple, Optional, Sequence
 
-from . import answers
+from . import answers, system
 from .levels import Level
 from .search.budget import Budget
 from .search.refute import LATE, SOLVABLE, Outcome, outcome
@@ -16,8 +14,6 @@ MEMORY = "memory"
 # the seconds after its time limit in which a search may still shorten and write its list
 GRACE = 0.5
 _BEAT = 0.2
-# A search starts as a copy of this process; a new Python would read the command line once more.
-_FORK = multiprocessing.get_context("fork")
 
 
 class Result(NamedTuple):
@@ -82,9 +78,9 @@ class Searches:
             if left <= 0:
                 break
             seconds = min(self.seconds, left)
-            ours, theirs = _FORK.Pipe(duplex=False)
-            words = (self.levels[self._started], seconds, theirs, os.getpid())
-            process = _FORK.Process(target=_search, args=words, daemon=True)
+            ours, theirs = system.PROCESSES.Pipe(duplex=False)
+            words = (self.levels[self._started], seconds, theirs)
+            process = system.PROCESSES.Process(target=_search, args=words, daemon=True)
             process.start()
             theirs.close()
             self.running[self._started] = _Running(self._started, process, ours, time.monotonic(),
@@ -132,20 +128,14 @@ def _record(number: int, found: Outcome) -> bytes:
     return answers.solution(number, found.letters) if found.what == SOLVABLE else b""
 
 
-def _search(level: Level, seconds: float, pipe: Any, parent: int) -> None:
-    """Searches a level and sends the outcome. Ends early if its parent is gone."""
-    def look(*_: Any) -> None:
-        if os.getppid() != parent:
-            os._exit(1)
-
+def _search(level: Level, seconds: float, pipe: Any) -> None:
+    """Searches a level and sends the outcome."""
     signal.signal(signal.SIGINT, signal.SIG_IGN)
-    signal.signal(signal.SIGALRM, look)
-    signal.setitimer(signal.ITIMER_REAL, 1, 1)
+    system.end_with_parent()
     try:
         found = outcome(level, seconds)
         what, record = found.what, _record(level.number, found)
     except MemoryError:
         what, record = MEMORY, b""
-    signal.setitimer(signal.ITIMER_REAL, 0)
     pipe.send((what, record))
     pipe.close()

@@ -1,24 +1,20 @@
-"""Runs a solver on levels, several at once. Each run has a process group of its own, which is ended
-whole, a limit of time, and a limit of output.
+"""Runs a solver on levels, several at once. Each run has a group of processes, which is ended whole
+where the system can, a limit of time, and a limit of output.
 
 A solver gets the level in XSB on standard input, and as a file where its command has `{}`. The
 letters of a solution may be anywhere in what it prints, and in files that it leaves in the folder
 of the level's file: the first ones that a replay accepts are the answer.
 """
 import contextlib
-import ctypes
 import os
 import re
-import selectors
-import shlex
 import shutil
-import signal
 import subprocess
 import tempfile
 import time
 from typing import Callable, Dict, Iterator, List, NamedTuple, Optional, Sequence, Set, Tuple
 
-from . import answers, game, texts
+from . import answers, game, system, texts
 from .formats import coding, letters, written
 from .levels import Level
 from .search.budget import Budget
@@ -33,14 +29,9 @@ MOST_PRINTED = 250_000_000
 GRACE = 1.0
 # how many texts of letters are replayed, and how many letters in all
 MOST_TRIED, MOST_LETTERS = 10_000, 4_000_000
-_BEAT = 0.1
-_BLOCK = 1 << 16
+_BEAT = 0.02
 _MOST_FILES = 10
 _COLOURS = re.compile(rb"\x1b\[[0-9;]*[A-Za-z]")
-# whether a process has ended, without taking it off the system's list: its number stays its own
-_LOOK = os.WEXITED | os.WNOHANG | os.WNOWAIT
-_LIBC = ctypes.CDLL(None)
-_PR_SET_PDEATHSIG = 1
 
 
 class Result(NamedTuple):
@@ -66,7 +57,7 @@ class Limits(NamedTuple):
 def words_of(command: str) -> List[str]:
     """Returns the words of a command, or refuses it."""
     try:
-        words = shlex.split(command)
+        words = system.words_of(command)
     except ValueError as error:
         raise texts.Stop(f"--solver {texts.shown(command)}: {error}") from None
     if not words:
@@ -76,113 +67,78 @@ def words_of(command: str) -> List[str]:
     return words
 
 
-class Output:
-    """What a solver has printed: the beginning and the end of it."""
-
-    def __init__(self) -> None:
-        self.count = 0
-        self._first, self._last = bytearray(), bytearray()
-
-    def add(self, data: bytes) -> None:
-        """Adds bytes."""
-        self.count += len(data)
-        room = KEPT - len(self._first)
-        self._first += data[:room]
-        self._last += data[room:]
-        if len(self._last) > 2 * KEPT:
-            del self._last[:-KEPT]
-
-    def texts(self) -> List[bytes]:
-        """Returns what is kept, in one part or two."""
-        if self.count <= len(self._first) + len(self._last):
-            return [bytes(self._first + self._last)]
-        return [bytes(self._first), bytes(self._last[-KEPT:])]
-
-
 class Run:
-    """A run of a solver on a level."""
+    """A run of a solver on a level. What it prints goes to a file."""
 
     def __init__(self, words: Sequence[str], level: Level, seconds: float) -> None:
         self.level, self.seconds = level, seconds
-        self.output, self.fault = Output(), ""
+        self.fault = ""
         self.what = NOTHING
-        self.ended: Optional[float] = None  # when SIGTERM was sent
+        self.ended: Optional[float] = None  # when it was asked to end
+        self.output = tempfile.TemporaryFile()
         self.folder = tempfile.TemporaryDirectory(prefix="sokotool-")
         self.file = os.path.join(self.folder.name, "level.xsb")
         with open(self.file, "wb") as file:
             file.write("".join(written.plain(row) + "\n" for row in level.rows).encode())
         self.began = time.monotonic()
-        self.process = self._started([word.replace(PLACE, self.file) for word in words])
+        self.group = self._started([word.replace(PLACE, self.file) for word in words])
 
-    def _started(self, words: Sequence[str]) -> "Optional[subprocess.Popen[bytes]]":
+    def _started(self, words: Sequence[str]) -> Optional[system.Group]:
         try:
             with open(self.file, "rb") as given:
-                process = subprocess.Popen(
-                    words, stdin=given, stdout=subprocess.PIPE, stderr=subprocess.STDOUT,
-                    start_new_session=True, preexec_fn=_die_with_parent)
+                return system.Group(words, stdin=given, stdout=self.output,
+                                    stderr=subprocess.STDOUT)
         except (OSError, ValueError) as error:
             self.what, self.fault = FAILED, f"cannot be run: {error}"
             return None
-        assert process.stdout
-        os.set_blocking(process.stdout.fileno(), False)
-        return process
-
-    def read(self) -> bool:
-        """Reads what is there. Returns whether there may be more."""
-        assert self.process and self.process.stdout
-        try:
-            data = os.read(self.process.stdout.fileno(), _BLOCK)
-        except BlockingIOError:
-            return True
-        except OSError:
-            return False
-        self.output.add(data)
-        return bool(data)
 
     def is_over(self) -> bool:
         """Returns whether the run is over, after it has been ended if it is too long."""
-        if self.process is None or os.waitid(os.P_PID, self.process.pid, _LOOK):
+        if self.group is None or self.group.has_ended():
             return True
         now = time.monotonic()
         if self.ended is None:
             if now - self.began > self.seconds:
                 self._end(LATE)
-            elif self.output.count > MOST_PRINTED:
+            elif self._length() > MOST_PRINTED:
                 self._end(LONG)
         return self.ended is not None and now - self.ended > GRACE
 
+    def _length(self) -> int:
+        return os.fstat(self.output.fileno()).st_size
+
     def _end(self, what: str) -> None:
         self.what, self.ended = what, time.monotonic()
-        self.signal(signal.SIGTERM)
-
-    def signal(self, number: int) -> None:
-        """Sends a signal to all processes of the run that are in its group."""
-        if self.process is not None:
-            with contextlib.suppress(OSError):
-                os.killpg(self.process.pid, number)
+        if self.group:
+            self.group.terminate()
 
     def close(self) -> None:
-        """Ends what is left of the run, and removes its files."""
-        self.signal(signal.SIGKILL)
-        if self.process is not None:
-            self.process.wait()
-            assert self.process.stdout
-            for _ in range(KEPT // _BLOCK):
-                before = self.output.count
-                if not self.read() or self.output.count == before:
-                    break
-            self.process.stdout.close()
+        """Ends what is left of the run."""
+        if self.group:
+            self.group.kill()
+
+    def _printed(self) -> List[bytes]:
+        """Returns what the solver printed, or the beginning and the end of it."""
+        self.output.seek(0)
+        first = self.output.read(KEPT)
+        length = self._length()
+        if length <= 2 * KEPT:
+            return [first + self.output.read(KEPT)]
+        self.output.seek(length - KEPT)
+        return [first, self.output.read(KEPT)]
 
     def result(self) -> Result:
-        """Returns the outcome of a run that is closed."""
-        found, said = solution_in(self.level, [*self.output.texts(), *self._written()])
+        """Returns the outcome of a run that is closed, and removes its files."""
+        printed = self._printed()
+        found, said = solution_in(self.level, [*printed, *self._written()])
+        self.output.close()
         with contextlib.suppress(OSError, RecursionError):
             self.folder.cleanup()
-        said = [line for text in self.output.texts() for line in _lines(text)] + said
+        said = [line for text in printed for line in _lines(text)] + said
         if self.fault:
             said.append(self.fault)
-        elif self.process and self.process.returncode and self.ended is None:
-            said.append(_status(self.process.returncode))
+        elif self.group and self.group.process.returncode and self.ended is None:
+            said.append(_status(self.group.process.returncode))
         if found is None:
             return Result(self.level, self.what, b"", self.seconds, said)
         record = answers.solution(self.level.number, found)
@@ -196,10 +152,6 @@ class Run:
                 if path != self.file and os.path.isfile(path) and not os.path.islink(path):
                     with open(path, "rb") as file:
                         yield file.read(2 * KEPT)
-
-
-def _die_with_parent() -> None:
-    _LIBC.prctl(_PR_SET_PDEATHSIG, signal.SIGKILL)
 
 
 def _status(code: int) -> str:
@@ -260,7 +212,6 @@ class Solvers:
         self.words, self.limits = words_of(limits.command), limits
         self.waiting, self.rest = list(levels), []  # type: List[Level], List[Result]
         self._running: Dict[int, Run] = {}
-        self._selector = selectors.DefaultSelector()
 
     def results(self, watch: Callable[[], None] = lambda: None) -> Iterator[Result]:
         """Yields the result of each run. While it waits, it calls `watch` several times a second.
@@ -268,9 +219,7 @@ class Solvers:
         try:
             while self._start():
                 watch()
-                for key, _ in self._selector.select(_BEAT):
-                    if not key.data.read():
-                        self._selector.unregister(key.fileobj)
+                time.sleep(_BEAT)
                 for number, run in list(self._running.items()):
                     if run.is_over():
                         yield self._ended(number, run)
@@ -278,7 +227,6 @@ class Solvers:
             for number, run in list(self._running.items()):
                 run.what, run.seconds = LATE, min(run.seconds, time.monotonic() - run.began)
                 self.rest.append(self._ended(number, run))
-            self._selector.close()
 
     def at_work(self) -> str:
         """Returns the levels at work, with their seconds."""
@@ -294,14 +242,9 @@ class Solvers:
             seconds = min(self.limits.seconds, self.limits.budget.seconds_left())
             run = Run(self.words, self.waiting.pop(0), seconds)
             self._running[run.level.number] = run
-            if run.process and run.process.stdout:
-                self._selector.register(run.process.stdout, selectors.EVENT_READ, run)
         return bool(self._running)
 
     def _ended(self, number: int, run: Run) -> Result:
-        stdout = run.process and run.process.stdout
-        if stdout and stdout in self._selector.get_map():
-            self._selector.unregister(stdout)
         run.close()
         del self._running[number]
         return run.result()

@@ -18,7 +18,7 @@ import re
 from typing import Any, Callable, List, NamedTuple, Optional, Tuple
 
 from .. import (answers, auditor, blocks, boards, by_hand, changes, exports, kept, levels, memory,
-                own_files, report, solvers, summary, taking, texts)
+                own_files, report, solvers, summary, system, taking, texts)
 from ..audits import Audits
 from ..collection import MOVES, PUSHES, Collection
 from ..own_files import ANSWERS, KEPT_ANSWERS, KEPT_XSB, MEMORY, PAGE, REPORT, XSB, noted
@@ -50,7 +50,7 @@ def arguments(parser: argparse.ArgumentParser) -> None:
     parser.add_argument("--search", metavar="S", type=float, default=BUDGET,
                         help=f"search for S seconds in all (default {BUDGET})")
     parser.add_argument("--jobs", metavar="N", type=above_zero(int),
-                        default=len(os.sched_getaffinity(0)),
+                        default=system.processors(),
                         help="search N levels at once (default one for each processor)")
     convert.encoding_argument(parser)
     parser.add_argument("--solver", metavar="COMMAND",

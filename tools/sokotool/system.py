@@ -1,0 +1,165 @@
+"""What the system does for a process: limits, groups of processes, command lines. What a system
+lacks, as Windows and macOS do, is asked here alone."""
+import contextlib
+import ctypes
+import multiprocessing
+import multiprocessing.connection
+import os
+import shlex
+import signal
+import subprocess
+import sys
+import threading
+from typing import Any, Callable, List, Optional, Sequence
+
+try:
+    import resource
+except ImportError:
+    resource = None  # type: ignore[assignment]
+
+IS_WINDOWS = os.sep == "\\"
+# the end of a program's name
+PROGRAM = ".exe" if IS_WINDOWS else ""
+# A search starts as a copy of this process where there are copies: a new Python takes longer.
+PROCESSES: Any = multiprocessing.get_context("fork" if hasattr(os, "fork") else "spawn")
+_HAS_GROUPS = hasattr(os, "killpg")
+_KILL = getattr(signal, "SIGKILL", signal.SIGTERM)
+# whether a process has ended, without taking it off the system's list: its number stays its own
+_LOOK = os.WEXITED | os.WNOHANG | os.WNOWAIT if hasattr(os, "waitid") else 0
+_PR_SET_PDEATHSIG = 1
+
+
+def processors() -> int:
+    """Returns how many processors this process may use."""
+    if hasattr(os, "sched_getaffinity"):
+        return len(os.sched_getaffinity(0))
+    return os.cpu_count() or 1
+
+
+def takes_status_lines(stream: Any) -> bool:
+    """Returns whether a stream is a terminal that goes back to the start of a line."""
+    return stream.isatty() and os.environ.get("TERM") != "dumb"
+
+
+def words_of(command: str) -> List[str]:
+    """Returns the words of a command line, or raises ValueError. A backslash quotes the character
+    after it, unless it separates the names of folders."""
+    lexer = shlex.shlex(command, posix=True, punctuation_chars=False)
+    lexer.whitespace_split, lexer.commenters = True, ""
+    if IS_WINDOWS:
+        lexer.escape = ""
+    return list(lexer)
+
+
+def memory_limit(megabytes: int) -> Optional[Callable[[], None]]:
+    """Returns what a new process calls to limit its memory, or None where there is no such limit.
+    """
+    def bound() -> None:
+        # macOS has the limit and may refuse to set it.
+        with contextlib.suppress(ValueError, OSError):
+            resource.setrlimit(resource.RLIMIT_AS, (megabytes * 1_000_000,) * 2)
+    return bound if resource else None
+
+
+def end_with_parent() -> None:
+    """Ends this process, which multiprocessing started, once its parent is gone."""
+    parent = multiprocessing.parent_process()
+
+    def watch() -> None:
+        multiprocessing.connection.wait([parent.sentinel])  # type: ignore[union-attr]
+        os._exit(1)
+    threading.Thread(target=watch, daemon=True).start()
+
+
+class Group:
+    """A command that runs, with all processes that it starts. `is_whole` tells whether the system
+    can end those too."""
+
+    def __init__(self, words: Sequence[str], **streams: Any) -> None:
+        if _HAS_GROUPS:
+            streams.update(start_new_session=True, preexec_fn=_die_with_parent)
+        else:
+            # An interrupt of the console is for this process alone.
+            streams.update(creationflags=getattr(subprocess, "CREATE_NEW_PROCESS_GROUP", 0))
+        self.process = subprocess.Popen(words, **streams)
+        self._job = _job_of(self.process.pid)
+        self.is_whole = _HAS_GROUPS or self._job is not None
+
+    def has_ended(self) -> bool:
+        """Returns whether the command itself has ended."""
+        if _LOOK:
+            return os.waitid(os.P_PID, self.process.pid, _LOOK) is not None
+        return self.process.poll() is not None
+
+    def terminate(self) -> None:
+        """Asks all processes to end, where the system can ask."""
+        self._end(signal.SIGTERM)
+
+    def kill(self) -> None:
+        """Ends all processes, and waits for the command."""
+        self._end(_KILL)
+        self.process.wait()
+        if self._job:
+            self._job.close()
+
+    def _end(self, number: int) -> None:
+        with contextlib.suppress(OSError):
+            if _HAS_GROUPS:
+                os.killpg(self.process.pid, number)
+            elif self._job:
+                self._job.end()
+            else:
+                self.process.kill()
+
+
+def _prctl() -> Any:
+    """Returns Linux's function for settings of a process, or None."""
+    try:
+        return ctypes.CDLL(None).prctl
+    except (AttributeError, OSError, TypeError):
+        return None
+
+
+_PRCTL = _prctl()
+
+
+def _die_with_parent() -> None:
+    if _PRCTL:
+        _PRCTL(_PR_SET_PDEATHSIG, signal.SIGKILL)
+
+
+# ---- Windows
+
+class _Job:
+    """A job of Windows: processes and all that they start. It ends them when this process ends."""
+
+    _SET_QUOTA_AND_TERMINATE = 0x0101
+    _EXTENDED_LIMITS = 9
+    _KILL_ON_CLOSE = 0x2000
+
+    def __init__(self, pid: int) -> None:
+        self._kernel = kernel = ctypes.WinDLL("kernel32")  # type: ignore[attr-defined]
+        kernel.CreateJobObjectW.restype = kernel.OpenProcess.restype = ctypes.c_void_p
+        self._job = ctypes.c_void_p(kernel.CreateJobObjectW(None, None))
+        process = ctypes.c_void_p(kernel.OpenProcess(self._SET_QUOTA_AND_TERMINATE, False, pid))
+        # JOBOBJECT_EXTENDED_LIMIT_INFORMATION: its flags come after two numbers of 64 bits.
+        limits = (ctypes.c_uint32 * (36 if sys.maxsize > 1 << 32 else 28))()
+        limits[4] = self._KILL_ON_CLOSE
+        is_set = kernel.SetInformationJobObject(self._job, self._EXTENDED_LIMITS,
+                                                ctypes.byref(limits), ctypes.sizeof(limits))
+        self.has_process = bool(is_set and kernel.AssignProcessToJobObject(self._job, process))
+        kernel.CloseHandle(process)
+
+    def end(self) -> None:
+        """Ends all processes of the job."""
+        self._kernel.TerminateJobObject(self._job, 1)
+
+    def close(self) -> None:
+        """Ends all processes of the job, and removes it."""
+        self._kernel.CloseHandle(self._job)
+
+
+def _job_of(pid: int) -> Optional[_Job]:
+    """Returns a new job with a process in it, or None where there is none."""
+    job = _Job(pid) if hasattr(ctypes, "WinDLL") else None
+    return job if job and job.has_process else None
