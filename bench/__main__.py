@@ -3,15 +3,15 @@ PROGRAM it builds the program of these sources if they changed. The library for 
 of these sources.
 
 With OTHER both programs run each case at about a hundredth of its size, and have to print the same.
-Of PROGRAM the slowest known inputs are timed, by their ratios to plain ones. Then the last line is
+Of PROGRAM the slowest known inputs are timed, by their ratios to a plain run. Then the last line is
 'N passed, M failed'."""
 import os
 import resource
 import sys
-from typing import Iterator, Tuple
+from typing import Iterator
 
 from bench.measured import Case, Size, cases
-from bench.worst import Worst, worst
+from bench.worst import Timed, plain, worst
 from tests.runner import TOP, Cases, call, enter_folder, read, run, run_apart, write
 from tests.tables.rows import text
 
@@ -38,14 +38,16 @@ def measure() -> None:
         if said.splitlines()[-1] not in ("status 0", "status 1"):
             sys.exit(said)
         print(read("out").splitlines()[-1], said.rpartition("status")[0].strip(), sep="\n")
+    unit = seconds(plain())
+    print(f"{plain().name}: {unit:.3f} s")
     for it in worst():
-        times = seconds(it, it.slow), seconds(it, it.plain)
-        print(it.name, "%.3f s for all; a plain input of this size: %.3f s" % times, sep="\n")
+        used = seconds(it)
+        print(f"{it.name}: {used:.3f} s, {used / unit:.1f} of these, up to {it.most}")
 
 
-def seconds(it: Worst, texts: Tuple[str, str]) -> float:
-    """The least processor time that a run on these texts takes, of three."""
-    for file, line in zip(("levels", "answers"), texts):
+def seconds(it: Timed) -> float:
+    """The least processor time that a run takes, of three."""
+    for file, line in (("levels", it.levels), ("answers", it.answers)):
         write(file, text(line))
     times = [_used()]
     for _ in range(3):
@@ -60,17 +62,16 @@ def _used() -> float:
     return used.ru_utime + used.ru_stime
 
 
-def ratios(compared: Cases) -> None:
-    """A case for each slow input: it may take `most` times as long as a plain one. The machine
+def limits(compared: Cases) -> None:
+    """A case for each slow input: it may take `most` times as long as the plain run. The machine
     may be busy, so the best of some tries counts."""
     for it in worst():
         for _ in range(TRIES):
-            slow, plain = seconds(it, it.slow), seconds(it, it.plain)
-            if slow <= it.most * plain:
+            used = seconds(it) / seconds(plain())
+            if used <= it.most:
                 break
-        said = f"{slow:.3f} s, {slow / plain:.1f} times as long as a plain input"
-        compared.say(f"{it.name}: {said}")
-        compared.holds(f"{it.name}: up to {it.most} times as long", slow <= it.most * plain, said)
+        compared.say(f"{it.name}: {used:.1f} times as long as {plain().name}")
+        compared.holds(f"{it.name}: up to {it.most} times as long", used <= it.most, f"{used:.1f}")
 
 
 def compare(other: str) -> None:
@@ -80,7 +81,7 @@ def compare(other: str) -> None:
         wanted = run_apart(["bash", "-c", case.command.replace("./sokoaudit", other)])
         found = run_apart(["bash", "-c", f"{case.command} | tee out; exit ${{PIPESTATUS[0]}}"])
         compared.same(f"a hundredth of: {case.name}", "".join(wanted), "".join(found))
-    ratios(compared)
+    limits(compared)
     compared.finish()
 
 

@@ -1,7 +1,8 @@
-"""The slowest inputs that are known, each with a plain one of the same size. The ratio of their
-times shows a change that makes a slow one several times slower."""
-import itertools
-from typing import Iterator, List, NamedTuple, Tuple
+"""The slowest inputs that are known. Each has a limit in units of a plain run, the same for all, so
+a change that makes one of them several times slower is seen whatever else it slows down."""
+import random
+from itertools import islice
+from typing import Dict, Iterable, Iterator, List, NamedTuple, Tuple
 
 from tests.drawing import listed, walled
 
@@ -9,90 +10,262 @@ Cell = Tuple[int, int]  # a column and a row
 AUDIT, MAKE = "./sokoaudit audit levels answers", "./sokoaudit make levels"
 
 
-class Worst(NamedTuple):
-    """A slow input and a plain one, each its levels and answers. The slow one may take up to `most`
-    times as long, which is about five times what was measured."""
+class Timed(NamedTuple):
+    """A run on levels and answers. It may take `most` times as long as the plain run: some four
+    times what was measured."""
     name: str
     command: str
-    slow: Tuple[str, str]
-    plain: Tuple[str, str]
-    most: float
+    levels: str
+    answers: str = ""
+    most: float = 1
 
 
-def worst() -> Iterator[Worst]:
-    """The known kinds of slow inputs."""
-    yield corridor(side=255, lines=1500)
-    yield one_way(side=255, levels=10)
-    yield decoys(side=120, boxes=60, big=60, lines=1500)
-    yield decoys(side=120, boxes=60, big=60, lines=1500, ahead=True)
-    yield squares(side=255, levels=100)
+def plain() -> Timed:
+    """A run that is no search and looks up nothing: it reads 100 boards, and maps the last one."""
+    board = walled(255, 255, {(63, 64): "@", (64, 64): "$", (65, 64): "."})
+    return Timed("the map of the last of 100 boards", "./sokoaudit dead levels 100",
+                 f"{board}//" * 100)
 
 
-def spelled(cells: List[Cell]) -> str:
+def worst() -> Iterator[Timed]:
+    """The known kinds of slow inputs: lists, then levels for `make`."""
+    yield corridor(side=255, lines=1000, most=150)
+    yield corridor(side=255, lines=1000, most=3, has_trap=True)
+    yield decoys(side=120, boxes=60, big=60, lines=1500, most=6)
+    yield decoys(side=120, boxes=60, big=60, lines=1500, most=15, ahead=True)
+    yield one_for_all(side=255, lines=12000, most=20)
+    yield last_fails(side=60, lines=300, decoys=1000, most=5)
+    yield passage(side=255, big=100, lines=3000, boxes=150, most=60)
+    yield pairs(side=255, lines=2, most=200)
+    yield chambers(side=255, big=60, lines=1500, rooms=40, most=90)
+    yield one_way(side=255, levels=10, most=130)
+    yield squares(side=255, levels=100, most=10)
+    yield combs(side=127, most=160)
+    yield winding(side=127, most=75)
+    yield pockets(side=127, most=30)
+
+
+def spelled(cells: Iterable[Cell]) -> str:
     """Cells as an answers file has them."""
     return " ".join("%d,%d" % cell for cell in sorted(cells, key=lambda cell: cell[::-1]))
 
 
-def corridor(side: int, lines: int) -> Worst:
-    """One seed a line at the end of a corridor that winds through the whole board, and the same
-    list in an open hall."""
-    path: List[Cell] = []
-    for column in range(2, side, 2):
-        down = [(column, row) for row in range(2, side)]
-        path += down if column % 4 == 2 else down[::-1]
-        path.append((column + 1, path[-1][1]))
-    del path[-1]
-    half = len(path) // 2
-    things = {path[0]: "@", path[1]: ".", path[half]: "$"}
-    answers = listed(f"{spelled([path[half + it % half]])} @ {spelled(path[:1])}"
-                     for it in range(lines))
-    free = set(path)
-    winding = walled(side, side, things, lambda *cell: " " if cell in free else "#")
-    return Worst("one seed a line at the end of a winding corridor", AUDIT, (winding, answers),
-                 (winding, answers.replace(f"@ {spelled(path[:1])}", "@ *")), 800)
+def line(boxes: Iterable[Cell], *seeds: Cell) -> str:
+    """A pattern, with every cell as a seed if none is named."""
+    return f"{spelled(boxes)} @ {spelled(seeds) or '*'}"
 
 
-def one_way(side: int, levels: int) -> Worst:
-    """Boxes between two walls that can leave their cells in one way, and as many in the open."""
-    starts = [(x, y) for y in range(5, side * 45 // 100, 4) for x in range(4, side - 3, 4)]
-    goals = [(x, y) for y in range(side - 2, side // 2, -1) for x in range(2, side - 1)]
-    things = {(2, 2): "@", **dict.fromkeys(starts, "$"), **dict.fromkeys(goals[:len(starts)], ".")}
-    walls = {cell for x, y in starts for cell in ((x, y - 1), (x, y + 1), (x + 2, y), (x - 2, y))}
-    slow = walled(side, side, things, lambda *cell: "#" if cell in walls else " ")
-    return Worst("boxes that can leave their cells in one way", MAKE, (f"{slow}//" * levels, ""),
-                 (f"{walled(side, side, things)}//" * levels, ""), 300)
+def less_one(cells: List[Cell]) -> List[List[Cell]]:
+    """The cells without each of them in turn."""
+    return [[it for it in cells if it != out] for out in cells]
 
 
-def decoys(side: int, boxes: int, big: int, lines: int, ahead: bool = False) -> Worst:
-    """Patterns of many boxes, each of whose pushes a pattern of all boxes but the pushed one
-    covers, among lines of few boxes that match every state and cover none; and as many lines whose
-    boxes are elsewhere. With `ahead` the pattern that covers a push has the box where it goes."""
+def grid(columns: range, rows: range) -> List[Cell]:
+    """The cells in these columns and rows."""
+    return [(x, y) for y in rows for x in columns]
+
+
+class Hall:
+    """A hall with a box that can't be pushed, the plug, in a corner before a pocket of one cell.
+    Lines of the plug and other boxes with a seed in the pocket match many states, and cover none of
+    a player in the hall: decoys."""
     plug, pocket = (2, 2), (3, 2)
-    every = [(x, y) for y in range(9, side - 4, 4) for x in range(9, side - 4, 4)]
+
+    def __init__(self, side: int):
+        self.side = side
+        self.walls = {(4, 2), (3, 3)}
+
+    def level(self, boxes: Iterable[Cell], at: int = 4) -> str:
+        """The hall with these boxes, the player so far above the lowest row, and goals above."""
+        things = {(self.side - 1, self.side - at): "@", **dict.fromkeys(boxes, "$")}
+        free = (it for it in grid(range(3, self.side - 2), range(self.side - 6, 1, -1))
+                if it not in things and it not in self.walls)
+        goals = dict.fromkeys(islice(free, len(things) - 1), ".")
+        return walled(self.side, self.side, {**things, **goals, **dict.fromkeys(self.walls, "#")})
+
+    def decoys(self, boxes: List[Cell], lines: int) -> List[str]:
+        """Decoys of eight of these boxes, no line twice."""
+        rng = random.Random(1)
+        found: Dict[str, bool] = {}
+        while len(found) < lines:
+            found[line([*rng.sample(boxes, 8), self.plug], self.pocket)] = True
+        return [*found]
+
+
+def snake(side: int, step: int) -> List[Cell]:
+    """The cells of a corridor that winds through the whole board, in its order."""
+    path: List[Cell] = []
+    for place, column in enumerate(range(2, side, step)):
+        down = [(column, row) for row in range(2, side)]
+        path += down[::-1] if place % 2 else down
+        path += [(column + it, path[-1][1]) for it in range(1, step)]
+    return path[:1 - step]
+
+
+def corridor(side: int, lines: int, most: float, has_trap: bool = False) -> Timed:
+    """One seed a line at the end of a corridor that winds through the whole board. The trap is the
+    other end, where a line covers all states with a box there: each line has one."""
+    path = snake(side, 2)
+    half, last = len(path) // 2, path[-1]
+    things = {**dict.fromkeys(path, " "), path[0]: "@", path[half]: "$", last: "$",
+              **dict.fromkeys(path[1:3], ".")}
+    rest = [last] * has_trap
+    name = "one seed a line at the end of a winding corridor" + ", and a trap" * has_trap
+    return Timed(name, AUDIT, walled(side, side, things, lambda *cell: "#"), listed(
+        [*(line([path[half + it], *rest], path[0]) for it in range(lines)),
+         *(line([it]) for it in rest)]), most)
+
+
+def decoys(side: int, boxes: int, big: int, lines: int, most: float, ahead: bool = False) -> Timed:
+    """Patterns of many boxes, each of whose pushes a pattern of all boxes but the pushed one
+    covers, among decoys. With `ahead` the pattern that covers a push has the box where it goes."""
+    hall, every = Hall(side), grid(range(9, side - 4, 4), range(9, side - 4, 4))
     some, rest = every[:boxes], every[boxes:]
-    kept = [[it for it in some if it != out] for out in some]
+    kept = less_one(some)
     if ahead:
         kept = [[*it, to] for it, (x, y) in zip(kept, some)
                 for to in ((x, y - 1), (x - 1, y), (x + 1, y), (x, y + 1))]
-    heads = [some + [plug], *(some + [plug, it] for it in rest[:big]), *(it + [plug] for it in kept)]
-    few = itertools.islice(itertools.combinations(some, 8), 0, None, 997)
-    other = itertools.islice(itertools.combinations(rest, 8), 0, None, 997)
-    things = {(side - 1, side - 1): "@", **dict.fromkeys(some + [plug], "$"),
-              **{(x, side - 1): "." for x in range(2, boxes + 4)}}
-    things.update({(4, 2): "#", (3, 3): "#"})
-    texts = [listed([*(f"{spelled(it)} @ *" for it in heads),
-                     *(f"{spelled([*it, plug])} @ {spelled([pocket])}"
-                       for it in itertools.islice(kind, lines))]) for kind in (few, other)]
-    level = walled(side, side, things)
+    heads = [some, *([*some, it] for it in rest[:big]), *kept]
     name = "lines that match every state and cover none" + ", with the box ahead" * ahead
-    return Worst(name, AUDIT, (level, texts[0]), (level, texts[1]), 16 if ahead else 8)
+    return Timed(name, AUDIT, hall.level([*some, hall.plug]), listed(
+        [*(line([*it, hall.plug]) for it in heads), *hall.decoys(some, lines)]), most)
 
 
-def squares(side: int, levels: int) -> Worst:
-    """Levels with four boxes that hold each other, and with four boxes apart."""
+def one_for_all(side: int, lines: int, most: float) -> Timed:
+    """Lines of 12 boxes, all of which one line of two boxes in the last row covers."""
+    hall, every = Hall(side), grid(range(9, side - 9, 12), range(9, side - 9, 12))
+    both = [(2, side - 1), (side - 1, side - 1)]
+    rng = random.Random(1)
+    texts = [line([*rng.sample(every, 10), *both], (5, 5)) for _ in range(lines)]
+    return Timed("lines of 12 boxes that one line covers", AUDIT, hall.level(both),
+                 listed([*texts, line(both)]), most)
+
+
+def last_fails(side: int, lines: int, decoys: int, most: float) -> Timed:
+    """Lines of the same 43 boxes with seeds in a hall, and one with its seed in a side room, where
+    a push isn't covered, among decoys."""
+    hall = Hall(side)
+    some = grid(range(6, side - 8, 4), range(6, side - 10, 4))[:40]
+    hall.walls |= {(side - 9, side - 1), *((x, side - 2) for x in range(side - 9, side - 1))}
+    fixed = [hall.plug, (side - 1, side - 1), (side - 5, side - 1)]
+    texts = [line(some + fixed, (4 + it % 3, side - 4)) for it in range(lines)]
+    texts.append(line(some + fixed, (side - 3, side - 1)))
+    texts += [line(it + fixed) for it in less_one(some)]
+    return Timed("lines of the same boxes, of which the last isn't covered", AUDIT,
+                 hall.level(some + fixed), listed(texts + hall.decoys(some, decoys)), most)
+
+
+def passage(side: int, big: int, lines: int, boxes: int, most: float) -> Timed:
+    """Decoys, and patterns with many boxes in a passage between the player and the first cell."""
+    hall, low = Hall(side), side - 1
+    hall.walls |= {(x, low - 1) for x in range(4, side)}
+    some = [(x, side - 20) for x in range(8, side - 12, 4)][:40]
+    full = [*some, hall.plug, *((x, low) for x in range(side - 2 - boxes, side - 2))]
+    free = grid(range(4, side - 4, 2), range(6, side - 40))
+    texts = [line([*some, hall.plug]),
+             *(line([*full, it], (4, side - 30)) for it in free[:big]),
+             *(line([*it, hall.plug]) for it in less_one(some))]
+    level = hall.level(full, 1)
+    return Timed("many boxes in a passage", AUDIT, level,
+                 listed(texts + hall.decoys(some, lines)), most)
+
+
+def pairs(side: int, lines: int, most: float) -> Timed:
+    """Patterns of 42,000 boxes that hold each other in pairs."""
+    boxes = [(x, y) for x, y in grid(range(3, side - 2), range(3, side - 2)) if x % 3 < 2]
+    things = {**dict.fromkeys(boxes, "*"), (2, 2): "$", (side - 1, side - 1): ".", (4, 2): "@"}
+    return Timed("patterns of 42,000 boxes", AUDIT, walled(side, side, things), listed(
+        [line([(2, 2)], (2, 3))] + [line([(2, 2), *boxes], (2, 3))] * lines), most)
+
+
+def chambers(side: int, big: int, lines: int, rooms: int, most: float) -> Timed:
+    """Decoys, and patterns with boxes in the doors of many rooms."""
+    hall, corners = Hall(side), grid(range(11, side - 20, 12), range(11, side - 20, 10))[:rooms]
+    doors, inner = [(x + 3, y) for x, y in corners], [(x + 3, y + 3) for x, y in corners]
+    for x, y in corners:
+        hall.walls |= {*grid(range(x, x + 7), range(y, y + 7)), (x + 2, y - 1), (x + 4, y - 1)}
+        hall.walls -= {(x + 3, y), *grid(range(x + 1, x + 6), range(y + 1, y + 6))}
+    seeds = [(x, y + 1) for x, y in doors] + [(side - 2, side - 3)]
+    heads = [doors + inner, *(doors + inner + [it] for it in
+                              grid(range(4, side - 3), range(180, side - 12))[:big]),
+             *(doors + it for it in less_one(inner)), *(it + inner for it in less_one(doors))]
+    return Timed("boxes in the doors of many rooms", AUDIT, hall.level([*doors, *inner, hall.plug]),
+                 listed([*(line([*it, hall.plug], *seeds) for it in heads),
+                         *hall.decoys(doors + inner, lines)]), most)
+
+
+def one_way(side: int, levels: int, most: float) -> Timed:
+    """Boxes between two walls that can leave their cells in one way."""
+    starts = grid(range(4, side - 3, 4), range(5, side * 45 // 100, 4))
+    goals = grid(range(2, side - 1), range(side - 2, side // 2, -1))
+    things = {(2, 2): "@", **dict.fromkeys(starts, "$"), **dict.fromkeys(goals[:len(starts)], ".")}
+    walls = {cell for x, y in starts for cell in ((x, y - 1), (x, y + 1), (x + 2, y), (x - 2, y))}
+    level = walled(side, side, things, lambda *cell: "#" if cell in walls else " ")
+    return Timed("boxes that can leave their cells in one way", MAKE, f"{level}//" * levels,
+                 most=most)
+
+
+def squares(side: int, levels: int, most: float) -> Timed:
+    """Levels with four boxes that hold each other."""
     middle, goals = side // 2, {(it, side - 2): "." for it in (5, 7, 9, 11)}
-    texts = []
-    for gap in (1, 20):
-        boxes = {(middle + x * gap, middle + y * gap): "$" for x in (0, 1) for y in (0, 1)}
-        texts.append(f"{walled(side, side, {(2, 2): '@', **goals, **boxes})}//" * levels)
-    return Worst("four boxes that hold each other", MAKE, (texts[0], ""), (texts[1], ""), 6)
+    boxes = grid(range(middle, middle + 2), range(middle, middle + 2))
+    level = walled(side, side, {(2, 2): "@", **goals, **dict.fromkeys(boxes, "$")})
+    return Timed("four boxes that hold each other", MAKE, f"{level}//" * levels, most=most)
+
+
+def combs(side: int, most: float) -> Timed:
+    """Two halls in the form of combs, whose teeth alternate in the upper part, with boxes between
+    the teeth. Boxes that fit both halls come first, and take the goals of those that don't."""
+    ys = range(3, side - 2, 2)
+    alternate = int(len(ys) * 0.56) // 2 * 2
+    at_right = [place < alternate and place % 2 == 1 for place in range(len(ys))]
+    things = dict.fromkeys(grid(range(2, 4), range(2, ys[-1] + 2)), " ")
+    things.update(dict.fromkeys(grid(range(side - 2, side), range(4, ys[alternate])), " "))
+    places: List[List[Cell]] = [[], []]
+    boxes: List[List[Cell]] = [[], []]
+    for place, y in enumerate(ys):
+        teeth = range(5, side) if at_right[place] else range(2, side - 3)
+        things.update(dict.fromkeys(((x, y) for x in teeth), " "))
+        places[at_right[place]] += [(x, y) for x in range(7, side - 5)]
+        if y < ys[-1]:
+            fit_both = at_right[place] != at_right[place + 1]
+            boxes[fit_both] += [(x, y + 1) for x in range(6 + place % 2, side - 5, 2)]
+    goals = places[0][:len(boxes[1])] + places[1][-len(boxes[0]):]
+    things.update({**dict.fromkeys(boxes[0] + boxes[1], "$"), **dict.fromkeys(goals, "."),
+                   (2, 2): "@"})
+    return Timed("boxes between two combs", MAKE,
+                 walled(side, side, things, lambda *cell: "#"), most=most)
+
+
+def niches(side: int, step: int, places: range) -> Tuple[List[Tuple[int, int]], Dict[Cell, str]]:
+    """A winding corridor with pockets at its corners, and beside it boxes in niches."""
+    columns = range(3 if step == 4 else 4, side - step + 1, step)
+    things: Dict[Cell, str] = {}
+    for place, x in enumerate(columns):
+        things.update(dict.fromkeys(((x, y) for y in range(2, side)), " "))
+        if x + step in columns:
+            y = 3 if place % 2 else side - 2
+            things.update(dict.fromkeys(((it, y) for it in range(x - 1, x + step + 2)), " "))
+        for y in places:
+            things.update({(x + 1, y): "$", (x + 2, y): " "})
+    things[columns[0], 2] = "@"
+    return [(x, y) for x in columns for y in places], things
+
+
+def winding(side: int, most: float) -> Timed:
+    """Boxes that enter a winding corridor, with the goals at its end."""
+    found, things = niches(side, 4, range(6, side - 4, 2))
+    columns = sorted({x for x, _ in found}, reverse=True)
+    goals = [(x, y) for x in columns for y in range(side - 5, 6, -1)]
+    things.update(dict.fromkeys(goals[:len(found)], "."))
+    return Timed("boxes that enter a winding corridor", MAKE,
+                 walled(side, side, things, lambda *cell: "#"), most=most)
+
+
+def pockets(side: int, most: float) -> Timed:
+    """Boxes that enter a winding corridor, with each goal in a pocket beside it."""
+    found, things = niches(side, 5, range(6, side - 5, 3))
+    for x, y in found:
+        things.update({(x - 1, y + 1): ".", (x + 1, y + 1): " "})
+    return Timed("boxes that enter a corridor with goals beside it", MAKE,
+                 walled(side, side, things, lambda *cell: "#"), most=most)
