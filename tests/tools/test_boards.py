@@ -295,4 +295,5 @@ class Carry(Case):
         self.write("a", "sokoban-answers 1\nlevel 9\n")
         refused = self.tool("carry", "samples/first.xsb", "a", "samples/first.xsb")
         self.assertEqual((refused.status, refused.out, refused.err),
-                         (2, b"", "carry: a line 2: unknown\n"))
+                         (2, b"", "carry: a line 2: 'level 9': there is no such level, the highest "
+                          "is 5\n"))

@@ -10,7 +10,7 @@ import unittest.mock
 
 from sokotool import auditor, boards, levels, outcomes, searches
 from tests.tools import helping
-from tests.tools.ending import EndsEarly, Killed
+from tests.tools.ending import EndsEarly, Killed, Meanwhile
 from tests.tools.helping import ONE, SAMPLES, TOP, Case
 
 MAPS = "/usr/share/games/cavepacker/maps"
@@ -283,8 +283,9 @@ class Time(Check):
         self.assertEqual(kept.due(forms, "find", 10), forms)
         for form, what, seconds in zip(forms, ("late", "solvable", "full", "late"), (9, 1, 1, 10)):
             kept.keep(form, "find", what, seconds)
-        self.assertEqual(kept.due(forms, "find", 10), [*forms[4:], forms[0]])
-        self.assertEqual(kept.due(forms, "find", 11), [*forms[4:], forms[0], forms[3]])
+        # The answer that was found is lost.
+        self.assertEqual(kept.due(forms, "find", 10), [*forms[4:], forms[1], forms[0]])
+        self.assertEqual(kept.due(forms, "find", 11), [*forms[4:], forms[1], forms[0], forms[3]])
         self.assertEqual(kept.due(forms, "other", 1), forms)
         self.assertEqual(outcomes.Outcomes(kept.kept).of(forms[0], "find"), ("late", 9))
 
@@ -430,7 +431,7 @@ class Typed(Check):
         self.write("a.txt", CORNER)
         self.check("mine", "a.txt")
         files = {name: self.read(name) for name in os.listdir() if name.startswith("mine")}
-        for moment in range(1, 11):
+        for moment in range(1, 10):
             for name, data in files.items():
                 self.write(name, data)
             self.write("a.txt", "Another\n" + LONG)
@@ -442,11 +443,97 @@ class Typed(Check):
                 self.assertIn(self.check("mine", "a.txt").status, (0, 1))
                 self.assertEqual(self.report()[0], "level 1 solved moves 4 pushes 3 changes 1")
                 self.assertEqual(typed, b"typed" in self.read("mine.xsb"))
-            self.assertFalse([name for name in os.listdir() if name.startswith(".sokotool")
-                              and moment > 1 or "unfinished" in name])
+            self.assertFalse([name for name in os.listdir()
+                              if name.startswith(".sokotool") or "unfinished" in name])
             for name in os.listdir():
                 if name.startswith(("mine", ".sokotool")):
                     os.remove(name)
+
+
+class Beside(Check):
+    """What is typed while a check runs, and other checks beside it."""
+
+    def typed(self, name, text):
+        """Returns a function that types a text at the end of a file."""
+        return lambda: self.write(name, self.read(name) + text.encode())
+
+    def test_typed_during_the_search(self):
+        """A comment and a solution that were typed then, and what the search found."""
+        self.write("a.txt", CORNER + "\n" + LONG.replace("Solution", "No solution"))
+        record = "; by me\nlevel 1\nsolution\nRurD\nend\n; a note\n"
+        with Meanwhile("search", 1, self.typed("mine.answers", record)):
+            result = self.tool("check", "mine", "a.txt", "--best", "pushes")
+        self.assertEqual(result.err.splitlines()[-1], "check: mine.answers was changed by somebody "
+                         "else: reading again")
+        self.assertEqual(self.report()[-1], "total 2 solved 2 unsolvable 0 refused 0 missing 0")
+        self.assertIn(record[:-9].encode(), self.read("mine.answers"))
+        self.assertIn(b"\n; a note\n", self.read("mine.answers"))
+        again = self.tool("check", "mine", "a.txt", "--best", "pushes")
+        self.assertEqual((again.status, again.err), (0, ""))
+
+    def test_typed_while_it_reads_and_audits(self):
+        self.write("a.txt", CORNER)
+        self.check("mine", "a.txt")
+        for moment in ("audit", "progress", "mkstemp"):
+            for calls in (1, 2, 3):
+                self.write("a.txt", self.read("a.txt") + b"\n" + LONG.replace(
+                    "@ ", "@" + " " * (calls + 3 * (moment == "audit") + 6 * (
+                        moment == "mkstemp"))).encode())
+                with Meanwhile(moment, calls, self.typed("mine.xsb", f"{moment} {calls}\n")):
+                    result = self.check("mine", "a.txt")
+                self.assertIn("edited by hand: level", result.out.decode())
+                self.assertIn(f"{moment} {calls}\n".encode(), self.read("mine.xsb"))
+
+    def test_file_that_changes_again_and_again(self):
+        """After three rounds the run ends, and all files are whole."""
+        self.write("a.txt", CORNER)
+        self.check("mine", "a.txt")
+        self.write("a.txt", LONG)
+        files = {name: self.read(name) for name in os.listdir()}
+        with unittest.mock.patch.object(auditor.Auditor, "audit", autospec=True,
+                                        side_effect=self.type_and_audit(auditor.Auditor.audit)):
+            result = self.check("mine", "a.txt")
+        said = "mine.xsb was changed by somebody else"
+        self.assertEqual((result.status, result.err.splitlines()),
+                         (2, [f"check: {said}: reading again"] * 3
+                          + [f"check: {said}, again and again: the files are as they were"]))
+        now = {name: self.read(name) for name in os.listdir()}
+        self.assertEqual(now.pop("mine.xsb").replace(b"typed\n", b""), files.pop("mine.xsb"))
+        self.assertEqual(now, files)
+
+    def type_and_audit(self, audit):
+        """Returns an audit that types first."""
+        def typing(*words):
+            self.typed("mine.xsb", "typed\n")()
+            return audit(*words)
+        return typing
+
+    def test_checks_at_once(self):
+        """They wait for each other, and nothing is lost."""
+        for number in range(6):
+            row = "#@" + " " * number + "$  .#"
+            walls = "#" * len(row)
+            self.write(f"{number}.txt",
+                       f"{walls}\n{row}\n{walls}\nSolution: {'r' * number}RRR\n")
+        self.check("mine", ".")
+        self.typed("mine.xsb", "typed\n")()
+        runs = [subprocess.Popen([f"{TOP}/sokotool", "check", "mine", ".", "--best", best],
+                                 stdout=subprocess.PIPE, stderr=subprocess.PIPE)
+                for best in ("moves", "pushes") * 4]
+        for run in runs:
+            out, err = run.communicate()
+            said = err.replace(b"check: another check of mine is running: waiting for its end\n",
+                               b"")
+            self.assertEqual((run.returncode, said), (0, b""), out)
+        self.assertIn(b"typed\n", self.read("mine.xsb"))
+        self.assertEqual(self.report()[-1], "total 6 solved 6 unsolvable 0 refused 0 missing 0")
+        self.assertFalse([name for name in os.listdir() if name.startswith(".sokotool")])
+
+    def test_check_that_is_killed_bars_no_other(self):
+        self.write("a.txt", CORNER)
+        self.write(".sokotool-mine.lock", "")
+        self.assertEqual(self.check("mine", "a.txt").err, "")
+        self.assertFalse(os.path.exists(".sokotool-mine.lock"))
 
 
 class Files(Check):
@@ -466,7 +553,8 @@ class Files(Check):
         files = {name: self.read(name) for name in os.listdir()}
         for words, why in ((["empty"],
                             "these files have no level\n  empty line 1: no level in this file"),
-                           (["a.txt", "--answers", "bad"], "bad line 3: unclosed"),
+                           (["a.txt", "--answers", "bad"],
+                            "bad line 3: the last record lacks its last line, 'end'"),
                            (["gone"], "cannot read gone")):
             result = self.check("mine", *words)
             self.assertEqual((result.status, result.out), (2, b""), words)

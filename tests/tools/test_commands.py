@@ -230,11 +230,20 @@ class Merge(Case):
     def test_faults(self):
         for text, why in (("", "is no answers file: line 1 isn't 'sokoban-answers 1'"),
                           ("x\n", "is no answers file: line 1 isn't 'sokoban-answers 1'"),
-                          ("sokoban-answers 1\nlevel 0\n", "line 2: level"),
-                          ("sokoban-answers 1\nlevel 10001\n", "line 2: unknown"),
-                          ("sokoban-answers 1\nlevel 1\nx\n", "line 3: kind"),
-                          ("sokoban-answers 1\nlevel 1\nsolution\n", "line 4: unclosed"),
-                          ("sokoban-answers 1\nlevel " + "9" * 5000 + "\n", "line 2: unknown")):
+                          ("sokoban-answers 1\nlevel 0\n", "line 2: 'level 0' is neither a line "
+                           "'level N' nor a comment, which begins with ';'"),
+                          ("sokoban-answers 1\nLevel 2\n", "line 2: 'Level 2' is neither a line "
+                           "'level N' nor a comment, which begins with ';'"),
+                          ("sokoban-answers 1\nlevel 10001\n", "line 2: 'level 10001': there is no "
+                           "such level, the highest is 10000"),
+                          ("sokoban-answers 1\nlevel 1\nx\n", "line 3: 'x' is neither 'solution' "
+                           "nor 'unsolvable', one of which has to follow the line 'level N'"),
+                          ("sokoban-answers 1\nlevel 1\nsolution\n",
+                           "line 4: the last record lacks its last line, 'end'"),
+                          ("sokoban-answers 1\nlevel 1\nsolution\nr\nlevel 2\nsolution\nend\n",
+                           "line 5: 'level 2': the record above it lacks its last line, 'end'"),
+                          ("sokoban-answers 1\nlevel " + "9" * 5000 + "\n", "line 2: 'level "
+                           + "9" * 34 + "': there is no such level, the highest is 10000")):
             self.write("a", text)
             result = self.tool("merge", "a")
             self.assertEqual((result.status, result.out, result.err), (2, b"", f"merge: a {why}\n"))

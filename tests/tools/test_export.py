@@ -196,7 +196,8 @@ class Export(Case):
         self.write("mine.xsb", ONE)
         self.write("mine.answers", "sokoban-answers 1\nlevel 2\n")
         self.assertEqual(self.tool("export", "mine", "--to", "sok").err,
-                         "export: mine.answers line 2: unknown\n")
+                         "export: mine.answers line 2: 'level 2': there is no such level, the "
+                         "highest is 1\n")
         self.assertEqual(self.tool("export", "mine").status, 2)
         os.remove("mine.answers")
         self.assertEqual(self.tool("export", "mine", "--to", "xsb", "-o", "mine.xsb").err,

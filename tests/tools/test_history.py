@@ -1,26 +1,32 @@
-"""The command check: whatever a keeper types into the files of NAME is in one of them after any
-run, until he removes it himself.
+"""The command check: whatever a keeper types into the files of NAME, and whenever, is in one of
+them after any run, until he removes it himself.
 
-Random histories: exports go, come back, are edited, turned and put in another order; records,
-comments, titles, texts and levels are typed, each with a word of its own; a run is interrupted,
-killed, or meets a full disk."""
+Random histories: exports go, come back, are edited, turned and put in another order, and a friend's
+collection comes with its answers; records, comments, titles, texts and levels are typed, each with
+a word of its own, between runs and while one is under way; older files are put back; a run is
+interrupted, killed, meets a full disk, or another one runs beside it."""
 import errno
 import glob
 import importlib.util
 import os
 import random
 import re
+import subprocess
 import sys
 import unittest.mock
 from importlib.machinery import SourceFileLoader
 from typing import Any, Callable, Dict, List, NamedTuple, Set
 
 from sokotool import auditor, levels
-from tests.tools.ending import EndsEarly, Killed
+from tests.tools.ending import EndsEarly, Killed, Meanwhile
 from tests.tools.helping import TOP, Case
 
 HISTORIES = 200
 RUNS = 6
+# what a keeper may put back from a backup
+ENDS = (".xsb", ".answers", ".report", ".html", ".memory", ".kept.xsb", ".kept.answers")
+# the moments of a run at which something may be done, with the most calls until then
+MOMENTS = (("progress", 4), ("audit", 4), ("search", 1), ("mkstemp", 12))
 
 
 class Drawn(NamedTuple):
@@ -74,6 +80,7 @@ class History:
         self.exports: Dict[str, List[Drawn]] = {}
         self.away: Dict[str, List[Drawn]] = {}
         self.words: Set[str] = set()
+        self.older: Dict[str, List[bytes]] = {end: [] for end in ENDS}
         self.count = 0
         for name in "abc":
             self.exports[name] = [self.drawn() for _ in range(chance.randint(1, 3))]
@@ -130,6 +137,18 @@ class History:
         for name, several in self.exports.items():
             with open(f"inbox/{name}.txt", "w", encoding="utf-8") as file:
                 file.write("".join(one.text() for one in several))
+        if self.chance.random() < .0:
+            self.put_friend()
+
+    def put_friend(self) -> None:
+        """A friend's collection, with its answers: levels of the exports and others."""
+        several = [self.drawn(), *self.chance.choice(sorted(self.exports.values()))]
+        with open("inbox/friend.xsb", "w", encoding="utf-8") as file:
+            file.write("\n".join("\n".join(one.rows()) + "\n" for one in several))
+        with open("inbox/friend.answers", "w", encoding="utf-8") as file:
+            file.write("sokoban-answers 1\n" + "".join(
+                f"; a friend's\nlevel {number}\nsolution\n{one.letters()}\nend\n"
+                for number, one in enumerate(several, 1)))
 
     # ---- what the keeper types
 
@@ -209,6 +228,33 @@ class History:
             self.put("mine.xsb", lines[:top] + lines[bottom:bottom + len(later.rows)] + between
                      + lines[top:top + len(first.rows)] + rest)
 
+    # ---- older files
+
+    def note_files(self) -> None:
+        """Keeps a copy of each file."""
+        for end, several in self.older.items():
+            if os.path.exists("mine" + end):
+                with open("mine" + end, "rb") as file:
+                    several.append(file.read())
+
+    def put_back(self) -> Dict[str, bytes]:
+        """Puts an older file back, or two that belong together, and forgets the words that are in
+        no file then. Returns the files that were there."""
+        ends = self.chance.choice([*((end,) for end in ENDS), (".xsb", ".answers"), ENDS])
+        at = self.chance.random()
+        before = {}
+        for end in ends:
+            if os.path.exists("mine" + end) and self.older[end]:
+                with open("mine" + end, "rb") as file:
+                    before["mine" + end] = file.read()
+                if self.chance.random() < .1 and end != ".xsb":
+                    os.remove("mine" + end)
+                    continue
+                with open("mine" + end, "wb") as file:
+                    file.write(self.older[end][int(at * len(self.older[end]))])
+        self.words &= words_in(former=False)
+        return before
+
     def remove(self) -> None:
         """Removes each line with one of the words, in all files but the former ones."""
         if not self.words:
@@ -218,6 +264,16 @@ class History:
         for name in ("mine.xsb", "mine.answers", "mine.kept.xsb", "mine.kept.answers"):
             if os.path.exists(name):
                 self.put(name, [line for line in self.lines(name) if word not in line])
+
+
+def words_in(former: bool) -> Set[str]:
+    """Returns the words in the files of NAME, also in former ones or not."""
+    found: Set[str] = set()
+    for name in glob.glob("mine.*"):
+        if former or not name.endswith(("~", ".memory", ".html")):
+            with open(name, encoding="utf-8") as file:
+                found.update(re.findall("word\\d+x", file.read()))
+    return found
 
 
 class Histories(Case):
@@ -231,8 +287,8 @@ class Histories(Case):
         patch.start()
         self.addCleanup(patch.stop)
 
-    def check(self) -> Any:
-        return self.tool("check", "mine", "inbox", "--seconds", "0")
+    def check(self, seconds: int = 0) -> Any:
+        return self.tool("check", "mine", "inbox", "--seconds", str(seconds), "--jobs", "1")
 
     def test_every_typed_word_stays(self) -> None:
         """After each run each word is in some file of NAME, and after one that was not ended early
@@ -252,44 +308,70 @@ class Histories(Case):
         """Runs check some times, and changes the exports and types between two runs."""
         for number in range(RUNS):
             history.put_exports()
-            said = self.run_somehow(history.chance)
-            if said == "refused":
+            before = history.put_back() if history.chance.random() < .2 else {}
+            said = self.run_whole(history, "typed") if before else self.run_somehow(history)
+            if said == "refused" and not before:
                 return
+            for name, data in before.items() if said == "refused" else ():
+                self.write(name, data)
             self.assert_has_words(history.words, said, f"run {number} was {said}")
+            history.note_files()
             for _ in range(history.chance.randint(0, 2)):
                 history.change_exports()
             for _ in range(history.chance.randint(1, 3)):
                 history.type()
-        self.assertIn(self.check().status, (0, 1))
+        if self.run_whole(history, "whole") == "refused":
+            return
         files = {name: self.read(name) for name in glob.glob("mine.*")}
         self.check()
         self.assertEqual(sorted(files), sorted(glob.glob("mine.*")))
         self.assertFalse([name for name, data in files.items() if self.read(name) != data])
 
     def assert_has_words(self, words: Set[str], said: str, where: str) -> None:
-        names = [name for name in glob.glob("mine.*")
-                 if said == "killed" or not name.endswith(("~", ".memory", ".html"))]
-        found = set(re.findall("word\\d+x", "".join(self.read(name).decode() for name in names)))
-        self.assertFalse(sorted(words - found), where)
+        self.assertFalse(sorted(words - words_in(said == "killed")), where)
 
-    def run_somehow(self, chance: random.Random) -> str:
-        """Runs check, and perhaps ends it at a random moment. Returns how it ended."""
-        ways = [("whole", None)] * 6 + [("killed", Killed()), ("interrupted", KeyboardInterrupt()),
-                                        ("full", OSError(errno.ENOSPC, "No space left on device"))]
-        way, error = chance.choice(ways)
+    def run_somehow(self, history: History) -> str:
+        """Runs check, and perhaps types, starts another run or ends this one at a random moment.
+        Returns how it ended."""
+        chance = history.chance
+        way = chance.choice(("whole", "whole", "typed", "typed", "beside", "killed", "interrupted",
+                             "full"))
+        if way in ("whole", "typed", "beside"):
+            return self.run_whole(history, way)
+        error = {"killed": Killed(), "interrupted": KeyboardInterrupt(),
+                 "full": OSError(errno.ENOSPC, "No space left on device")}[way]
         moment = chance.choice((
-            ("os.replace", chance.randint(1, 12)), ("tempfile.mkstemp", chance.randint(1, 12)),
+            ("os.replace", chance.randint(1, 12)), ("mkstemp", chance.randint(1, 12)),
             ("progress", chance.randint(1, 4))))
-        if error is None:
-            result = self.check()
-            if "was changed after a write was cut off, and so was another" in result.err:
-                return "refused"
-            self.assertIn(result.status, (0, 1), result.err)
-            return way
         with EndsEarly(error, *moment):
             try:
                 result = self.check()
             except (Killed, OSError):
                 return way
         self.assertNotIn("Traceback", result.err)
+        return way
+
+    def run_whole(self, history: History, way: str) -> str:
+        """Runs check to its end, perhaps while something is typed or another check runs."""
+        beside: List[Any] = []
+
+        def act() -> None:
+            if way == "typed":
+                history.type()
+            elif way == "beside" and history.chance.random() < .2:
+                beside.append(subprocess.Popen(
+                    [os.path.join(TOP, "sokotool"), "check", "mine", "inbox", "--seconds", "0"],
+                    stdout=subprocess.PIPE, stderr=subprocess.PIPE))
+        name, most = history.chance.choice(MOMENTS)
+        with Meanwhile(name, history.chance.randint(1, most), act):
+            result = self.check(int(name == "search"))
+        for other in beside:
+            self.assertEqual(b"", other.communicate()[1].replace(
+                b"check: another check of mine is running: waiting for its end\n", b""))
+            self.assertIn(other.returncode, (0, 1))
+        if "was changed after a write was cut off, and so was another" in result.err:
+            return "refused"
+        if result.status == 2 and "there is no such level" in result.err:
+            return "refused"
+        self.assertIn(result.status, (0, 1), result.err)
         return way

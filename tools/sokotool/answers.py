@@ -52,6 +52,17 @@ class Record:
         """The letters of a solution, its lines joined."""
         return b"".join(line for _, line in self.body)
 
+    @property
+    def text(self):
+        """The record with the comments above it."""
+        return spelled(self.above + self.raw)
+
+    def numbered(self, level):
+        """Returns the record for a level of another number."""
+        found = Record(level, self.line, b"level %d" % level, self.above, self.loose)
+        found.kind, found.body, found.raw = self.kind, self.body, found.raw + self.raw[1:]
+        return found
+
 
 class Answers:
     """The version of an answers file, its records in order, and the lines after the last one."""
@@ -100,12 +111,35 @@ def read(data, levels=None, rising=True):
 def read_text(name, data, levels=None, rising=True):
     """Reads an answers text of this name; its first fault ends the command."""
     try:
-        return read(data, levels, rising)
+        found = read(data, levels, rising)
+        check_ends(found)
+        return found
     except Fault as fault:
-        why = f"line {fault.line}: {fault.why}"
-        if fault.why == "header":
-            why = "is no answers file: line 1 isn't 'sokoban-answers 1'"
-        raise texts.Stop(f"{texts.shown(name)} {why}") from None
+        raise texts.Stop(f"{texts.shown(name)} {advice(data, fault, levels)}") from None
+
+
+def check_ends(found):
+    """Raises a fault where a record seems to go on in the next one. The auditor reads both as one
+    record, and refuses that."""
+    for record in found.records:
+        for number, line in record.body:
+            if _LEVEL.fullmatch(line):
+                raise Fault(number, "end")
+
+
+def advice(data, fault, levels):
+    """Returns in words what is wrong at a fault, and what to type."""
+    if fault.why == "header":
+        return "is no answers file: line 1 isn't 'sokoban-answers 1'"
+    typed = texts.shown(b"".join(texts.lines(data)[fault.line - 1:fault.line])[:40])
+    said = {"level": f"'{typed}' is neither a line 'level N' nor a comment, which begins with ';'",
+            "order": f"'{typed}' has to come before the records of higher levels",
+            "unknown": f"'{typed}': there is no such level, the highest is {levels}",
+            "kind": f"'{typed}' is neither 'solution' nor 'unsolvable', one of which has to follow "
+                    "the line 'level N'",
+            "end": f"'{typed}': the record above it lacks its last line, 'end'",
+            "unclosed": "the last record lacks its last line, 'end'"}[fault.why]
+    return f"line {fault.line}: {said}"
 
 
 def read_file(name, levels=None, rising=True):
@@ -147,7 +181,12 @@ def cells(listed):
 
 
 def _record(level, kind, body):
-    return b"\n".join([b"level %d" % level, kind, *body, b"end"]) + b"\n"
+    return spelled([b"level %d" % level, kind, *body, b"end"])
+
+
+def spelled(lines):
+    """Returns lines as a text."""
+    return b"".join(line + b"\n" for line in lines)
 
 
 def text(records, version=None):

@@ -7,13 +7,14 @@ floor that is connected to them counts too. Of the turns and mirrors of these ce
 wider than high, moved to the corner, the form is the least in the order of its bytes.
 """
 import hashlib
-from typing import Dict, Iterable, List, NamedTuple, Tuple
+from typing import Dict, Iterable, List, NamedTuple, Sequence, Tuple
 
 from .alphabet import BOXES, GOALS, PLAYERS, WALL
 from .game import LARGEST_SIDE
 from .levels import Level
 
 Cell = Tuple[int, int]
+Key = Tuple[str, int, bytes]
 
 
 def _digits(marks: str) -> bytes:
@@ -102,7 +103,7 @@ class Form(NamedTuple):
     level: Level
 
     @property
-    def key(self) -> Tuple[str, int, bytes]:
+    def key(self) -> Key:
         """A key that two levels share exactly if they have the same board."""
         return self[:3]
 
@@ -129,6 +130,15 @@ class Form(NamedTuple):
     def turn_to(self, other: "Form") -> Turn:
         """Returns how a level of this form is turned into a level with the same form."""
         return other.turn.inverse().after(self.turn)
+
+
+class Twin(NamedTuple):
+    """A level, the first one that has its board, and how the first is turned into it. Both are
+    indices in the list of levels, from 0."""
+
+    later: int
+    first: int
+    turn: Turn
 
 
 def form_of(level: Level) -> Form:
@@ -158,11 +168,22 @@ def forms_of(levels: Iterable[Level]) -> List[Form]:
     return [form_of(level) for level in levels]
 
 
-def by_key(forms: Iterable[Form]) -> Dict[Tuple[str, int, bytes], List[int]]:
+def by_key(forms: Iterable[Form]) -> Dict[Key, List[int]]:
     """Returns the indices of forms in a list by their keys."""
-    found: Dict[Tuple[str, int, bytes], List[int]] = {}
+    found: Dict[Key, List[int]] = {}
     for index, form in enumerate(forms):
         found.setdefault(form.key, []).append(index)
+    return found
+
+
+def twins_of(forms: Sequence[Form]) -> List[Twin]:
+    """Returns each form that equals an earlier one, with the first one. Walls alone don't count."""
+    first: Dict[Key, int] = {}
+    found = []
+    for later, form in enumerate(forms):
+        earlier = first.setdefault(form.key, later)
+        if earlier != later and form.kind != WALLS:
+            found.append(Twin(later, earlier, forms[earlier].turn_to(form)))
     return found
 
 

@@ -167,6 +167,21 @@ def _kind_of(now: Line, was: Line) -> str:
     return "worse" if any(more) and min(more) >= 0 else "other"
 
 
+def runs(found: Sequence[Change]) -> List[List[Change]]:
+    """Returns changes in runs: consecutive levels that were renumbered alike are one run."""
+    runs: List[List[Change]] = []
+    last: Dict[str, List[Change]] = {}
+    for change in found:
+        run = last.get(change.kind)
+        if run and change.kind == "renumbered" and (change.number, change.was) == (
+                run[-1].number + 1, run[-1].was + 1):
+            run.append(change)
+        else:
+            runs.append([change])
+            last[change.kind] = runs[-1]
+    return runs
+
+
 def ranges(numbers: Sequence[int]) -> str:
     """Returns rising numbers as text, consecutive ones as `4-9`."""
     runs: List[List[int]] = []

@@ -3,7 +3,6 @@
 An answers file that convert wrote ends in a comment with the checksums of both files and the names
 of the exports. It shows if a file was changed since, or was made from other exports.
 """
-import hashlib
 import json
 import os
 import re
@@ -25,14 +24,10 @@ class Mark(NamedTuple):
     sources: Set[str]
 
 
-def _sum(data: bytes) -> str:
-    return hashlib.sha256(data).hexdigest()[:16]
-
-
 def marked(pair: Sequence[File], sources: Sequence[str]) -> List[File]:
     """Returns the two files of a collection, with the mark at the end of the answers."""
     (levels_name, levels_data), (answers_name, data) = pair
-    mark = (f"; convert wrote this ({_sum(levels_data)} {_sum(data)}) from "
+    mark = (f"; convert wrote this ({texts.digest(levels_data)} {texts.digest(data)}) from "
             f"{json.dumps(list(sources))}\n")
     return [(levels_name, levels_data), (answers_name, data + mark.encode())]
 
@@ -40,7 +35,7 @@ def marked(pair: Sequence[File], sources: Sequence[str]) -> List[File]:
 def mark_of(data: bytes) -> Optional[Mark]:
     """Returns the mark of an answers file, or None if it has none or was changed since."""
     match = _MARK.search(data)
-    if not match or _sum(data[:match.start()]) != match.group(2).decode():
+    if not match or texts.digest(data[:match.start()]) != match.group(2).decode():
         return None
     return Mark(match.group(1).decode(), match.group(2).decode(), set(json.loads(match.group(3))))
 
@@ -73,7 +68,7 @@ def _losses_of(new_levels: File, new_answers: File, sources: Set[str]
     mark = mark_of(old) if old is not None else None
     is_own = mark is not None and mark.sources <= sources
     old_levels = _read(new_levels[0])
-    if old_levels is not None and not (is_own and mark and mark.levels == _sum(old_levels)):
+    if old_levels is not None and not (is_own and mark and mark.levels == texts.digest(old_levels)):
         lost = lost_levels(old_levels, new_levels[1])
         if lost:
             yield new_levels[0], old_levels, lost

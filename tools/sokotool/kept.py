@@ -33,7 +33,7 @@ class Kept(NamedTuple):
 
     def records(self) -> List[answers.Record]:
         """Returns the answers, numbered by the places of the levels from 1."""
-        return [renumbered(entry.record, number) for number, entry in enumerate(self.entries, 1)
+        return [entry.record.numbered(number) for number, entry in enumerate(self.entries, 1)
                 if entry.record]
 
     def reasons(self, forms: Sequence[boards.Form]) -> List[str]:
@@ -55,8 +55,8 @@ class Kept(NamedTuple):
         listed = [entry.block._replace(above=(entry.head or _HEAD, *entry.block.above),
                                        below=(*_trimmed(entry.block.below), b""))
                   for entry in self.entries]
-        records = [spelled(record.loose + record.above + record.raw) for record in self.records()]
-        return blocks.text(listed), answers.text(records) + spelled(self.rest)
+        records = [answers.spelled(record.loose) + record.text for record in self.records()]
+        return blocks.text(listed), answers.text(records) + answers.spelled(self.rest)
 
 
 def read(levels_text: bytes, found: answers.Answers) -> Kept:
@@ -80,18 +80,6 @@ def read(levels_text: bytes, found: answers.Answers) -> Kept:
 def head_of(number: int, title: str) -> bytes:
     """Returns the comment of a thing that came from a level."""
     return _HEAD + f" from level {number}".encode() + (f", {title}".encode() if title else b"")
-
-
-def renumbered(record: answers.Record, number: int) -> answers.Record:
-    """Returns a record with another number."""
-    found = answers.Record(number, record.line, b"level %d" % number, record.above, record.loose)
-    found.kind, found.body, found.raw = record.kind, record.body, found.raw + record.raw[1:]
-    return found
-
-
-def spelled(lines: Sequence[bytes]) -> bytes:
-    """Returns lines as a text."""
-    return b"".join(line + b"\n" for line in lines)
 
 
 def _trimmed(lines: blocks.Lines) -> blocks.Lines:

@@ -1,5 +1,4 @@
 """The file NAME.memory: what a check remembers until the next one."""
-import hashlib
 import json
 from typing import Any, List, NamedTuple, Optional
 
@@ -40,11 +39,6 @@ def text(memory: Memory) -> bytes:
             "ordered": memory.is_ordered, "searched": memory.outcomes.kept,
             "computed": memory.computed}
     return json.dumps(data, indent=0, sort_keys=True).encode() + b"\n"
-
-
-def digest(record: bytes) -> str:
-    """Returns a short name for the text of a record."""
-    return hashlib.sha256(record).hexdigest()[:16]
 
 
 def _lines(part: List[str]) -> Lines:

@@ -3,10 +3,12 @@ at most, and with which outcome."""
 from typing import Dict, List, Sequence, Tuple
 
 from .boards import Form
-from .search.refute import FULL, ILLEGAL, SOLVABLE
+from .search.refute import FOUND, FULL, ILLEGAL, SOLVABLE
 
 # More time doesn't change these outcomes.
-_FINAL = (SOLVABLE, FULL, ILLEGAL)
+_FINAL = (FULL, ILLEGAL)
+# These gave an answer: if there is none now, it was lost.
+_ANSWERED = (FOUND, SOLVABLE, "solved")
 
 
 class Outcomes:
@@ -27,9 +29,14 @@ class Outcomes:
         """Returns the boards that were never searched in this way for so many seconds, those with
         the fewest seconds first."""
         found = [form for form in forms for what, spent in [self.of(form, way)]
-                 if spent < seconds and what not in _FINAL]
+                 if what in _ANSWERED or spent < seconds and what not in _FINAL]
         return sorted(found, key=lambda form: self.of(form, way)[1])
 
     def keep(self, form: Form, way: str, what: str, seconds: float) -> None:
         """Remembers an outcome and the seconds that the search had."""
         self.kept.setdefault(form.digest, {})[way] = (what, max(seconds, self.of(form, way)[1]))
+
+    def join(self, others: "Outcomes") -> None:
+        """Remembers other outcomes too."""
+        for digest, ways in others.kept.items():
+            self.kept.setdefault(digest, {}).update(ways)

@@ -8,9 +8,17 @@ import os
 import stat
 import sys
 import tempfile
-from typing import Iterator, List, NamedTuple, Optional, Sequence, Tuple
+from types import MappingProxyType
+from typing import Iterator, List, Mapping, NamedTuple, Optional, Sequence, Tuple
 
 from . import texts
+
+
+class Changed(texts.Stop):
+    """A file isn't any more what it was when it was read."""
+
+    def __init__(self, name: str) -> None:
+        super().__init__(f"{texts.shown(name)} was changed by somebody else")
 
 
 class _Entry(NamedTuple):
@@ -58,14 +66,16 @@ def into(name: Optional[str]) -> Iterator[None]:
     write_files([(name, kept.buffer.getvalue())])  # type: ignore[attr-defined]
 
 
-def write_files(files: Sequence[Tuple[str, Optional[bytes]]], journal: str = "") -> None:
+def write_files(files: Sequence[Tuple[str, Optional[bytes]]], journal: str = "",
+                known: Mapping[str, Optional[bytes]] = MappingProxyType({})) -> None:
     """Writes files, given by name and bytes, or removes them if the bytes are None. None is
     replaced before all are written in full.
 
-    A journal is a file that is there while files are replaced, so that `finish` can go on.
+    A journal is a file that is there while files are replaced, so that `finish` can go on. With it
+    none is replaced, and `Changed` is raised, if a file has other contents than in `known`.
     """
     ready: List[Tuple[str, str]] = []
-    name = ""
+    name = changed = ""
     try:
         for name, data in files:
             path = os.path.realpath(name)
@@ -78,10 +88,12 @@ def write_files(files: Sequence[Tuple[str, Optional[bytes]]], journal: str = "")
             else:
                 ready.append((_put(data, path), path))
         if journal:
-            listed = [_Entry(made, path, _digest(path), _digest(made)) for made, path in ready]
-            os.replace(_put(json.dumps(listed).encode(), os.path.realpath(journal)), journal)
+            before = {os.path.realpath(it): _digest_of(data) for it, data in known.items()}
+            listed = [_Entry(made, path, before[path] if path in before else _digest(path),
+                             _digest(made)) for made, path in ready]
+            _begin(journal, listed)
             ready = []
-            finish(journal)
+            changed = finish(journal)
         while ready:
             _replace(*ready[0])
             ready.pop(0)
@@ -91,16 +103,19 @@ def write_files(files: Sequence[Tuple[str, Optional[bytes]]], journal: str = "")
         for made, _ in ready:
             with contextlib.suppress(OSError):
                 os.unlink(made)
+    if changed:
+        raise Changed(next(name for name, _ in files if os.path.realpath(name) == changed))
 
 
-def finish(journal: str) -> None:
+def finish(journal: str) -> str:
     """Ends a write that was cut off: goes on with it, or takes it back if a file that it left as it
-    was has been changed since."""
+    was has been changed since. Returns the name of such a file, or an empty one."""
     name = journal
     try:
         listed = _listed(journal)
         left = [entry for entry in listed if not _is_done(entry)]
-        if any(_digest(entry.path) != entry.before for entry in left):
+        changed = [entry.path for entry in left if _digest(entry.path) != entry.before]
+        if changed:
             _take_back(journal, [entry for entry in listed if _is_done(entry)])
             for entry in left:
                 _replace("", entry.made)
@@ -109,8 +124,20 @@ def finish(journal: str) -> None:
                 name = entry.path
                 _replace(entry.made, name)
         _replace("", journal)
+        return changed[0] if changed else ""
     except OSError as error:
         raise texts.Stop(f"cannot write {texts.shown(name)}: {error.strerror}") from None
+
+
+def _begin(journal: str, listed: Sequence[_Entry]) -> None:
+    """Writes a journal, which no other process may have."""
+    with open(journal, "x", encoding="utf-8") as file:
+        try:
+            json.dump(listed, file)
+            file.flush()
+        except OSError:
+            os.unlink(journal)
+            raise
 
 
 def _is_done(entry: _Entry) -> bool:
@@ -136,8 +163,12 @@ def _listed(journal: str) -> List[_Entry]:
     """Returns the entries of a journal: none if there is no such file."""
     if not os.path.exists(journal):
         return []
-    with open(journal, "rb") as file:
-        return [_Entry(*words) for words in json.load(file)]
+    try:
+        with open(journal, "rb") as file:
+            return [_Entry(*words) for words in json.load(file)]
+    except ValueError:
+        # It was cut off itself, before a file was replaced.
+        return []
 
 
 def _put(data: bytes, path: str) -> str:
@@ -166,7 +197,11 @@ def _digest(path: str) -> str:
     if not os.path.isfile(path):
         return ""
     with open(path, "rb") as file:
-        return hashlib.sha256(file.read()).hexdigest()
+        return _digest_of(file.read())
+
+
+def _digest_of(data: Optional[bytes]) -> str:
+    return "" if data is None else hashlib.sha256(data).hexdigest()
 
 
 def check_writable(name: str) -> None:

@@ -1,8 +1,11 @@
 """The files of a check: NAME.xsb and so on, as they were and as they become."""
+import contextlib
 import os
-from typing import Dict, Optional
+import time
+from typing import IO, Dict, Iterator, Optional
 
-from . import answers, auditor, memory, output, texts
+from . import answers, auditor, memory, output, system, texts
+from .progress import Progress
 
 # The page of a collection within the limits is shorter.
 MOST_BYTES = 1_000_000_000
@@ -11,22 +14,23 @@ KEPT_XSB, KEPT_ANSWERS, MEMORY = ".kept.xsb", ".kept.answers", ".memory"
 # the files that are kept as NAME.xsb~ and so on when one of them changes
 ENDS = (XSB, ANSWERS, REPORT, PAGE, KEPT_XSB, KEPT_ANSWERS)
 EVERY = (*ENDS, MEMORY, ".unfinished")
+_BEAT = 0.1
 _NOTE = f"; {auditor.REFERENCE_NOTE}".encode()
 
 
 class Files:
     """The contents of the files by the ends of their names: `before` the check, and `now`."""
 
-    def __init__(self, name: str) -> None:
-        self.name = name
-        for end in (*ENDS, MEMORY):
-            output.check_writable(name + end)
+    def __init__(self, name: str, has_backups: bool) -> None:
+        self.name, self.has_backups = name, has_backups
         self._journal = name + ".unfinished"
         output.finish(self._journal)
-        self.before: Dict[str, bytes] = {end: texts.read(name + end, MOST_BYTES)
-                                         for end in (*ENDS, MEMORY) if os.path.exists(name + end)}
+        self.before: Dict[str, bytes] = self._read()
         self.now: Dict[str, Optional[bytes]] = dict(self.before)
-        self._has_backups = False
+
+    def _read(self) -> Dict[str, bytes]:
+        return {end: texts.read(self.name + end, MOST_BYTES) for end in (*ENDS, MEMORY)
+                if os.path.exists(self.name + end)}
 
     def levels(self) -> Optional[bytes]:
         """Returns the text of NAME.xsb without the note of the reference, or None if there is none.
@@ -50,16 +54,69 @@ class Files:
         return memory.read(self.before.get(MEMORY), self.name + MEMORY)
 
     def write(self, files: Dict[str, Optional[bytes]]) -> None:
-        """Writes the files that changed, and first the former ones as backups."""
+        """Writes the files that changed, and first the former ones as backups. If a file isn't as
+        this run read or wrote it, nothing is written and `Changed` is raised."""
+        there = self._read()
+        for end in (*ENDS, MEMORY):
+            if there.get(end) != self.now.get(end):
+                raise output.Changed(self.name + end)
         changed = {end: data for end, data in files.items() if data != self.now.get(end)}
         backups: Dict[str, Optional[bytes]] = {}
-        if not self._has_backups and any(end in ENDS for end in changed):
+        if not self.has_backups and any(end in ENDS for end in changed):
             backups = {end + "~": data for end, data in self.before.items() if end in ENDS}
         if changed:
             listed = [(self.name + end, data) for end, data in {**backups, **changed}.items()]
-            output.write_files(listed, self._journal)
+            known = {self.name + end: self.now.get(end) for end in changed}
+            output.write_files(listed, self._journal, known)
             self.now.update(changed)
-            self._has_backups = self._has_backups or bool(backups)
+            self.has_backups = self.has_backups or bool(backups)
+
+
+def check_writable(name: str) -> None:
+    """Refuses a NAME whose files can't be written."""
+    for end in (*ENDS, MEMORY):
+        output.check_writable(name + end)
+
+
+@contextlib.contextmanager
+def alone(name: str, shown: Progress) -> Iterator[None]:
+    """Keeps other runs of check out of the files of NAME: they wait. The lock ends with this
+    process, however that ends."""
+    path = os.path.join(os.path.dirname(name), f".sokotool-{os.path.basename(name)}.lock")
+    file = _locked(path)
+    if not file:
+        shown.keep(f"another check of {texts.shown(name)} is running: waiting for its end")
+    while not file:
+        time.sleep(_BEAT)
+        file = _locked(path)
+    try:
+        yield
+    finally:
+        # Windows removes no open file. Elsewhere the file goes while the lock is held.
+        is_removed = _is_removed(path)
+        file.close()
+        if not is_removed:
+            _is_removed(path)
+
+
+def _locked(path: str) -> Optional[IO[bytes]]:
+    """Returns the file at this path, open and locked, or None if another process has it."""
+    try:
+        file = open(path, "ab")
+    except OSError as error:
+        raise texts.Stop(f"cannot write {texts.shown(path)}: {error.strerror}") from None
+    with contextlib.suppress(OSError):
+        # Whoever had the lock may have removed the file since it was opened here.
+        if system.lock(file.fileno()) and os.path.samestat(os.fstat(file.fileno()), os.stat(path)):
+            return file
+    file.close()
+    return None
+
+
+def _is_removed(path: str) -> bool:
+    with contextlib.suppress(OSError):
+        os.unlink(path)
+    return not os.path.exists(path)
 
 
 def noted(program: auditor.Auditor, text: bytes) -> bytes:

@@ -1,8 +1,7 @@
 """The summary of a check, which fits a screen."""
 from typing import Dict, Iterator, List, NamedTuple, Optional, Sequence
 
-from . import auditor, changes
-from .commands import diff, twins
+from . import auditor, boards, changes
 
 MOST_PROBLEMS = 8
 MOST_LINES = 5
@@ -48,7 +47,7 @@ def lines(done: Done) -> Iterator[str]:
         yield f"kept in {done.name}.kept.xsb: " + ", ".join(done.kept)
     yield from _some("twins: ", [
         f"level {later + 1} is level {first + 1}, {turn.words}"
-        for later, first, turn in twins.twins_of(done.now.forms)])
+        for later, first, turn in boards.twins_of(done.now.forms)])
 
 
 def _some(head: str, items: Sequence[str], most: int = MOST_LINES) -> Iterator[str]:
@@ -64,7 +63,7 @@ def changed(found: Sequence[changes.Change]) -> Iterator[str]:
     """Yields a line for each kind of change."""
     items: Dict[str, List[str]] = {}
     plain: Dict[str, List[int]] = {}
-    for run in diff.runs(found):
+    for run in changes.runs(found):
         first, last = run[0], run[-1]
         if first.kind == "renumbered":
             now, was = (changes.ranges([*range(one, other + 1)])

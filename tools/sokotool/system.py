@@ -1,7 +1,9 @@
-"""What the system does for a process: limits, groups of processes, command lines. What a system
-lacks, as Windows and macOS do, is asked here alone."""
+"""What the system does for a process: limits, locks, groups of processes, command lines. What a
+system lacks, as Windows and macOS do, is asked here alone."""
 import contextlib
 import ctypes
+import errno
+import importlib
 import multiprocessing
 import multiprocessing.connection
 import os
@@ -12,6 +14,10 @@ import sys
 import threading
 from typing import Any, Callable, List, Optional, Sequence
 
+try:
+    import fcntl
+except ImportError:
+    fcntl = None  # type: ignore[assignment]
 try:
     import resource
 except ImportError:
@@ -59,6 +65,20 @@ def memory_limit(megabytes: int) -> Optional[Callable[[], None]]:
         with contextlib.suppress(ValueError, OSError):
             resource.setrlimit(resource.RLIMIT_AS, (megabytes * 1_000_000,) * 2)
     return bound if resource else None
+
+
+def lock(handle: int) -> bool:
+    """Locks an open file. Returns false if another process has the lock, which ends with that
+    process or when it closes the file. Where files have no locks nothing is locked."""
+    try:
+        if fcntl:
+            fcntl.flock(handle, fcntl.LOCK_EX | fcntl.LOCK_NB)
+        else:
+            windows: Any = importlib.import_module("msvcrt")
+            windows.locking(handle, windows.LK_NBLCK, 1)
+    except OSError as error:
+        return error.errno not in (errno.EACCES, errno.EAGAIN, errno.EDEADLK)
+    return True
 
 
 def end_with_parent() -> None:

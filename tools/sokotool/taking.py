@@ -2,9 +2,8 @@
 finds out afterwards which of them have no place any more."""
 from typing import Dict, Hashable, List, NamedTuple, Sequence, Set, Tuple
 
-from . import answers, changes, kept, memory, picks
+from . import answers, carrying, changes, kept, picks, texts
 from .blocks import Block
-from .commands import carry
 from .levels import Level
 from .picks import Source
 
@@ -47,7 +46,7 @@ class Taken:
                 if id(own.record) in others:
                     own.targets.extend(others[id(own.record)].targets)
         for own in self._own:
-            if memory.digest(carry.renumbered(own.record, own.record.level)) in computed:
+            if texts.digest(own.record.text) in computed:
                 self._computed.update(text for _, text in own.targets)
         places = {match.old + 1: match.new + 1 for match in changes.matches(before, self.now)}
         self._place_comments(found, places)
@@ -71,8 +70,7 @@ class Taken:
 
     def add_exported(self, records: Sequence[answers.Record]) -> None:
         """Adds the records of the exports, by the numbers of the levels."""
-        self._exported = {record.level: carry.renumbered(record, record.level)
-                          for record in records}
+        self._exported = {record.level: record.text for record in records}
         self._by_board(records, self.now, True)
 
     def add_computed(self, number: int, record: bytes) -> None:
@@ -80,15 +78,13 @@ class Taken:
         self._computed.add(record)
         self.picks.add(number, record)
 
-    def add_file(self, name: str, before: changes.State) -> None:
+    def add_file(self, name: str, found: answers.Answers, before: changes.State) -> None:
         """Adds the records of another file, by the numbers of levels before and now. Those that no
         level accepts are reported."""
-        found = answers.read_file(name, rising=False)
         for record in found.records:
             self.picks.add_source(Source(name, record.line))
             if record.level <= len(self.now.levels):
-                self.picks.add(record.level, carry.renumbered(record, record.level),
-                               Source(name, record.line))
+                self.picks.add(record.level, record.text, Source(name, record.line))
         known = [it for it in found.records if it.level <= len(before.levels)]
         self._by_board(known, before, False, name)
 
@@ -121,37 +117,37 @@ class Taken:
 
     def _carried(self, records: Sequence[answers.Record], first: Sequence[answers.Record],
                  before: changes.State, places: Dict[int, changes.Match]
-                 ) -> Dict[int, List[carry.Carried]]:
+                 ) -> Dict[int, List[carrying.Carried]]:
         """Returns the records for each level that has the board of theirs: the first ones for all
         such levels, and the others for their own."""
-        carried = carry.carried(first, before.forms, self.now.forms)
+        carried = carrying.carried(first, before.forms, self.now.forms)
         taken = {id(record) for record in first}
         numbers = {match.old + 1: match.new + 1 for match in places.values() if match.turn}
         for record in records:
             number = numbers.get(record.level, 0)
             if number and id(record) not in taken:
-                text = carry.turned(record, number, before.forms[record.level - 1],
-                                    self.now.forms[number - 1])
-                carried.setdefault(number, []).append(carry.Carried(number, text, record))
+                text = carrying.turned(record, number, before.forms[record.level - 1],
+                                       self.now.forms[number - 1])
+                carried.setdefault(number, []).append(carrying.Carried(number, text, record))
         changed = {match.old + 1: match.new + 1 for match in places.values() if match.turn is None}
         for record in records:
             if record.level in changed:
                 number = changed[record.level]
                 carried.setdefault(number, []).append(
-                    carry.Carried(number, carry.renumbered(record, number), record))
+                    carrying.Carried(number, record.numbered(number).text, record))
         return carried
 
     # ---- once the answers were chosen
 
     def written(self, records: Dict[int, bytes]) -> bytes:
         """Returns the answers file with these records, and the comments between them."""
-        parts = [kept.spelled(self._loose.get(number, [])) + records.get(number, b"")
+        parts = [answers.spelled(self._loose.get(number, [])) + records.get(number, b"")
                  for number in sorted({*records, *self._loose})]
-        return answers.text(parts) + kept.spelled(self._rest)
+        return answers.text(parts) + answers.spelled(self._rest)
 
     def computed(self) -> List[str]:
         """Returns the digests of the chosen records that were computed."""
-        return [memory.digest(pick.text) for pick in self.picks.chosen.values()
+        return [texts.digest(pick.text) for pick in self.picks.chosen.values()
                 if pick.text in self._computed]
 
     def left(self, stored: kept.Kept) -> List[kept.Entry]:

@@ -1,4 +1,5 @@
 """Reads files within the auditor's limits, decodes them, and splits them into lines."""
+import hashlib
 import os
 import re
 import sys
@@ -185,6 +186,11 @@ def _is_standard_input(name: str) -> bool:
         return os.path.samestat(os.fstat(sys.stdin.fileno()), os.stat(name))
     except (OSError, ValueError, AttributeError):
         return False
+
+
+def digest(data: bytes) -> str:
+    """Returns a short name for bytes."""
+    return hashlib.sha256(data).hexdigest()[:16]
 
 
 def count(number: int, noun: str) -> str:

@@ -15,22 +15,22 @@ wrong."""
 import argparse
 import os
 import re
-from typing import Any, Callable, List, NamedTuple, Optional, Tuple
+from typing import Any, Callable, Iterable, List, NamedTuple, Optional, Tuple
 
-from .. import (answers, auditor, blocks, boards, by_hand, changes, exports, kept, levels, memory,
-                own_files, report, solvers, summary, system, taking, texts)
-from ..audits import Audits
+from .. import (answers, auditor, exports, kept, levels, memory, output, own_files, solvers, stages,
+                summary, system, taking, texts)
 from ..collection import MOVES, PUSHES, Collection
-from ..own_files import ANSWERS, KEPT_ANSWERS, KEPT_XSB, MEMORY, PAGE, REPORT, XSB, noted
-from ..picks import Picks
+from ..own_files import ANSWERS, KEPT_ANSWERS, KEPT_XSB, MEMORY, PAGE, REPORT, XSB
 from ..progress import Progress
 from ..search.budget import Budget
 from ..solving import Solving
-from . import carry, convert, page
+from ..stages import Exports, Found, Given
+from . import convert, page
 from .find import SECONDS, Search, Unbroken, above_zero
 
 BUDGET = 60
-WAY = "find"
+# how often the files are read again if they change
+ROUNDS = 3
 _LEVEL = re.compile(r"\blevel (\d+)")
 
 
@@ -76,21 +76,32 @@ class QuietCollection(Collection):
         self.shown.keep(self.place(line, file) + why)
 
 
-class Exports(NamedTuple):
-    """The levels and solutions of the exports, and what was left out: places and reasons."""
+class Done(NamedTuple):
+    """What the stages of a check made, and what has no place in the collection."""
 
-    text: bytes
-    answers: bytes
-    problems: List[Tuple[str, str]]
+    read: stages.Read
+    merge: stages.Merge
+    taken: taking.Taken
+    audited: stages.Audited
+    left: kept.Kept
 
 
 def run(options: argparse.Namespace) -> int:
-    job = Job(options)
-    with Audits(job.program, job.text, len(job.now.levels)) as audits:
-        job.audit(audits)
-        job.write()
-        job.search(audits)
-    return job.report()
+    given, found = gathered(options), Found()
+    done = settled(given, found)
+    done = searched(given, found, done)
+    return report(given, found, done)
+
+
+def gathered(options: argparse.Namespace) -> Given:
+    """Reads what isn't a file of NAME."""
+    convert.check_name(options.name)
+    if options.solver:
+        solvers.words_of(options.solver)
+    shown, program = Progress("check"), auditor.find()
+    own_files.check_writable(options.name)
+    more = [(name, answers.read_file(name, rising=False)) for name in options.answers]
+    return Given(options, shown, program, converted(options, shown), more)
 
 
 def converted(options: argparse.Namespace, shown: Progress) -> Exports:
@@ -109,194 +120,138 @@ def converted(options: argparse.Namespace, shown: Progress) -> Exports:
     return Exports(text, exported, collection.problems)
 
 
-class Job:
-    """A check: its files, the collection as it becomes, and the candidates for its answers."""
+# ---- the files of NAME
 
-    def __init__(self, options: argparse.Namespace) -> None:
-        convert.check_name(options.name)
-        if options.solver:
-            solvers.words_of(options.solver)
-        self.options, self.shown = options, Progress("check")
-        self.program = auditor.find()
-        self.files = own_files.Files(options.name)
-        self.memory = self.files.memory()
-        found = converted(options, self.shown)
-        self.stored = self._stored()
-        self.before = by_hand.collection(self.memory.blocks)
-        self.mine = by_hand.collection(self._own_blocks())
-        self.merged = by_hand.merged(self.before, self.mine,
-                                     by_hand.collection(blocks.read(found.text)),
-                                     [entry.block for entry in self.stored.entries],
-                                     self.memory.is_ordered)
-        self.text = noted(self.program, blocks.text(self.merged.blocks))
-        drawn = levels.read(self.text)
-        self.now = changes.State(drawn, boards.forms_of(drawn), [])
-        self.picks = Picks(self.now.levels, options.best)
-        self.taken = taking.Taken(self.picks, self.now)
-        self._take_over(found)
-        self.written = b""
-        self.read = report.Report()
-
-    def _own_blocks(self) -> List[blocks.Block]:
-        """Returns the levels of NAME.xsb as they are now."""
-        text = self.files.levels()
-        if text is None and ANSWERS in self.files.before:
-            name = texts.shown(self.files.name)
-            raise texts.Stop(f"{name}.answers is there, but not its levels in {name}.xsb: name it "
-                             "by --answers, under another name")
-        found = blocks.read(text or b"")
-        if text and text.strip() and not found:
-            raise texts.Stop(f"{texts.shown(self.files.name)}.xsb has no level: move it away")
-        return found
-
-    def _stored(self) -> kept.Kept:
-        """Returns what former checks kept."""
-        text = self.files.before.get(KEPT_XSB, b"")
-        return kept.read(text, self.files.answers(KEPT_ANSWERS, len(levels.read(text))))
-
-    def _take_over(self, exported: Exports) -> None:
-        """Adds the former answers, those of the exports, and those of other files: by the board of
-        the level that each names."""
-        places = {at: number for number, at in enumerate(self.merged.exports, 1)}
-        self.problems = [place + _LEVEL.sub(lambda it: f"level {places[int(it[1]) - 1]}", why)
-                         for place, why in exported.problems]
-        self.former = (self.before if self.before.blocks else self.mine).state
-        most = max(len(self.former.levels), len(self.mine.blocks))
-        self.taken.add_own(self.files.answers(ANSWERS, most), self.former, self.mine.state,
-                           set(self.memory.computed))
-        self.taken.add_stored(self.stored)
-        self.taken.add_exported([kept.renumbered(record, places[record.level - 1])
-                                 for record in answers.read(exported.answers).records])
-        for name in self.options.answers:
-            self.taken.add_file(name, self.former)
-
-    def audit(self, audits: Audits) -> None:
-        """Audits the best answers, after certificates were made for levels without one."""
-        self.shown.show("auditing")
-        self._audit(audits)
-        left = self._unanswered()
-        if left:
-            self.shown.show("making certificates")
-            for number, record in audits.made(left):
-                self.taken.add_computed(number, carry.renumbered(record, number))
-            self._audit(audits)
-
-    def _audit(self, audits: Audits) -> None:
-        self.written, self.read = self.picks.audited(
-            audits.audit, lambda records: noted(self.program, self.taken.written(records)))
-        self.printed = noted(self.program, audits.text)
-
-    def _unanswered(self) -> List[levels.Level]:
-        """Returns the legal levels that have no accepted answer."""
-        return [self.now.levels[line.level - 1] for line in self.read.lines
-                if not line.is_answered and line.words[:1] != ["board"]]
-
-    def search(self, audits: Audits) -> None:
-        """Searches the levels that are left, and then runs the solver, within the time of the run.
-        An interrupt ends both."""
-        seconds, jobs, solver = self.options.seconds, self.options.jobs, self.options.solver
-        end = Budget(self.options.search)
-        goes_on = self._search(
-            audits, WAY, self.options.search / (2 if solver else 1),
-            lambda found, budget: Search(self.shown, found, seconds, jobs, budget))
-        if solver and goes_on:
-            self._search(audits, f"solver {solver}", end.seconds_left(), lambda found, budget:
-                         Solving(self.shown, found, solvers.Limits(solver, seconds, jobs, budget),
-                                 self.options.verbose))
-
-    def _search(self, audits: Audits, way: str, seconds: float,
-                begin: Callable[[List[levels.Level], Budget], Any]) -> bool:
-        """Searches the levels that weren't searched in this way, and writes the files again.
-        Returns false after an interrupt."""
-        forms = [self.now.forms[level.number - 1] for level in self._unanswered()]
-        due = self.memory.outcomes.due(forms, way, self.options.seconds)
-        if not due or not seconds > 0:
-            return True
-        self.shown.keep(f"{texts.count(len(due), 'level')} "
-                        f"{'to search' if way == WAY else 'for the solver'}, at most "
-                        f"{self.options.seconds:g} s each, {seconds:.3g} s in all")
-        search = begin([form.level for form in due], Budget(seconds))
-        is_interrupted = False
+def settled(given: Given, found: Found, done: Optional[Done] = None) -> Done:
+    """Brings the files of NAME up to date with what was found. If somebody else wrote one of them
+    since it was read, all are read again."""
+    for _ in range(ROUNDS):
         try:
-            for result in search.results():
-                self._take(search, way, result)
-        except KeyboardInterrupt:
-            is_interrupted = True
-            for result in search.rest():
-                self._take(search, way, result)
-        left = len(due) - sum(search.counts.values())
-        if left:
-            self.shown.keep(f"{texts.count(left, 'level')} left: the next run goes on with them")
-        if search.answered():
-            self._audit(audits)
-        self.write()
-        return not is_interrupted
+            with own_files.alone(given.options.name, given.shown):
+                return _round(given, found, done)
+        except output.Changed as changed:
+            if done:
+                found.edited.update(done.merge.now.forms[number - 1].key
+                                    for number in done.merge.merged.edited)
+            why, done = changed, None
+            given.shown.keep(f"{changed}: reading again")
+    raise texts.Stop(f"{why}, again and again: the files are as they were")
 
-    def _take(self, search: Any, way: str, result: Any) -> None:
-        """Takes the result of a search or of a solver's run."""
-        search.report(result)
-        if result.what != solvers.FAILED:
-            form = self.now.forms[result.level.number - 1]
-            self.memory.outcomes.keep(form, way, result.what, result.seconds)
-        if result.record:
-            self.taken.add_computed(result.level.number, result.record)
 
-    def write(self) -> None:
-        """Writes the files."""
-        self.shown.show("writing")
-        listed = [self.text, self.written, self.printed]
-        remembered = self.memory._replace(
-            blocks=self.merged.blocks, is_ordered=self.merged.is_ordered,
-            computed=self.taken.computed())
-        self.left = self._left()
-        kept_text, kept_answers = self.left.files()
-        with Unbroken():
-            self.files.write({KEPT_XSB: kept_text, KEPT_ANSWERS: kept_answers, XSB: listed[0],
-                              ANSWERS: listed[1], REPORT: listed[2],
-                              PAGE: page_of(self.options.name, listed, self.program),
-                              MEMORY: memory.text(remembered)})
+def _round(given: Given, found: Found, done: Optional[Done]) -> Done:
+    """Goes through the stages, after the first ones if they were done, and writes the files."""
+    if done:
+        read, merge, taken = done[:3]
+    else:
+        read = stages.read(given, found)
+        merge = stages.merge(given, read)
+        taken = stages.take(given, read, merge)
+    audited = stages.audit(given, merge, taken, found)
+    made = Done(read, merge, taken, audited, stages.left(read, merge, taken))
+    write(given, found, made)
+    return made
 
-    def _left(self) -> kept.Kept:
-        """Returns what has no place in the collection."""
-        stored = [entry._replace(block=entry.block._replace(above=(), below=()))
-                  if at in self.merged.back else entry
-                  for at, entry in enumerate(self.stored.entries)
-                  if entry.record or at not in self.merged.back]
-        entries = self.taken.left(self.stored._replace(entries=stored))
-        for index, block in self.merged.away:
-            level = self.mine.state.levels[index]
-            entries.append(kept.Entry(kept.head_of(level.number, level.title), block))
-        return kept.Kept(entries, self.stored.rest)
 
-    def report(self) -> int:
-        """Prints the summary, and returns the status."""
-        problems = self.problems + [f"{texts.shown(source.file)} line {source.line}: {why}"
-                                    for source, why in self.picks.left_out()]
-        self.shown.clear()
-        for line in problems if len(problems) > summary.MOST_PROBLEMS else ():
-            self.shown.keep(line)
-        now = self.now._replace(lines=self.read.lines)
-        done = summary.Done(self.options.name, now, self._before(), problems,
-                            self.program.is_reference, self.merged.edited,
-                            self.left.reasons(now.forms))
-        for said in summary.lines(done):
-            print(said)
-        return int(bool(problems) or not all(line.is_answered for line in self.read.lines))
+def write(given: Given, found: Found, done: Done) -> None:
+    """Writes the files."""
+    given.shown.show("writing")
+    read, merge, taken, audited, left = done
+    read.memory.outcomes.join(found.outcomes)
+    remembered = read.memory._replace(
+        blocks=merge.merged.blocks, is_ordered=merge.merged.is_ordered, computed=taken.computed())
+    listed = [merge.text, audited.answers, audited.report]
+    kept_text, kept_answers = left.files()
+    with Unbroken():
+        read.files.write({KEPT_XSB: kept_text, KEPT_ANSWERS: kept_answers, XSB: listed[0],
+                          ANSWERS: listed[1], REPORT: listed[2],
+                          PAGE: page_of(given.options.name, listed, given.program),
+                          MEMORY: memory.text(remembered)})
+    found.has_backups = read.files.has_backups
 
-    def _before(self) -> Optional[changes.State]:
-        """Returns the former levels with the report on them, of a new audit if that isn't whole.
-        """
-        if XSB not in self.files.before:
-            return None
-        count = len(self.former.levels)
-        read = report.read(self.files.before.get(REPORT, b""))
-        if read.fault(count):
-            first = {record.level: carry.renumbered(record, record.level)
-                     for record in reversed(self.files.answers(ANSWERS, count).records)}
-            rows = b"\n".join(kept.spelled(level.rows) for level in self.former.levels)
-            with Audits(self.program, rows, count) as audits:
-                read = audits.audit(answers.text([first[level] for level in sorted(first)]))
-        return self.former._replace(lines=read.lines)
+
+# ---- the search
+
+class Way(NamedTuple):
+    """A way to search: its name in the memory, what is said of levels, the seconds in all, and a
+    function that begins the search of some levels within a budget."""
+
+    name: str
+    words: str
+    seconds: float
+    begin: Callable[[List[levels.Level], Budget], Any]
+
+
+def searched(given: Given, found: Found, done: Done) -> Done:
+    """Searches the levels that are left, and then runs the solver, within the time of the run. An
+    interrupt ends both."""
+    options, shown = given.options, given.shown
+    seconds, jobs, solver = options.seconds, options.jobs, options.solver
+    end = Budget(options.search)
+    done, goes_on = _searched(given, found, done, Way(
+        "find", "to search", options.search / (2 if solver else 1),
+        lambda due, budget: Search(shown, due, seconds, jobs, budget)))
+    if solver and goes_on:
+        done, _ = _searched(given, found, done, Way(
+            f"solver {solver}", "for the solver", end.seconds_left(), lambda due, budget:
+            Solving(shown, due, solvers.Limits(solver, seconds, jobs, budget), options.verbose)))
+    return done
+
+
+def _searched(given: Given, found: Found, done: Done, way: Way) -> Tuple[Done, bool]:
+    """Searches the levels that weren't searched in this way, and writes the files again. Returns
+    false after an interrupt."""
+    shown, most = given.shown, given.options.seconds
+    known = done.read.memory.outcomes
+    due = known.due(done.audited.unanswered(done.merge.now), way.name, most)
+    if not due or not way.seconds > 0:
+        return done, True
+    shown.keep(f"{texts.count(len(due), 'level')} {way.words}, at most {most:g} s each, "
+               f"{way.seconds:.3g} s in all")
+    search = way.begin([form.level for form in due], Budget(way.seconds))
+    forms = {form.level.number: form for form in due}
+
+    def take(results: Iterable[Any]) -> None:
+        for result in results:
+            search.report(result)
+            form = forms[result.level.number]
+            if result.what != solvers.FAILED:
+                found.outcomes.keep(form, way.name, result.what, result.seconds)
+            if result.record:
+                found.add(form, answers.read(answers.text([result.record])).records[0])
+
+    is_interrupted = False
+    try:
+        take(search.results())
+    except KeyboardInterrupt:
+        is_interrupted = True
+        take(search.rest())
+    left = len(due) - sum(search.counts.values())
+    if left:
+        shown.keep(f"{texts.count(left, 'level')} left: the next run goes on with them")
+    return settled(given, found, done), not is_interrupted
+
+
+# ---- the summary
+
+def report(given: Given, found: Found, done: Done) -> int:
+    """Prints the summary, and returns the status."""
+    read, merge, taken, audited, left = done
+    places = {at: number for number, at in enumerate(merge.merged.exports, 1)}
+    problems = [place + _LEVEL.sub(lambda it: f"level {places[int(it[1]) - 1]}", why)
+                for place, why in given.exports.problems]
+    problems += [f"{texts.shown(source.file)} line {source.line}: {why}"
+                 for source, why in taken.picks.left_out()]
+    given.shown.clear()
+    for line in problems if len(problems) > summary.MOST_PROBLEMS else ():
+        given.shown.keep(line)
+    lines = audited.read.lines
+    edited = [number for number, form in enumerate(merge.now.forms, 1)
+              if number in merge.merged.edited or form.key in found.edited]
+    for said in summary.lines(summary.Done(
+            given.options.name, merge.now._replace(lines=lines), found.before, problems,
+            given.program.is_reference, edited, left.reasons(merge.now.forms))):
+        print(said)
+    return int(bool(problems) or not all(line.is_answered for line in lines))
 
 
 def page_of(name: str, files: List[bytes], program: auditor.Auditor) -> bytes:

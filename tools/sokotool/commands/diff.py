@@ -5,7 +5,7 @@ A line has the kind of the change, the level, and what is new. With --json each 
 on a line of its own. The status is 1 if something changed."""
 import argparse
 import json
-from typing import Dict, Iterator, List, Sequence
+from typing import Iterator, Sequence
 
 from .. import boards, changes, levels, report, texts
 
@@ -43,25 +43,10 @@ def _object(change: changes.Change) -> str:
 
 def lines(found: Sequence[changes.Change]) -> Iterator[str]:
     """Yields changes as lines. Consecutive levels that were renumbered alike share a line."""
-    for several in runs(found):
+    for several in changes.runs(found):
         first, last = several[0], several[-1]
         if len(several) > 1:
             yield f"renumbered levels {first.number}-{last.number}: formerly {first.was}-{last.was}"
         else:
             title = "\t" + first.title if first.title else ""
             yield f"{first.kind} level {first.number}: {first.words}{title}"
-
-
-def runs(found: Sequence[changes.Change]) -> List[List[changes.Change]]:
-    """Returns changes in runs: consecutive levels that were renumbered alike are one run."""
-    runs: List[List[changes.Change]] = []
-    last: Dict[str, List[changes.Change]] = {}
-    for change in found:
-        run = last.get(change.kind)
-        if run and change.kind == "renumbered" and (change.number, change.was) == (
-                run[-1].number + 1, run[-1].was + 1):
-            run.append(change)
-        else:
-            runs.append([change])
-            last[change.kind] = runs[-1]
-    return runs

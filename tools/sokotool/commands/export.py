@@ -59,11 +59,8 @@ class Found(NamedTuple):
 
 def solutions_of(name: str, found: List[levels.Level]) -> Found:
     """Returns the solutions in an answers file that solve their levels, if there is such a file."""
-    try:
-        data = texts.read(name) if os.path.exists(name) else answers.text([])
-        records = answers.read(data, len(found), rising=False).records
-    except answers.Fault as fault:
-        raise texts.Stop(f"{texts.shown(name)} line {fault.line}: {fault.why}") from None
+    data = texts.read(name) if os.path.exists(name) else answers.text([])
+    records = answers.read_text(name, data, len(found), rising=False).records
     solutions, faults = {}, []
     for record in records:
         if record.kind != "solution":

@@ -8,7 +8,6 @@ If a file isn't an answers file, its first wrong line is reported and nothing is
 from typing import Dict
 
 from .. import answers, levels, output, texts
-from . import carry
 
 
 def arguments(parser):
@@ -27,6 +26,6 @@ def run(options) -> int:
         version = max(version, found.version)
         for record in found.records:
             kept.setdefault(record.level, record)
-    records = [carry.renumbered(record, level) for level, record in sorted(kept.items())]
+    records = [record.numbered(level).text for level, record in sorted(kept.items())]
     output.put(answers.text(records, version))
     return 0

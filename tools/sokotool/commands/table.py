@@ -18,7 +18,7 @@ from collections import Counter
 from typing import Callable, Dict, List, NamedTuple, Sequence, Tuple
 
 from .. import answers, auditor, levels, output, report, texts
-from . import carry, page
+from . import page
 from .find import above_zero
 
 SECONDS, MEGABYTES = 60, 1000
@@ -190,7 +190,7 @@ class Entries:
             first = 2 + sum(text.count(b"\n") for text in self._records) + len(record.above)
             said = " ".join(self._moved(line.words, first - record.line))
             self._lines.append(report.Line(number, line.status, said.split(), ""))
-            self._records.append(carry.renumbered(record, number))
+            self._records.append(record.numbered(number).text)
 
     @staticmethod
     def _moved(words: Sequence[str], by: int) -> List[str]:

@@ -4,18 +4,8 @@ with this board, where that begins, and how the first is turned into the later.
 
 The status is 1 if something is printed."""
 import argparse
-from typing import Dict, List, NamedTuple, Sequence, Tuple
 
 from .. import boards, levels, texts
-
-
-class Twin(NamedTuple):
-    """A level, the first one that has its board, and how the first is turned into it. Both are
-    indices in the list of levels, from 0."""
-
-    later: int
-    first: int
-    turn: boards.Turn
 
 
 def arguments(parser: argparse.ArgumentParser) -> None:
@@ -32,19 +22,8 @@ def run(options: argparse.Namespace) -> int:
         if not several:
             raise texts.Stop(f"{texts.shown(name)} has no level")
         found += [(texts.shown(name), level) for level in several]
-    twins = twins_of(boards.forms_of(level for _, level in found))
+    twins = boards.twins_of(boards.forms_of(level for _, level in found))
     for later, first, turn in twins:
         print(*(f"level {level.number}\t{name}:{level.line}"
                 for name, level in (found[later], found[first])), turn.words, sep="\t")
     return int(bool(twins))
-
-
-def twins_of(forms: Sequence[boards.Form]) -> List[Twin]:
-    """Returns each form that equals an earlier one, with the first one. Walls alone don't count."""
-    first: Dict[Tuple[str, int, bytes], int] = {}
-    found = []
-    for later, form in enumerate(forms):
-        earlier = first.setdefault(form.key, later)
-        if earlier != later and form.kind != boards.WALLS:
-            found.append(Twin(later, earlier, forms[earlier].turn_to(form)))
-    return found
