@@ -1,8 +1,7 @@
 //! Lists of patterns, made ready for lookups.
 ghost use Rattle.std.specs.Prelude.{◌≡◌, IsTrue, map};
 ghost use Rattle.answers.specs.Grammar.{said_pattern};
-ghost use Rattle.closure.specs.Pattern.{patterns_of};
-ghost use Rattle.closure.specs.Closed.{AreLawful};
+ghost use Rattle.patterns.specs.Pattern.{AreLawful, patterns_of};
 
 use crate::shown;
 use answers::Pattern;

@@ -3,35 +3,14 @@
 -- out, whose result the list covers. So the list covers every state that a play reaches. A state that is covered
 -- has a box off the goals, so none of these is solved.
 use Rattle.std.proofs.Common.{List, [], ◌∷◌, sym, subst, inl, inr, refl}
-use Rattle.std.specs.FinSet as set
-use Rattle.cellset.specs.{Cell.neighbor, CellSet.Cells, CellSet.Has, CellSet.Lacks, declared.cell.Cell.Cell, declared.dir.Dir.Dir}
-use Rattle.cellset.proofs.Members.{has_or_lacks, not_both, inserted, kept_by_insert, has_insert, kept_by_remove, has_remove}
+use Rattle.cellset.specs.{Cell.neighbor, declared.dir.Dir.Dir}
+use Rattle.cellset.proofs.Members.{has_or_lacks, not_both}
 use Rattle.reach.specs.{Region.beside, Pushes.push_by}
-use Rattle.board.specs.Game.{Level, State, moved, start, Steps, Walks, Pushes, Plays, IsSolved, Solvable}
+use Rattle.board.specs.Game.{Level, State, start, Steps, Walks, Pushes, Plays, IsSolved, Solvable}
 use Rattle.board.specs.Board.{IsWellFormed}
-use Rattle.closure.specs.{Pattern.Pattern, Pattern.IsCovered, Pattern.PushesOut, Closed.Closed}
-use Rattle.closure.proofs.Moves.{AreOnFloor, moved_on_floor}
-
-abbrev IsWithin : Cells → Cells → Type 0
-IsWithin few many = (c : Cell) → Has few c → Has many c
-
-pub lacks_within : (few many : Cells) (c : Cell) → IsWithin few many → Lacks many c → Lacks few c
-lacks_within few many c within lacks = has_or_lacks few c (λ has. not_both many c (within c has) lacks) (λ l. l)
-
--- If one push changes two sets, the first stays within the second.
-moved_within : (few many : Cells) (from to : Cell) → IsWithin few many → IsWithin (moved few from to) (moved many from to)
-moved_within few many from to within c h =
-    elim (has_insert (set.remove few from) to c h) [
-      | inl e ↦ rw e (inserted (set.remove many from) to)
-      | inr rest ↦
-          let old = has_remove few from c rest in
-          kept_by_insert (set.remove many from) to c (kept_by_remove many from c old.0 (within c old.1))
-    ]
-
--- If a push changes the larger of two sets by a box that the smaller one lacks, the smaller one stays within it.
-pub moved_beside : (few many : Cells) (from to : Cell) → Lacks few from → IsWithin few many → IsWithin few (moved many from to)
-moved_beside few many from to lacks within c has =
-    kept_by_insert (set.remove many from) to c (kept_by_remove many from c (λ e. not_both few from (rw e at has) lacks) (within c has))
+use Rattle.patterns.specs.Pattern.{Pattern, IsCovered, PushesOut}
+use Rattle.closure.specs.Closed.{Closed}
+use Rattle.patterns.proofs.Moves.{AreOnFloor, lacks_within, moved_beside, moved_on_floor, moved_within}
 
 module _ (level : Level) (patterns : List Pattern) (closed : Closed level patterns) where
   walk_covered : (s : State) (d : Dir) (t : State) → IsCovered level patterns s → Walks level s d t → IsCovered level patterns t

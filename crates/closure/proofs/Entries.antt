@@ -5,7 +5,7 @@ use Rattle.std.proofs.Common.{◌≡◌, ℕ, zero, suc, ◌+◌, ◌<◌, List,
 use Rattle.std.{specs.Prelude.◌↔◌, specs.List.All, specs.List.AllZip, specs.List.Contains, proofs.lemmas.List.take_more}
 use Rattle.std.proofs.lemmas.List.Elements.{All-cons, Contains-append_right}
 use Rattle.board.specs.Game.{Level, State}
-use Rattle.closure.specs.Pattern.{Pattern, Covers, IsCovered}
+use Rattle.patterns.specs.Pattern.{Pattern, Covers, IsCovered}
 use Rattle.closure.specs.Scan.{EntryCells, EntryCovers, EntriesCover, IsEntryOf}
 
 -- An element of a list is its first one or one of the rest.

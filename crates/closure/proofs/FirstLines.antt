@@ -1,26 +1,18 @@
 -- The first line at fault. A loop over the lines stops at a line at fault, and the lines before it were fine: so the list is the fine
 -- lines, then this one, then the rest. A list with a first fault is not closed.
-use Rattle.std.proofs.Common.{◌≡◌, ◌≢◌, ◌⊎◌, ℕ, suc, ◌+◌, ◌≤◌, ◌<◌, List, ◌∷◌, ◌++◌, length, get_or, take, drop, refl, sym, ◌∙◌, ap, subst, inl, inr, arith}
+use Rattle.std.proofs.Common.{◌≡◌, ◌≢◌, ◌⊎◌, ℕ, suc, ◌<◌, List, ◌∷◌, ◌++◌, length, get_or, take, drop, refl, sym, ◌∙◌, ap, inl, inr, arith}
 use Rattle.std.specs.{Prelude.Result, Prelude.Ok, Prelude.Err, Prelude.IfOk, Prelude.IfErr, Prelude.OnOk, Prelude.IsOkUnless, List.Contains}
-use Rattle.std.proofs.{lemmas.Bool.cases_lt, Math.Seq.drop-cons}
+use Rattle.std.proofs.Math.Seq.{drop-cons}
 use Rattle.std.proofs.lemmas.List.{get_or-map, get_or-take, length-take-le, take-append-drop}
 use Rattle.cellset.proofs.{Members.not_both, Truth.either}
 use Rattle.board.specs.{Game.Level}
 use Rattle.answers.specs.Body.{PatternLine}
 use Rattle.closure.specs.declared.fault.LineWhy.{LineWhy, TheVariants.Board, TheVariants.Wall, TheVariants.Seed, TheVariants.Goals}
 use Rattle.closure.specs.declared.fault.CheckFault.{CheckFault, TheVariants.Line, TheVariants.Start, TheVariants.Push, TheVariants.Memory}
-use Rattle.closure.specs.{Pattern.Pattern, Pattern.pattern_of, Pattern.patterns_of, Closed.IsLawful, Closed.Closed}
-use Rattle.closure.{specs.FirstFault.IsUnlawful, specs.FirstFault.IsFirstFaultyLine, specs.FirstFault.IsFirstPatternFault, proofs.CellLists.at_any}
-use Rattle.closure.proofs.{Lists.mapped, Lists.middle}
-
--- What holds of each pattern by its number holds of each pattern of the list.
-pub each_pattern : (P : Pattern → Type 0) (patterns : List Pattern) (n : ℕ) (d : Pattern) → length patterns ≤ n → ((j : ℕ) → j < n → P (get_or patterns j d))
-    → (pattern : Pattern) → Contains patterns pattern → P pattern
-each_pattern P patterns n d past each pattern (k, lt, is) = subst P (at_any patterns k d pattern lt ∙ is) (each k (omega arith))
-
--- What holds of the first numbers and of the next one holds of one number more.
-pub one_more : (P : ℕ → Type 0) (n : ℕ) → ((j : ℕ) → j < n → P j) → P n → (j : ℕ) → j < n + 1 → P j
-one_more P n each here j lt = grind (arith, cases_lt)
+use Rattle.patterns.specs.Pattern.{Pattern, pattern_of, patterns_of, IsLawful}
+use Rattle.closure.specs.Closed.{Closed}
+use Rattle.closure.specs.FirstFault.{IsUnlawful, IsFirstFaultyLine, IsFirstPatternFault}
+use Rattle.patterns.proofs.Lists.{mapped, middle}
 
 -- A line at fault, with fine lines before it, is the first line at fault.
 pub first_line : (IsFine IsFaulty : Pattern → Type 0) (lines : List PatternLine) (i : ℕ) (p : Pattern) (d : PatternLine) → i < length lines

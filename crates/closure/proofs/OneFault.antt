@@ -14,8 +14,8 @@ use Rattle.closure.specs.declared.fault.CheckFault.{CheckFault, TheVariants.Line
 use Rattle.closure.specs.{declared.fault.ZoneLineWhy.ZoneLineWhy, declared.fault.ZoneFault.ZoneFault, Zone.IsZoneOnBoard, Zone.IsZoneOffWalls, Zone.IsRefuting}
 use Rattle.closure.specs.declared.fault.ZoneLineWhy.TheVariants as zone_why
 use Rattle.closure.specs.declared.fault.ZoneFault.TheVariants as zone_fault
-use Rattle.closure.{specs.Pattern.Pattern, specs.Pattern.pattern_of, specs.Pattern.patterns_of, specs.Pattern.cells_of, proofs.Lists.middle}
-use Rattle.closure.specs.Closed.{IsOnBoard, IsOffWalls, HasFairSeeds, IsLawful, AreLawful, CoversPushesOf}
+use Rattle.patterns.{specs.Pattern.Pattern, specs.Pattern.pattern_of, specs.Pattern.patterns_of, specs.Pattern.cells_of, proofs.Lists.middle}
+use Rattle.patterns.specs.Pattern.{IsOnBoard, IsOffWalls, HasFairSeeds, IsLawful, AreLawful, CoversPushesOf}
 use Rattle.closure.specs.FirstFault.{IsUnlawful, IsFirstFaultyLine, HasFirstUncovered, IsFirstPatternFault, IsUnlawfulZone, IsFirstLeak, IsFirstZoneFault}
 use Rattle.closure.proofs.FirstLines.{unlawful_not, line_listed}
 

@@ -5,8 +5,10 @@ use Rattle.std.{specs.Prelude.MatchOption, specs.Prelude.Option, specs.Prelude.N
 use Rattle.std.proofs.lemmas.List.{map_push, Elements.Contains-push_cases}
 use Rattle.board.specs.Game.{Level}
 use Rattle.answers.specs.Body.{PatternLine}
-use Rattle.closure.specs.{Pattern.pattern_of, Pattern.patterns_of, Closed.AreLawful, Closed.IsLawful, FirstFault.IsFirstPatternFault, FirstFault.IsUnlawful}
-use Rattle.closure.{specs.declared.fault.LineWhy.LineWhy, specs.declared.fault.CheckFault.TheVariants.Line, proofs.Lists.mapped}
+use Rattle.patterns.specs.Pattern.{pattern_of, patterns_of, AreLawful, IsLawful}
+use Rattle.closure.specs.FirstFault.{IsFirstPatternFault, IsUnlawful}
+use Rattle.patterns.proofs.Lists.{mapped}
+use Rattle.closure.specs.declared.fault.{LineWhy.LineWhy, CheckFault.TheVariants.Line}
 
 -- What a list says of the lines that were added to it (`IsListOf`): it has them, and they are lawful, or the first fault is theirs.
 abbrev AreAdded : Level → List PatternLine → List PatternLine → Option (ℕ × LineWhy) → Type 0

@@ -16,9 +16,10 @@ use Rattle.closure.specs.declared.fault.CheckFault.{CheckFault, TheVariants.Line
 use Rattle.closure.specs.declared.fault.{ZoneLineWhy.ZoneLineWhy, ZoneFault.ZoneFault}
 use Rattle.closure.specs.declared.fault.ZoneLineWhy.TheVariants as zone_why
 use Rattle.closure.specs.declared.fault.ZoneFault.TheVariants as zone_fault
-use Rattle.closure.specs.Pattern.{Pattern, cells_of, pattern_of, patterns_of, IsCovered, PushesOut, after_push}
+use Rattle.patterns.specs.Pattern.{Pattern, cells_of, pattern_of, patterns_of, IsCovered, PushesOut, after_push}
 use Rattle.closure.specs.Zone.{count_in, Leaks, IsClosedZone, IsZoneOnBoard, IsZoneOffWalls, IsRefuting}
-use Rattle.closure.specs.Closed.{IsListedSeed, IsOnBoard, IsOffWalls, HasFairSeeds, IsLawful, AreLawful, Closed, CoversPushesOf}
+use Rattle.patterns.specs.Pattern.{IsListedSeed, IsOnBoard, IsOffWalls, HasFairSeeds, IsLawful, AreLawful, CoversPushesOf}
+use Rattle.closure.specs.Closed.{Closed}
 
 -- the pattern isn't lawful, and this is the first reason
 abbrev pub IsUnlawful : Level → Pattern → LineWhy → Type 0

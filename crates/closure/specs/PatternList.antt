@@ -1,7 +1,8 @@
 -- A list to which patterns are added one after another.
 use Rattle.std.specs.Prelude.{◌≡◌, List, MatchOption}
 use Rattle.answers.specs.Body.{PatternLine}
-use Rattle.closure.specs.{Pattern.patterns_of, Closed.AreLawful, FirstFault.IsFirstPatternFault, Arena.lines_in, declared.fault.CheckFault.TheVariants.Line}
+use Rattle.patterns.specs.{Pattern.patterns_of, Pattern.AreLawful, Arena.lines_in}
+use Rattle.closure.specs.{FirstFault.IsFirstPatternFault, declared.fault.CheckFault.TheVariants.Line}
 use Rattle.closure.specs.declared.pattern_list.PatternList.{PatternList}
 
 -- These lines were added to the list: it has them if they are lawful, and otherwise the first one that isn't.

@@ -4,7 +4,7 @@ use Rattle.std.specs.{Prelude.◌≡◌, Prelude.◌↔◌, Prelude.ℕ, Prelude
 use Rattle.std.specs.Coded.{Coded, code_by, coded×, coded_ℕ, coded_list, coded_option}
 use Rattle.cellset.specs.{Shape.Extent, Coding.coded_cell, Coding.coded_cells, CellSet.Cells, CellSet.Has, CellSet.Lacks, declared.cell.Cell.Cell}
 use Rattle.board.specs.Game.{Level, State}
-use Rattle.closure.specs.{Pattern.Pattern, Pattern.InPatternRegion, Sides.cells_in}
+use Rattle.patterns.specs.{Pattern.Pattern, Pattern.InPatternRegion, Sides.cells_in}
 
 -- an entry with its grid
 pub record EntryCells : Type 0 where

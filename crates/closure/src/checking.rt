@@ -3,21 +3,21 @@ ghost use Rattle.std.specs.Prelude.{◌≡◌, ◌≢◌, ◌<◌, ◌↔◌, �
 ghost use Rattle.std.specs.List.{Contains};
 ghost use Rattle.cellset.specs.{Cell.IsOn, Cell.neighbor, CellSet.Has, CellSet.Lacks, declared.cell.Cell.Cell as GridCell, declared.dir.Dir.Dir as GridDir};
 ghost use Rattle.board.specs.Game.{IsFloor, start};
-ghost use Rattle.closure.specs.{Pattern.Pattern as PatternSet, Pattern.IsCovered, Closed.AreLawful, Closed.CoversPushesOf, Closed.Closed, GroupPushes.AreNoted, GroupPushes.IsLoaded, GroupPushes.IsReady};
-ghost use Rattle.closure.specs.{FirstFault.IsFirstPatternFault, Arena.lines_in, Arena.list_in, Run.state_after, Run.AllLead, Run.IsFirstAstray, Groups.boxes_of, Groups.list_of, Sides.cells_in};
-ghost use Rattle.closure.specs.Tables.{AreTables};
+ghost use Rattle.patterns.specs.Pattern.{Pattern as PatternSet, IsCovered, AreLawful};
+ghost use Rattle.patterns.specs.{Pattern.CoversPushesOf, GroupPushes.AreNoted, GroupPushes.IsLoaded, GroupPushes.IsReady};
+ghost use Rattle.closure.specs.Closed.{Closed};
+ghost use Rattle.patterns.specs.{Arena.lines_in, Arena.list_in, Run.state_after, Run.AllLead};
+ghost use Rattle.patterns.specs.{Run.IsFirstAstray, Groups.boxes_of, Groups.list_of, Sides.cells_in};
+ghost use Rattle.closure.specs.FirstFault.{IsFirstPatternFault};
+ghost use Rattle.patterns.specs.Tables.{AreTables};
 
-use crate::arena::Arena;
-use crate::cells::are_in;
 use crate::fault::CheckFault;
-use crate::lookup::is_any_covering;
-use crate::push_lookups::{PushScratch, note_found};
-use crate::pushes::note_hinted;
 use crate::region::Finder;
-use crate::tables::Tables;
-use crate::trap::find_trap;
 use board::Board;
 use cellset::{Cell, CellSet, Dir, MembersOf, Shape};
+use patterns::{
+    Arena, PushScratch, Tables, are_in, find_trap, is_any_covering, note_found, note_hinted,
+};
 use reach::{Push, Pushes, Rows};
 use std::alloc::{AllocError, Global};
 use std::marker::Model;
@@ -194,7 +194,7 @@ fn load_group<S: CellSet>(
 }
 
 impl<S: CellSet> Trial<S> {
-    ghost use Rattle.closure.specs.Arena.{boxes_at, pattern_at};
+    ghost use Rattle.patterns.specs.Arena.{boxes_at, pattern_at};
     ghost use Rattle.closure.specs.FirstFault.{IsFirstUncovered};
 
     // Returns a trial for boards of this shape.

@@ -2,15 +2,13 @@
 ghost use Rattle.std.specs.Prelude.{◌≡◌, ◌↔◌, IfOk, map};
 ghost use Rattle.board.specs.Game.{State};
 ghost use Rattle.answers.specs.Grammar.{said_pattern};
-ghost use Rattle.closure.specs.{Pattern.patterns_of, Pattern.IsCovered, Closed.AreLawful};
+ghost use Rattle.patterns.specs.Pattern.{patterns_of, IsCovered, AreLawful};
 
-use crate::cell_patterns::arena_of;
 use crate::coverage::Coverage;
-use crate::lookup::{Scratch, is_any_covering};
-use crate::tables::Tables;
 use answers::Pattern;
 use board::Board;
 use cellset::{Cell, CellSet};
+use patterns::{Scratch, Tables, arena_of, is_any_covering};
 use reach::Rows;
 use std::alloc::{AllocError, Global};
 use std::marker::Model;
@@ -24,8 +22,8 @@ pub struct Index<'a, S: CellSet> {
 
 impl<'a, S: CellSet> Model for Index<'a, S> {
     ghost use Rattle.closure.specs.Index.{Listed, coded_listed};
-    ghost use Rattle.closure.specs.Arena.{lines_in};
-    ghost use Rattle.closure.specs.Tables.{AreFilled, IsRoomy};
+    ghost use Rattle.patterns.specs.Arena.{lines_in};
+    ghost use Rattle.patterns.specs.Tables.{AreFilled, IsRoomy};
 
     ghost Value = { Listed };
 

@@ -1,17 +1,17 @@
 //! Which patterns may be in a list.
 ghost use Rattle.std.specs.Prelude.{IfOk, MatchBool, MatchOption};
 ghost use Rattle.cellset.specs.{Cell.IsOn, CellSet.Has, CellSet.Lacks, declared.cell.Cell.Cell as GridCell};
-ghost use Rattle.closure.specs.{Closed.IsLawful, FirstFault.IsUnlawful, Arena.IsOnGrid, Arena.IsStored, Arena.stored_pattern, Sides.cells_in};
+ghost use Rattle.patterns.specs.{Pattern.IsLawful, Arena.IsOnGrid, Arena.IsStored, Arena.stored_pattern, Sides.cells_in};
+ghost use Rattle.closure.specs.FirstFault.{IsUnlawful};
 
-use crate::arena::{Arena, StoredLine, part};
-use crate::cells::{are_in, are_outside, load, number_of};
 use crate::fault::LineWhy;
 use board::Board;
 use cellset::{Cell, CellSet, Shape};
+use patterns::{Arena, StoredLine, are_in, are_outside, load, number_of, part};
 use std::alloc::{AllocError, Global};
 
 // Returns whether no seed is one of the boxes.
-#[tactic(auto, using(crate::proofs::CellLists::over_cells))]
+#[tactic(auto, using(patterns::proofs::CellLists::over_cells))]
 fn are_unnamed(seeds: &[Cell], boxes: &[Cell]) -> bool
     ensures { MatchBool result
         ((c : GridCell) → Has (cells_in seeds.now) c → Lacks (cells_in boxes.now) c)

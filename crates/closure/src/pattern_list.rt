@@ -2,16 +2,17 @@
 ghost use Rattle.std.specs.Prelude.{◌≡◌, ◌≢◌, ◌⊎◌, ◌++◌, ◌∷◌, [], IfOk, IfErr, OnOk, IsOkUnless, MatchOption, length, map};
 ghost use Rattle.board.specs.Game.{Solvable};
 ghost use Rattle.answers.specs.Grammar.{said_pattern};
-ghost use Rattle.closure.specs.{Pattern.pattern_of, Pattern.patterns_of, Closed.AreLawful, Closed.Closed, Closed.IsLawful, Arena.lines_in, Arena.list_in};
+ghost use Rattle.patterns.specs.{Pattern.pattern_of, Pattern.patterns_of, Pattern.AreLawful, Pattern.IsLawful, Arena.lines_in, Arena.list_in};
+ghost use Rattle.closure.specs.Closed.{Closed};
 ghost use Rattle.closure.specs.{FirstFault.IsFirstPatternFault, FirstFault.IsUnlawful, declared.fault.CheckFault.CheckFault as Fault};
 
-use crate::arena::Arena;
 use crate::checking::check_lawful;
 use crate::fault::{CheckFault, LineWhy};
 use crate::lawful::why_unlawful;
 use answers::Pattern;
 use board::Board;
 use cellset::CellSet;
+use patterns::Arena;
 use std::alloc::{AllocError, Global};
 
 /// An accepted list: the number of its patterns.

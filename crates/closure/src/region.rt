@@ -1,12 +1,11 @@
 //! The regions of patterns.
 ghost use Rattle.std.specs.Prelude.{◌≡◌, ◌↔◌, IfOk};
 ghost use Rattle.cellset.specs.{CellSet.Has, declared.cell.Cell.Cell as GridCell};
-ghost use Rattle.closure.specs.{Pattern.InPatternRegion, Closed.IsLawful, Arena.pattern_in, Sides.cells_in};
+ghost use Rattle.patterns.specs.{Pattern.InPatternRegion, Pattern.IsLawful, Arena.pattern_in, Sides.cells_in};
 
-use crate::cell_patterns::CellPattern;
-use crate::cells::{load, take_out};
 use board::Board;
 use cellset::{CellSet, Shape};
+use patterns::{CellPattern, load, take_out};
 use reach::Flooder;
 use std::alloc::{AllocError, Global};
 

@@ -3,17 +3,15 @@ ghost use Rattle.std.specs.{Prelude.◌≡◌, Prelude.◌↔◌, Prelude.IsTrue
 ghost use Rattle.cellset.specs.Cell.{IsOn};
 ghost use Rattle.board.specs.Game.{State};
 ghost use Rattle.answers.specs.Grammar.{said_pattern};
-ghost use Rattle.closure.specs.{Arena.list_in, Arena.pattern_in, Pattern.patterns_of, Pattern.IsCovered, Closed.IsLawful, Closed.AreLawful};
+ghost use Rattle.patterns.specs.{Arena.list_in, Arena.pattern_in, Pattern.patterns_of, Pattern.IsCovered, Pattern.IsLawful, Pattern.AreLawful};
 ghost use Rattle.closure.specs.Scan.{EntriesCover, IsEntryOf};
 
-use crate::arena::Arena;
-use crate::cell_patterns::{CellPattern, arena_of};
-use crate::cells::{are_in, is_among};
 use crate::coverage::Coverage;
 use crate::region::Finder;
 use answers::Pattern;
 use board::Board;
 use cellset::{Cell, CellSet, Shape};
+use patterns::{Arena, CellPattern, are_in, arena_of, is_among};
 use std::alloc::{AllocError, Global};
 use std::marker::Model;
 

@@ -18,10 +18,10 @@ use Rattle.board.specs.Game.{Level, State, IsFloor, start}
 use Rattle.board.specs.Board.{IsWellFormed}
 use Rattle.answers.specs.declared.pattern.Coord.{Coord}
 use Rattle.answers.specs.Body.{PatternLine}
-use Rattle.closure.specs.Pattern.{Pattern, whole_room, cell_of, pattern_of, patterns_of, Covers, IsCovered, PushesOut, after_push}
-use Rattle.closure.specs.Closed.{IsLawful, CoversPushesOf, Closed}
-use Rattle.closure.proofs.CellLists.{of_cells}
-use Rattle.closure.proofs.Regions.{room_outside}
+use Rattle.patterns.specs.Pattern.{Pattern, whole_room, cell_of, pattern_of, patterns_of, Covers, IsCovered, PushesOut, after_push, IsLawful, CoversPushesOf}
+use Rattle.closure.specs.Closed.{Closed}
+use Rattle.patterns.proofs.CellLists.{of_cells}
+use Rattle.patterns.proofs.RegionCells.{room_outside}
 use Rattle.maker.specs.Dead.{IsRelaxedPush, at_goal, pushed, AreDead}
 use Rattle.maker.specs.Frozen.{IsFrozen, IsLargestFrozen}
 use Rattle.maker.specs.Made.{IsListOf, lone_patterns, IsMadeOfDead, IsMadeOfFrozen, HasDeadBox}

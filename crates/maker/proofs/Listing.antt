@@ -21,8 +21,8 @@ use Rattle.cellset.specs.Members.{AreMembersOf}
 use Rattle.answers.specs.declared.pattern.Coord.{Coord}
 use Rattle.answers.specs.declared.pattern.Pattern.{Pattern}
 use Rattle.answers.specs.Grammar.{IsCell, IsCellList, IsBefore, AreInOrder, said_pattern}
-use Rattle.closure.specs.Pattern.{cell_of, cells_of}
-use Rattle.closure.proofs.CellLists.{in_cells, in_list, of_list}
+use Rattle.patterns.specs.Pattern.{cell_of, cells_of}
+use Rattle.patterns.proofs.CellLists.{in_cells, in_list, of_list}
 use Rattle.maker.specs.Made.{made_pattern, lone_patterns}
 
 -- Each coordinate of a list belongs to a cell of its set.

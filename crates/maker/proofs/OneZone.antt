@@ -15,8 +15,8 @@ use Rattle.cellset.proofs.Truth.{and_parts, not_true}
 use Rattle.board.specs.Game.{Level, IsFloor}
 use Rattle.board.specs.Board.{IsWellFormed}
 use Rattle.closure.specs.Zone.{count_in, IsRefuting}
-use Rattle.closure.proofs.Counts.{len-within}
-use Rattle.closure.proofs.Sets.{has_intersection, in_intersection}
+use Rattle.patterns.proofs.Counts.{len-within}
+use Rattle.patterns.proofs.Sets.{has_intersection, in_intersection}
 use Rattle.maker.specs.Zones.{IsCrowded, IsLeastZone}
 use Rattle.maker.proofs.Pairings.{count_within}
 

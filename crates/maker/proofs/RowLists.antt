@@ -20,9 +20,9 @@ use Rattle.cellset.proofs.Members.{inserted, kept_by_insert, has_insert, has_emp
 use Rattle.cellset.proofs.Truth.{either}
 use Rattle.cellset.proofs.WordLoops.{count_starts, count_word}
 use Rattle.answers.specs.declared.pattern.Coord.{Coord}
-use Rattle.closure.specs.Pattern.{cell_of, cells_of}
-use Rattle.closure.proofs.CellLists.{cells_push}
-use Rattle.closure.proofs.Counts.{len-insert_new, len-within}
+use Rattle.patterns.specs.Pattern.{cell_of, cells_of}
+use Rattle.patterns.proofs.CellLists.{cells_push}
+use Rattle.patterns.proofs.Counts.{len-insert_new, len-within}
 use Rattle.reach.specs.Bits.{Bit}
 use Rattle.reach.proofs.Words.{bit_and_l, bit_cleared, bit_not_cleared, bit_of, le_by_bits, less_by_bit, no_bit_zero, not_both}
 use Rattle.maker.specs.Listed.{IsEarlier, IsListedTo}

@@ -15,7 +15,7 @@ use Rattle.cellset.specs.declared.dir.Dir.{Dir}
 use Rattle.cellset.specs.declared.dir.Dir.TheVariants.{L, U, R, D}
 use Rattle.std.proofs.lemmas.Bool.{cases_lt, false≢true}
 use Rattle.cellset.proofs.Members.{has_or_lacks, not_both, same, same_itself, same_or_other, kept_by_remove, has_remove}
-use Rattle.closure.proofs.Counts.{len-remove_member}
+use Rattle.patterns.proofs.Counts.{len-remove_member}
 use Rattle.reach.specs.Pushes.{dir_rank}
 use Rattle.board.specs.Game.{Level}
 use Rattle.board.specs.Board.{IsWellFormed}

@@ -13,5 +13,5 @@ pub use Rattle.board.specs.Board
 pub use Rattle.answers.specs.Body
 pub use Rattle.answers.specs.Grammar
 pub use Rattle.answers.specs.RoundTrip
-pub use Rattle.closure.specs.Pattern
+pub use Rattle.patterns.specs.Pattern
 pub use Rattle.closure.specs.Closed

@@ -20,8 +20,8 @@ use Rattle.answers.specs.Grammar.{AreInOrder, IsBefore, pattern_text, said_patte
 use Rattle.answers.specs.declared.pattern.Coord.{Coord}
 use Rattle.answers.specs.declared.record.MadeBody.{MadeBody}
 use Rattle.answers.specs.declared.record.MadeRecord.{MadeRecord}
-use Rattle.closure.specs.Pattern.{cell_of}
-use Rattle.closure.proofs.CellLists.{of_cells}
+use Rattle.patterns.specs.Pattern.{cell_of}
+use Rattle.patterns.proofs.CellLists.{of_cells}
 use Rattle.maker.specs.Made.{AreDeadPatterns, AreFrozen, IsListOf, IsLeastZoneLine, IsMade, IsMadeList, HasNoList, body_of, coord_of, lone_patterns, made_pattern}
 use Rattle.maker.specs.Zones.{LeastZonesAreOne}
 use Rattle.maker.specs.declared.making.Made.{Made}

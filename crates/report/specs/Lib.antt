@@ -27,7 +27,7 @@ pub use Rattle.answers.specs.Body
 pub use Rattle.answers.specs.Grammar
 pub use Rattle.answers.specs.RoundTrip
 pub use Rattle.closure.specs.Closed
-pub use Rattle.closure.specs.Pattern
+pub use Rattle.patterns.specs.Pattern
 pub use Rattle.closure.specs.Zone
 pub use Rattle.maker.specs.Dead
 pub use Rattle.maker.specs.Made

@@ -13,7 +13,7 @@ ghost use Rattle.play.specs.Solution.{Solves};
 ghost use Rattle.play.specs.declared.tally.Tally.{Tally};
 ghost use Rattle.answers.specs.Body.{Body, Entry, LetterLines, PatternLines, OneZone, PatternLine, ZoneLine};
 ghost use Rattle.answers.specs.Grammar.{SpellsEntries};
-ghost use Rattle.closure.specs.Pattern.{cells_of, patterns_of};
+ghost use Rattle.patterns.specs.Pattern.{cells_of, patterns_of};
 ghost use Rattle.closure.specs.Closed.{Closed};
 ghost use Rattle.closure.specs.Zone.{IsRefuting};
 ghost use Rattle.report.specs.Audit.{IsFirstError};

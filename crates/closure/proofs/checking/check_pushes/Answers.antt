@@ -5,9 +5,11 @@
 use Rattle.std.proofs.Common.{◌≡◌, ℕ, ◌<◌, length, refl, sym, ◌∙◌, ap, arith}
 use Rattle.std.{specs.Prelude.slice_index, proofs.lemmas.List.get_or-map, proofs.lemmas.List.length-map}
 use Rattle.answers.specs.Body.{PatternLine}
-use Rattle.closure.specs.{Arena.boxes_at, Arena.line_at, Arena.line_in, Arena.lines_in, Arena.pattern_at, Closed.CoversPushesOf, FirstFault.HasFirstUncovered, Pattern.Pattern}
-use Rattle.closure.{specs.Groups.boxes_of, specs.Groups.list_of, proofs.Arenas.list_long, proofs.CellLists.at_any, proofs.GroupPushes.pattern_of_group}
-use Rattle.closure.proofs.FirstLines.{each_pattern, one_more, first_line}
+use Rattle.patterns.specs.{Arena.boxes_at, Arena.line_at, Arena.line_in, Arena.lines_in, Arena.pattern_at, Pattern.CoversPushesOf, Pattern.Pattern}
+use Rattle.closure.specs.FirstFault.{HasFirstUncovered}
+use Rattle.patterns.{specs.Groups.boxes_of, specs.Groups.list_of, proofs.Arenas.list_long, proofs.CellLists.at_any, proofs.GroupPushes.pattern_of_group}
+use Rattle.patterns.proofs.Numbered.{each_pattern, one_more}
+use Rattle.closure.proofs.FirstLines.{first_line}
 use Rattle.closure.proofs.checking.check_pushes.Goals as goal
 use Rattle.closure.proofs.checking.check_pushes.Goals.{After-index}
 

@@ -1,5 +1,5 @@
 use Rattle.std.proofs.Common.{◌≡◌, ◌<◌, ℕ, length}
-use Rattle.closure.specs.{Arena.pattern_at, Closed.CoversPushesOf, GroupPushes.IsLoaded, GroupPushes.IsReady, Groups.boxes_of, Groups.list_of, Sides.cells_in}
+use Rattle.patterns.specs.{Arena.pattern_at, Pattern.CoversPushesOf, GroupPushes.IsLoaded, GroupPushes.IsReady, Groups.boxes_of, Groups.list_of, Sides.cells_in}
 use Rattle.closure.proofs.checking.check_pushes.Given as goal
 
 abbrev pub invariant-loop-line : goal.invariant-loop-line

@@ -5,7 +5,7 @@ use Rattle.std.proofs.{Common.arith, Common.refl, Common.sym, Common.subst, lemm
 use Rattle.std.proofs.lemmas.List.Elements.{All-push, All-contains}
 use Rattle.cellset.{specs.CellSet.Has, proofs.Neighbors.neighbor_forth}
 use Rattle.reach.{specs.Pushes.ArePushesOut, specs.Pushes.IsPushOut, proofs.PushRuns.next_is_out, proofs.PushRuns.came_before, proofs.PushRuns.all_came}
-use Rattle.closure.specs.{Pattern.IsCovered, Run.state_after, Groups.list_of, Sides.cells_in}
+use Rattle.patterns.specs.{Pattern.IsCovered, Run.state_after, Groups.list_of, Sides.cells_in}
 use Rattle.closure.proofs.checking.first_uncovered.Goals as goal
 use Rattle.closure.proofs.checking.first_uncovered.Goals.{After-into_iter-push-iterator, In-Some}
 

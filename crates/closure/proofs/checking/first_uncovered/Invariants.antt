@@ -1,5 +1,5 @@
 use Rattle.std.specs.List.{All}
-use Rattle.closure.specs.{Pattern.IsCovered, GroupPushes.IsLoaded, GroupPushes.IsReady, Run.state_after, Groups.list_of, Sides.cells_in}
+use Rattle.patterns.specs.{Pattern.IsCovered, GroupPushes.IsLoaded, GroupPushes.IsReady, Run.state_after, Groups.list_of, Sides.cells_in}
 use Rattle.closure.proofs.checking.first_uncovered.Given as goal
 
 abbrev pub invariant-loop-push : goal.invariant-loop-push

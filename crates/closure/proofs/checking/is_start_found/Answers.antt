@@ -1,8 +1,8 @@
 use Rattle.std.proofs.Common.{refl, arith}
 use Rattle.board.specs.Game.{start}
 use Rattle.cellset.proofs.Members.{lacks_where, not_both}
-use Rattle.closure.{specs.Groups.boxes_of, specs.Groups.list_of, specs.Sides.cells_in, proofs.Grouped.boxes_on, proofs.Grouped.covered_of_group}
-use Rattle.closure.proofs.{Traps.start_trapped}
+use Rattle.patterns.{specs.Groups.boxes_of, specs.Groups.list_of, specs.Sides.cells_in, proofs.Grouped.boxes_on, proofs.Grouped.covered_of_group}
+use Rattle.patterns.proofs.Traps.{start_trapped}
 use Rattle.closure.proofs.checking.is_start_found.Goals as goal
 
 pub returns-then-meets : goal.returns-then-meets

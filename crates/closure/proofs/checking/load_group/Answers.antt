@@ -1,4 +1,4 @@
-use Rattle.closure.proofs.Grouped.{boxes_on}
+use Rattle.patterns.proofs.Grouped.{boxes_on}
 use Rattle.closure.proofs.checking.load_group.Goals as goal
 
 pub load-requires-clause-boxes : goal.load-requires-clause-boxes

@@ -1,9 +1,9 @@
 -- An entry has the cells of the boxes, and the region unless the pattern says `*`. The pattern is lawful, so its boxes lie on the grid,
 -- and so does the region that `find` returns: that is the invariant of entries. With `*` the cells of the room without a box are the
--- region, and with listed seeds the cells of the found region are, where there is no box (`Regions.antt`). So in both cases the entry
+-- region, and with listed seeds the cells of the found region are, where there is no box (`RegionCells.antt`). So in both cases the entry
 -- covers what its pattern covers.
 use Rattle.std.{proofs.Common.◌≡◌, proofs.Common.sym, proofs.Common.◌∙◌, proofs.Common.ap, proofs.Common.inl, specs.Prelude.Some, specs.Prelude.None}
-use Rattle.closure.{specs.Arena.pattern_in, specs.Sides.cells_in, proofs.CellLists.in_list, proofs.Regions.room_outside, proofs.Regions.region_outside}
+use Rattle.patterns.{specs.Arena.pattern_in, specs.Sides.cells_in, proofs.CellLists.in_list, proofs.RegionCells.room_outside, proofs.RegionCells.region_outside}
 use Rattle.closure.proofs.scan.enter.Goals as goal
 use Rattle.closure.proofs.scan.enter.Goals.{in-None, in-Some+in_ok-region-in-Some}
 

@@ -1,7 +1,9 @@
 use Rattle.std.proofs.Common.{◌+◌, ◌<◌, length, ap, ◌∙◌, arith}
 use Rattle.std.proofs.lemmas.List.{take_all}
-use Rattle.closure.{specs.Arena.list_in, specs.Arena.pattern_at, specs.Scan.IsEntryOf, proofs.Arenas.list_long, proofs.Arenas.listed_at}
-use Rattle.closure.proofs.{CellLists.at_any, Lists.length_more, Entries.zip_more}
+use Rattle.patterns.{specs.Arena.list_in, specs.Arena.pattern_at, proofs.Arenas.list_long, proofs.Arenas.listed_at}
+use Rattle.closure.specs.Scan.{IsEntryOf}
+use Rattle.patterns.proofs.{CellLists.at_any, Lists.length_more}
+use Rattle.closure.proofs.Entries.{zip_more}
 use Rattle.closure.proofs.scan.enter_each.Goals as goal
 
 pub enter-requires : goal.enter-requires

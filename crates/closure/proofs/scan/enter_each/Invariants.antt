@@ -1,5 +1,6 @@
 use Rattle.std.{proofs.Common.◌≡◌, proofs.Common.◌≤◌, proofs.Common.length, proofs.Common.take, proofs.Common.vec_capacity, specs.List.AllZip}
-use Rattle.closure.specs.{Arena.list_in, Scan.IsEntryOf}
+use Rattle.patterns.specs.Arena.{list_in}
+use Rattle.closure.specs.Scan.{IsEntryOf}
 use Rattle.closure.proofs.scan.enter_each.Given as goal
 
 abbrev pub invariant-loop-line : goal.invariant-loop-line

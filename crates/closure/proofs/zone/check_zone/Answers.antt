@@ -1,6 +1,7 @@
 use Rattle.std.{proofs.Common.◌≡◌, specs.FinSet.len}
 use Rattle.answers.specs.Grammar.{said_zone}
-use Rattle.closure.{specs.Pattern.cells_of, specs.Zone.IsRefuting, specs.FirstFault.IsFirstZoneFault, proofs.ZoneCounts.refuting_unsolvable}
+use Rattle.patterns.specs.Pattern.{cells_of}
+use Rattle.closure.{specs.Zone.IsRefuting, specs.FirstFault.IsFirstZoneFault, proofs.ZoneCounts.refuting_unsolvable}
 use Rattle.closure.{specs.declared.fault.ZoneFault.TheVariants.Memory, proofs.FirstLines.first_unless, proofs.FirstLines.ok_unless, proofs.FirstLines.where_ok}
 use Rattle.closure.proofs.OneFault.{one_zone_fault, refuting_no_fault, zone_memory_or}
 use Rattle.closure.proofs.zone.check_zone.Goals as goal

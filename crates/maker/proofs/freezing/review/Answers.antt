@@ -1,7 +1,7 @@
 use Rattle.std.proofs.Common.{refl, sym, inl, inr, arith}
 use Rattle.cellset.proofs.Members.{has_remove}
 use Rattle.cellset.proofs.Truth.{either}
-use Rattle.closure.proofs.Counts.{len-remove_member}
+use Rattle.patterns.proofs.Counts.{len-remove_member}
 use Rattle.maker.proofs.Thawing.{reviewed_absent, reviewed_held, reviewed_gone}
 use Rattle.maker.proofs.freezing.review.Goals as goal
 

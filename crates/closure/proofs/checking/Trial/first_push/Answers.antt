@@ -5,9 +5,10 @@ use Rattle.std.specs.Prelude.{Option, None, Some, MatchOption}
 use Rattle.cellset.specs.{Cell.neighbor, CellSet.Cells, CellSet.Has, declared.cell.Cell.Cell, declared.dir.Dir.Dir}
 use Rattle.reach.specs.{Pushes.IsPushOut, declared.pushes.Push.Push}
 use Rattle.board.specs.Game.{Level}
-use Rattle.closure.specs.{Arena.pattern_in, Pattern.Pattern, Pattern.InPatternRegion, Pattern.IsCovered, Pattern.PushesOut, FirstFault.IsFirstUncovered}
-use Rattle.closure.specs.{Closed.IsLawful, Closed.CoversPushesOf, Run.AllLead, Run.IsFirstAstray, Groups.list_of}
-use Rattle.closure.proofs.{Arenas.listed_at, Grouped.region_in_room, Regions.region_on}
+use Rattle.patterns.specs.{Arena.pattern_in, Pattern.Pattern, Pattern.InPatternRegion, Pattern.IsCovered, Pattern.PushesOut}
+use Rattle.closure.specs.FirstFault.{IsFirstUncovered}
+use Rattle.patterns.specs.{Pattern.IsLawful, Pattern.CoversPushesOf, Run.AllLead, Run.IsFirstAstray, Groups.list_of}
+use Rattle.patterns.proofs.{Arenas.listed_at, Grouped.region_in_room, RegionCells.region_on}
 use Rattle.closure.proofs.checking.Trial.first_push.Goals as goal
 use Rattle.closure.proofs.checking.Trial.first_push.Goals.{After-pattern-pattern}
 

@@ -1,5 +1,5 @@
 use Rattle.std.proofs.Common.{◌∙◌}
-use Rattle.closure.proofs.Traps.{no_trap}
+use Rattle.patterns.proofs.Traps.{no_trap}
 use Rattle.closure.proofs.index.Index.build.Goals as goal
 
 pub arena_of-requires : goal.arena_of-requires

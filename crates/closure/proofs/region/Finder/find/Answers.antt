@@ -1,8 +1,8 @@
 -- There are two cases. With `*` the region is the room without the boxes, and that is what is copied and taken out (`room_region` in
--- `Regions.antt`). With listed seeds it is what the flood reaches from them past walls and boxes. The pattern is lawful, so its boxes and
+-- `RegionCells.antt`). With listed seeds it is what the flood reaches from them past walls and boxes. The pattern is lawful, so its boxes and
 -- seeds lie on the grid and can be put into the sets.
 use Rattle.std.proofs.Common.{inl, inr}
-use Rattle.closure.{specs.Sides.cells_in, proofs.Regions.room_region}
+use Rattle.patterns.{specs.Sides.cells_in, proofs.RegionCells.room_region}
 use Rattle.closure.proofs.region.Finder.find.Goals as goal
 
 pub load-requires-in-Some : goal.load-requires-in-Some

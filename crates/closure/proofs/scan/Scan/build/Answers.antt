@@ -1,5 +1,6 @@
 use Rattle.std.proofs.Common.{sym, ◌∙◌}
-use Rattle.closure.{specs.Arena.list_in, proofs.Entries.entries_cover, proofs.Entries.entries_grid}
+use Rattle.patterns.specs.Arena.{list_in}
+use Rattle.closure.proofs.Entries.{entries_cover, entries_grid}
 use Rattle.closure.proofs.scan.Scan.build.Goals as goal
 
 pub arena_of-requires : goal.arena_of-requires

@@ -6,7 +6,7 @@ use Rattle.std.proofs.lemmas.Bool.{false≢true, not-true, not-false}
 use Rattle.cellset.specs.Shape.{Extent}
 use Rattle.cellset.specs.SortedList.{index}
 use Rattle.cellset.proofs.Members.{not_both, kept_by_insert, insert_again}
-use Rattle.closure.proofs.Counts.{len-insert_new, len-within}
+use Rattle.patterns.proofs.Counts.{len-insert_new, len-within}
 use Rattle.maker.proofs.Searches.{pairs_read}
 use Rattle.maker.proofs.Flipping.{one_match}
 use Rattle.maker.proofs.Violators.{searched_matched}

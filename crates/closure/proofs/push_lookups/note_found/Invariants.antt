@@ -1,8 +1,0 @@
-use Rattle.closure.specs.GroupPushes.{AreNoted, IsReady}
-use Rattle.closure.proofs.push_lookups.note_found.Given as goal
-
-abbrev pub invariant-loop-group : goal.invariant-loop-group
-invariant-loop-group g l = record {
-  ready : IsReady g.S.CellSet.extent l.tables l.scratch;
-  covered : AreNoted l.tables.board.now l.tables.groups l.covered.items;
-}

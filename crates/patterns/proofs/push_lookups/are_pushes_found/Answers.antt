@@ -1,0 +1,41 @@
+-- The invariant says that the list covers the pushes of each box so far, and that the memory is loaded with the boxes. The tables have the
+-- sides of the next box on which the region lies (`sides_of`), so `is_found_each_way` may be called for it. Every push out of the group moves one of its boxes, so after the loop the list
+-- covers them all (`covered_each_box`). The result false claims nothing.
+use borrow.Author.Count.{below_more}
+use Rattle.std.proofs.Common.{ap}
+use Rattle.patterns.specs.{GroupPushes.CoversFrom, Groups.list_of, Groups.position_at, Sides.cell_no, Sides.cells_in}
+use Rattle.patterns.proofs.{CellLists.empty_lacks, GroupPushes.covered_each_box, Grouped.boxes_on}
+use Rattle.patterns.proofs.push_lookups.are_pushes_found.Goals as goal
+
+pub returns-clause-covered : goal.returns-clause-covered
+returns-clause-covered g c = λ _.
+    let level = c.args.tables.now.board.now in
+    let groups = c.args.tables.now.groups in
+    covered_each_box level (list_of groups) (position_at level groups c.args.group) c.boxes-boxes.result.now c.loop-number.number c.loop-number-test.false
+    (ap cells_in c.boxes-boxes.ensures) c.loop-number.invariant.covered
+
+pub sides_of-sides-requires-clause-off : goal.sides_of-sides-requires-clause-off
+sides_of-sides-requires-clause-off g c = λ q _. rw c.requires.ready.filled.off (empty_lacks q)
+
+pub load-requires-clause-boxes : goal.load-requires-clause-boxes
+load-requires-clause-boxes g c = boxes_on c.args.tables.now.board.now c.args.tables.now.groups c.requires.ready.filled.are.lawful c.requires.ready.filled.are.grouped
+    c.args.group c.requires.group c.boxes-boxes.result.now c.boxes-boxes.ensures
+
+pub loop-number-preserved : goal.loop-number-preserved
+loop-number-preserved g c =
+    let level = c.args.tables.now.board.now in
+    let groups = c.args.tables.now.groups in
+    let after = c.is_found_each_way.ensures in
+    record {
+      ready = after.ready;
+      loaded = after.loaded;
+      covered = below_more (λ i. CoversFrom level (list_of groups) (position_at level groups c.args.group) (cell_no c.boxes-boxes.result.now i)) c.loop-number.number
+          c.loop-number.invariant.covered (after.covered c.if-not-is_found_each_way.false);
+    }
+
+pub is_found_each_way-requires : goal.is_found_each_way-requires
+is_found_each_way-requires g c = record {
+  pushed = record { group = c.requires.group; boxes = c.boxes-boxes.ensures; number = c.loop-number-test.true; sides = rw c.boxes-boxes.ensures c.sides_of-sides.ensures };
+  ready = c.loop-number.invariant.ready;
+  loaded = c.loop-number.invariant.loaded;
+}

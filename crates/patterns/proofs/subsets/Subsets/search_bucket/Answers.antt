@@ -1,0 +1,40 @@
+-- The link to the next group is below the one before it, so the loop ends (`led_on` in `Lookups.antt`).
+use Rattle.std.proofs.Common.{◌-◌, ◌<◌, refl, arith}
+use Rattle.patterns.proofs.{Grouped.boxes_on, Lookups.led_on, subsets.Subsets.search_bucket.Goals.After-index}
+use Rattle.patterns.proofs.subsets.Subsets.search_bucket.Goals as goal
+
+-- The next link is lower.
+falls : (g : _) (c : After-index g) → c.index.result.now < c.loop-self.self.link
+falls g c =
+    let tables = c.args.tables.now in
+    let all = c.requires.tables.buckets in
+    let long = all.long in
+    let link = c.loop-self.invariant.subsets.link in
+    let up = c.loop-self-test.true in
+    let last = led_on tables.buckets.keys.items tables.buckets.chains.first.items tables.buckets.chains.next.items _ _ all.chained
+    c.loop-self.self.link c.index.result.now up (omega arith) c.index.ensures refl in
+    let within = last.within in
+    omega arith
+
+pub are_in-requires : goal.are_in-requires
+are_in-requires g c =
+    let link = c.loop-self.invariant.subsets.link in
+    let up = c.loop-self-test.true in
+    λ q has. rw c.requires.extent (boxes_on c.args.tables.now.board.now c.args.tables.now.groups c.requires.tables.are.lawful c.requires.tables.are.grouped
+    (c.loop-self.self.link - 1) (omega arith) c.boxes-kept.result.now c.boxes-kept.ensures q has)
+
+pub returns-then-are_in-clause-found : goal.returns-then-are_in-clause-found
+returns-then-are_in-clause-found g c =
+    let link = c.loop-self.invariant.subsets.link in
+    let up = c.loop-self-test.true in
+    record { within = omega arith; has = rw c.boxes-kept.ensures at c.if-are_in.ensures }
+
+pub loop-self-preserved : goal.loop-self-preserved
+loop-self-preserved g c =
+    let was = c.loop-self.invariant in
+    let low = was.subsets.link in
+    let less = falls g (goal.at.loop-self-preserved g c).After-index in
+    record { subsets = record { found = was.subsets.found; link = omega arith }; same = was.same }
+
+pub loop-self-smaller : goal.loop-self-smaller
+loop-self-smaller g c = falls g (goal.at.loop-self-smaller g c).After-index

@@ -1,0 +1,62 @@
+-- There are four ways out: the step leaves the grid, the cell isn't left, memory runs out, or the cell gets a node. Off the grid there is
+-- no cell of the room, and a cell that isn't left was joined before, so nothing changes in the first two. In the last the cell is taken
+-- out of those left and gets the next number, with the given node as its parent (`laid_more` in `Spanning.antt`): one cell less is left,
+-- and there is one node more. In each the neighbour isn't left afterwards, if it is in the room.
+use Rattle.std.proofs.{Common.set, Common.refl, Common.sym, Common.◌∙◌, Common.ap, Common.subst, Common.arith, lemmas.List.get_or_read}
+use Rattle.std.specs.Vec.{with_item}
+use Rattle.cellset.{specs.Cell.neighbor, proofs.Members.remove_absent}
+use Rattle.patterns.specs.{CellIndex.index_of, SpanningTree.IsGrowing, declared.tree.Node.Node, declared.tree.Tree.Tree}
+use Rattle.patterns.proofs.{Counts.len-remove_member, Spanning.lacks_remove, Spanning.laid_more, Spanning.index_within, Lists.length_more, Lists.old_item}
+use Rattle.patterns.proofs.Sets.{removed_lacks}
+use Rattle.patterns.proofs.tree.Tree.join_beside.Goals as goal
+
+pub returns-then-not-remove-clause-growing : goal.returns-then-not-remove-clause-growing
+returns-then-not-remove-clause-growing g c = grind (arith, remove_absent)
+
+pub returns-then-not-remove-clause-sum : goal.returns-then-not-remove-clause-sum
+returns-then-not-remove-clause-sum g c = grind (arith, remove_absent)
+
+pub returns-then-not-remove-clause-kept : goal.returns-then-not-remove-clause-kept
+returns-then-not-remove-clause-kept g c = grind (arith, lacks_remove)
+
+pub returns-then-not-remove-clause-beside : goal.returns-then-not-remove-clause-beside
+returns-then-not-remove-clause-beside g c = grind (arith, get_or_read, removed_lacks)
+
+pub returns-in_err-push-clause-kept : goal.returns-in_err-push-clause-kept
+returns-in_err-push-clause-kept g c = grind (arith, lacks_remove)
+
+pub returns-in_err-push-clause-beside : goal.returns-in_err-push-clause-beside
+returns-in_err-push-clause-beside g c = grind (arith, get_or_read, removed_lacks)
+
+pub returns-clause-growing : goal.returns-clause-growing
+returns-clause-growing g c =
+    let old = c.args.self.now in
+    let left = g.S.CellSet.members c.args.left.now in
+    let to_cell = λ (s : Node). ap (λ x. neighbor x.cell c.args.dir)
+    (sym (get_or_read old.nodes.items c.args.from c.index.result.now c.requires.from c.index.ensures s)) ∙ sym c.in-Some.ensures.1 in
+    let s : Node = record { cell = c.in-Some.cell; dir = c.opposite.result; parent = c.args.from } in
+    let new : Tree = record { numbers = with_item old.numbers c.index_of.result c.len.result; nodes = c.push.new.self } in
+    subst (λ t. IsGrowing c.args.board.now t new) (sym c.remove.ensures.members)
+    (laid_more c.args.board.now c.shape.ensures.formed left old c.requires.growing c.args.from c.in-Some.cell c.args.dir s c.requires.from
+    (sym c.if-not-remove.ensures.was_there) to_cell refl c.opposite.ensures refl new
+    (ap (λ p. set old.numbers.items p c.len.result) c.index_of.ensures ∙ ap (set old.numbers.items (index_of c.in-Some.cell)) (c.len.ensures ∙
+    old.nodes.ok.0))
+    c.in_ok-push.ensures.items)
+
+pub returns-clause-sum : goal.returns-clause-sum
+returns-clause-sum g c = grind (arith, len-remove_member, length_more)
+
+pub returns-clause-kept : goal.returns-clause-kept
+returns-clause-kept g c = grind (arith, lacks_remove)
+
+pub returns-clause-beside : goal.returns-clause-beside
+returns-clause-beside g c = grind (arith, get_or_read, removed_lacks)
+
+pub index_mut-requires : goal.index_mut-requires
+index_mut-requires g c = grind (arith, index_within)
+
+pub returns-clause-same : goal.returns-clause-same
+returns-clause-same g c = grind (arith, old_item)
+
+pub returns-in_default-clause-beside : goal.returns-in_default-clause-beside
+returns-in_default-clause-beside g c = grind (arith, get_or_read)

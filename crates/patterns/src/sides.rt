@@ -1,0 +1,28 @@
+//! On which sides of a box a region lies.
+ghost use Rattle.std.specs.Prelude.{◌≡◌};
+ghost use Rattle.patterns.specs.Sides.{toward};
+
+use cellset::Dir;
+
+/// By direction, whether the neighbour of a box is in a region.
+#[derive(Clone, Copy, Default)]
+pub struct Sides {
+    pub left: bool,
+    pub up: bool,
+    pub right: bool,
+    pub down: bool,
+}
+
+impl Sides {
+    // Returns whether the neighbour in the direction is in the region.
+    pub(crate) fn has(self, dir: Dir) -> bool
+        ensures { result ≡ toward self dir }
+    {
+        match dir {
+            Dir::L => self.left,
+            Dir::U => self.up,
+            Dir::R => self.right,
+            Dir::D => self.down,
+        }
+    }
+}

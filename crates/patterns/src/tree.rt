@@ -1,0 +1,148 @@
+//! A spanning tree of the room, built by a breadth-first search.
+//!
+//! From each cell of the room a path leads from parent to parent to the root, the player's cell at the start. Lookups follow it (`lookup`).
+ghost use Rattle.std.specs.Prelude.{◌≡◌, ◌+◌, ◌<◌, ◌≤◌, ℕ, IfOk, OnOk, length, slice_index_or};
+ghost use Rattle.std.specs.FinSet as set;
+ghost use Rattle.cellset.specs.{Cell.neighbor, CellSet.Has, CellSet.Lacks, declared.cell.Cell.Cell as GridCell};
+ghost use Rattle.patterns.specs.{CellIndex.index_of, SpanningTree.AreJoinedBeside, SpanningTree.IsTree, SpanningTree.IsGrowing};
+ghost use Rattle.patterns.specs.declared.tree.Node.{Node as NodeValue};
+
+use board::Board;
+use cellset::{Cell, CellSet, Dir};
+use std::alloc::{AllocError, Global};
+
+/// A cell, and the step to its parent. The root is number 0 and has no parent.
+#[derive(Clone, Copy)]
+pub struct Node {
+    pub cell: Cell,
+    pub dir: Dir,
+    /// The number of the parent, which is lower.
+    pub parent: usize,
+}
+
+/// The cells of the room in the order in which the search reached them.
+#[derive(Drop)]
+pub struct Tree {
+    /// By index of a cell, its number.
+    pub numbers: Vec<usize>,
+    pub nodes: Vec<Node>,
+}
+
+/// A box on a path to the root, and the side on which the path meets it.
+#[derive(Clone, Copy)]
+pub struct Hit {
+    pub cell: Cell,
+    pub side: Dir,
+}
+
+// Returns the index of a cell in a table by cells.
+pub(crate) fn index_of(cell: Cell) -> usize
+    ensures { result ≡ index_of cell }
+{
+    256 * usize::from(cell.row()) + usize::from(cell.column())
+}
+
+// Returns the tree of all cells of the room.
+pub(crate) fn grow_tree<S: CellSet>(alloc: Global, board: &Board<S>) -> Result<Tree, AllocError>
+    ensures { IfOk result (IsTree board.now) }
+{
+    let mut left = S::new(alloc, board.shape())?;
+    let mut tree = begin(alloc, board, &mut left)?;
+    let mut from = 0;
+    while from < tree.nodes.len() {
+        tree.join_around(board, &mut left, from)?;
+        from += 1;
+    }
+    Ok(tree)
+}
+
+// Returns the tree of the root alone. The other cells of the room are left.
+fn begin<S: CellSet>(alloc: Global, board: &Board<S>, left: &mut S) -> Result<Tree, AllocError>
+    requires { S.extent left.old ≡ board.now.shape }
+    ensures extent { S.extent left.new ≡ board.now.shape }
+    ensures growing { IfOk result (IsGrowing board.now (S.members left.new)) }
+{
+    let shape = board.shape();
+    let root = board.player();
+    left.copy_from(board.room());
+    left.remove(root);
+    let height = usize::from(shape.height());
+    let mut numbers = vec![in alloc; 0; 256 * (height + 1)]?;
+    numbers[index_of(root)] = 0;
+    let mut nodes = Vec::with_capacity(alloc, left.len())?;
+    nodes.push(Node {
+        cell: root,
+        dir: Dir::L,
+        parent: 0,
+    })?;
+    Ok(Tree { numbers, nodes })
+}
+
+impl Tree {
+    // Returns a tree without nodes.
+    pub(crate) fn new(alloc: Global) -> Tree {
+        Tree {
+            numbers: Vec::new(alloc),
+            nodes: Vec::new(alloc),
+        }
+    }
+
+    // Adds the neighbours of a node that are left.
+    fn join_around<S: CellSet>(
+        &mut self,
+        board: &Board<S>,
+        left: &mut S,
+        from: usize,
+    ) -> Result<(), AllocError>
+        requires extent { S.extent left.old ≡ board.now.shape }
+        requires growing { IsGrowing board.now (S.members left.old) self.old }
+        requires from { from < length self.old.nodes.items }
+        ensures extent { OnOk result (S.extent left.new ≡ board.now.shape) }
+        ensures growing { OnOk result (IsGrowing board.now (S.members left.new) self.new) }
+        ensures longer { OnOk result (length self.old.nodes.items ≤ length self.new.nodes.items) }
+        ensures sum { OnOk result (set.len (S.members left.new) + length self.new.nodes.items ≡ set.len (S.members left.old) + length self.old.nodes.items) }
+        ensures beside { OnOk result (AreJoinedBeside board.now (S.members left.old) self.old.nodes.items from
+            → AreJoinedBeside board.now (S.members left.new) self.new.nodes.items (from + 1)) }
+    {
+        self.join_beside(board, left, from, Dir::L)?;
+        self.join_beside(board, left, from, Dir::U)?;
+        self.join_beside(board, left, from, Dir::R)?;
+        self.join_beside(board, left, from, Dir::D)?;
+        Ok(())
+    }
+
+    // Adds the neighbour of a node in the direction, if it is left.
+    fn join_beside<S: CellSet>(
+        &mut self,
+        board: &Board<S>,
+        left: &mut S,
+        from: usize,
+        dir: Dir,
+    ) -> Result<(), AllocError>
+        requires extent { S.extent left.old ≡ board.now.shape }
+        requires growing { IsGrowing board.now (S.members left.old) self.old }
+        requires from { from < length self.old.nodes.items }
+        ensures extent { S.extent left.new ≡ board.now.shape }
+        ensures growing { OnOk result (IsGrowing board.now (S.members left.new) self.new) }
+        ensures longer { OnOk result (length self.old.nodes.items ≤ length self.new.nodes.items) }
+        ensures sum { OnOk result (set.len (S.members left.new) + length self.new.nodes.items ≡ set.len (S.members left.old) + length self.old.nodes.items) }
+        ensures kept { (c : GridCell) → Lacks (S.members left.old) c → Lacks (S.members left.new) c }
+        ensures same { (i : ℕ) (s : NodeValue) → i < length self.old.nodes.items → slice_index_or self.new.nodes.items i s ≡ slice_index_or self.old.nodes.items i s }
+        ensures beside { (s : NodeValue) → Has board.now.room (neighbor (slice_index_or self.old.nodes.items from s).cell dir)
+            → Lacks (S.members left.new) (neighbor (slice_index_or self.old.nodes.items from s).cell dir) }
+    {
+        let Some(cell) = board.shape().step(self.nodes[from].cell, dir) else {
+            return Ok(());
+        };
+        if !left.remove(cell) {
+            return Ok(());
+        }
+        self.numbers[index_of(cell)] = self.nodes.len();
+        self.nodes.push(Node {
+            cell,
+            dir: dir.opposite(),
+            parent: from,
+        })?;
+        Ok(())
+    }
+}
