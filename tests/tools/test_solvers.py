@@ -8,14 +8,19 @@ from typing import List
 
 from sokotool import levels, solvers, texts
 from sokotool.search import refute
-from sokotool.search.budget import Budget
+from sokotool.search.budget import Budget, Limits
 from tests.tools.exports import ALPHA, BETA, GAMMA
-from tests.tools.helping import TOP, Case
+from tests.tools.helping import SAMPLES, TOP, Case
 from tests.tools.test_check import LOST, Check
 from tests.tools.test_export import Generator
 
 LEVELS = levels.read(f"{ALPHA}\n\n{BETA}\n\n{GAMMA}\n".encode())
 RECORD = b"level 1\nsolution\nrRR\nend\n"
+
+
+def solver(command: str) -> solvers.Solver:
+    """A solver of which all is told, and whose certificates are refused."""
+    return solvers.Solver(command, lambda *_: "no", True)
 
 
 class Solvers(Case):
@@ -24,8 +29,8 @@ class Solvers(Case):
         """Runs a script in Python on the first levels."""
         self.write("solver.py", "import os, signal, sys, time\n" + script)
         command = f"{sys.executable} solver.py {words}"
-        limits = solvers.Limits(command, seconds, jobs, Budget(total))
-        return list(solvers.Solvers(LEVELS[:count], limits).results())
+        return list(solvers.Solvers(solver(command), LEVELS[:count],
+                                    Limits(seconds, total, jobs), Budget(total)).results())
 
     def outcome(self, script: str, **how) -> str:
         """The outcome of a script on the first level."""
@@ -73,12 +78,12 @@ class Solvers(Case):
 
     def test_no_command(self):
         for command in ("", "  ", "'a", "./nothing", "no-such-program {}"):
-            limits = solvers.Limits(command, 1, 1, Budget(60))
-            self.assertRaises(texts.Stop, solvers.Solvers, LEVELS, limits)
+            self.assertRaises(texts.Stop, solvers.Solvers, solver(command), LEVELS, Limits(1, 60, 1),
+                              Budget(60))
         self.write("nothing", "\0")
         os.chmod("nothing", 0o755)
-        limits = solvers.Limits("./nothing", 1, 1, Budget(60))
-        (result,) = solvers.Solvers(LEVELS[:1], limits).results()
+        (result,) = solvers.Solvers(solver("./nothing"), LEVELS[:1], Limits(1, 60, 1),
+                                    Budget(60)).results()
         self.assertEqual(result.what, solvers.FAILED)
         self.assertIn("cannot be run", result.said[0])
 
@@ -158,16 +163,16 @@ print("rRR" if "$ ." in text else "rR")
         """When the caller stops, all runs end, and what was printed before counts."""
         self.write("solver.py", "import os, time\nprint('rRR', flush=True)\n"
                    "open('pid-' + str(os.getpid()), 'w').close()\ntime.sleep(99)\n")
-        limits = solvers.Limits(f"{sys.executable} solver.py", 50, 3, Budget(60))
-        runs = solvers.Solvers(LEVELS, limits)
+        runs = solvers.Solvers(solver(f"{sys.executable} solver.py"), LEVELS, Limits(50, 60, 3),
+                               Budget(60))
 
         def watch():
             if len([it for it in os.listdir() if it.startswith("pid-")]) == 3:
                 raise KeyboardInterrupt
         self.assertRaises(KeyboardInterrupt, list, runs.results(watch))
         self.assertFalse(any(is_alive(int(it[4:])) for it in os.listdir() if it[:4] == "pid-"))
-        self.assertTrue(all(it.seconds < 20 for it in runs.rest))
-        self.assertEqual([(it.what, it.record) for it in runs.rest],
+        self.assertTrue(all(it.seconds < 20 for it in runs.rest()))
+        self.assertEqual([(it.what, it.record) for it in runs.rest()],
                          [(solvers.SOLVED, RECORD), (solvers.LATE, b""), (solvers.LATE, b"")])
 
 
@@ -183,12 +188,12 @@ def is_alive(pid: int) -> bool:
 class Checks(Check):
     """The option --solver of check."""
 
-    def solve(self, script: str, *words: str):
+    def solve(self, script: str, *options: str, words: str = ""):
         """Runs check with a solver in Python, and with a search that finds nothing."""
         self.write("solver.py", "import os, signal, sys, time\n" + script)
         with unittest.mock.patch("sokotool.searches.outcome", lambda *_: refute.Outcome("late")):
-            return self.tool("check", "mine", "a.txt", "--solver", f"{sys.executable} solver.py",
-                             "--jobs", "2", *words)
+            return self.tool("check", "mine", "a.txt", "--solver", f"{sys.executable} solver.py {words}",
+                             "--jobs", "2", *options)
 
     def test_levels_that_are_left(self):
         """Only levels without an answer are given to the solver, and its answers are audited."""
@@ -203,10 +208,10 @@ class Checks(Check):
             "level 4 unsolvable patterns 4"])
         self.assertEqual(result.status, 1)
         said = result.err.splitlines()
-        self.assertEqual({line.partition(" (")[0] for line in said[4:]},
+        self.assertEqual({line.partition(" (")[0] for line in said[3:]},
                          {"check: level 2: solved by the solver",
                           "check: level 3: the solver found nothing"})
-        self.assertTrue(said[-1].endswith("(2 of 2 done, 1 solved)"))
+        self.assertTrue(said[-1].endswith("(2 of 2 done, 1 found)"))
 
     def test_verbose(self):
         self.write("a.txt", BETA)
@@ -214,12 +219,53 @@ class Checks(Check):
         for line in ("thinking", "rr", " [2Jup", "ended with status 7"):
             self.assertIn(f"check: level 1: | {line}\n", result.err)
         self.assertEqual(self.report()[0], "level 1 solved moves 2 pushes 1 changes 1")
-        self.assertNotIn("thinking", self.solve("print('thinking')", "--seconds", "9").err)
+        self.assertNotIn("thinking", self.solve("print('thinking')").err)
 
-    def test_no_search_and_no_program(self):
+    def test_a_certificate(self):
+        """A certificate in what is printed, or in a file, counts like a solution once the audit has
+        accepted it. What is refused is told."""
+        with open(os.path.join(SAMPLES, "deadlocks.xsb"), encoding="utf-8") as file:
+            self.write("a.txt", "".join(file.readlines()[24:31]))
+        listed = "pattern 3,2 5,2 @ 2,2\\npattern 4,2 5,2 @ 2,2\\n"
+        whole = f"sokoban-answers 1\\nlevel 7\\nunsolvable\\n{listed}end\\n"
+        for script in (f"print('{whole}')", f"print('Searching..\\n{listed}found in 1 s')",
+                       f"print('unsolvable\\nzone 3,2\\nend\\n{whole}')",
+                       f"open(sys.argv[1] + '.table', 'w').write('; all\\n{listed}')"):
+            result = self.solve(script, "--verbose", words="{}")
+            self.assertIn("level 1: shown unsolvable by the solver (1 of 1 done, 1 found)",
+                          result.err, script)
+            self.assertEqual(self.report()[0], "level 1 unsolvable patterns 2")
+            for name in os.listdir():
+                if name.startswith("mine."):
+                    os.remove(name)
+        for lines, why in ((listed[:24], "pattern 3,2 5,2 @ 2,2: push 2,2 r"),
+                           ("zone 3,2\\n", "zone 3,2: leak 3,2 l")):
+            result = self.solve(f"print('so be it\\nunsolvable\\n{lines}end')", "--verbose")
+            for said in ("level 1: | so be it", f"level 1: | refused: {why}",
+                         "level 1: the solver found nothing"):
+                self.assertIn(f"check: {said}", result.err)
+            self.assertEqual(self.report()[0], "level 1 missing")
+            os.remove("mine.memory")
+            os.remove("mine.xsb")
+            os.remove("mine.answers")
+
+    def test_limits_of_its_own(self):
+        """The solver runs without the search, and a limit of the search is none of the solver."""
+        self.write("a.txt", f"{BETA}\n\n{GAMMA}")
+        for words in (["--search", "0"], ["--seconds", "0"]):
+            result = self.solve("time.sleep(.5)", *words, "--solver-seconds", "20")
+            self.assertEqual(result.err.splitlines()[0],
+                             "check: 2 levels for the solver, at most 20 s each")
+            os.remove("mine.memory")
+        result = self.solve("time.sleep(3)", "--search", "0.1", "--jobs", "1",
+                            "--solver-seconds", "9", "--solver-search", "1")
+        self.assertEqual(result.err.splitlines()[0],
+                         "check: 2 levels to search, at most 10 s each, 0.1 s in all; "
+                         "2 levels for the solver, at most 9 s each, 1 s in all")
+        self.assertIn("check: 2 levels left: the next run goes on with them", result.err)
+
+    def test_no_program(self):
         self.write("a.txt", BETA)
-        result = self.solve("open('seen', 'w')", "--seconds", "0")
-        self.assertFalse(os.path.exists("seen"))
         result = self.tool("check", "other", "a.txt", "--solver", "no-such-program {}")
         self.assertEqual((result.status, result.out, result.err), (
             2, b"", "check: --solver: there is no program no-such-program\n"))
@@ -229,7 +275,7 @@ class Checks(Check):
         boards = [Generator(seed).level()[0] for seed in range(50)]
         self.write("a.txt", "\n\n".join("\n".join(rows) for rows in boards) + "\n")
         found = levels.read(self.read("a.txt"))
-        limits = solvers.Limits(f"{sys.executable} {TOP}/examples/solver.py", 60, 2, Budget(600))
-        results = list(solvers.Solvers(found, limits).results())
+        results = list(solvers.Solvers(solver(f"{sys.executable} {TOP}/examples/solver.py"), found,
+                                       Limits(60, 600, 2), Budget(600)).results())
         self.assertEqual(len(results), 50)
         self.assertEqual({it.what for it in results}, {solvers.SOLVED})

@@ -174,6 +174,11 @@ def zone(level, members):
     return _record(level, b"unsolvable", [b"zone " + cells(members)])
 
 
+def certificate(level, lines):
+    """Returns the record of a certificate with these lines."""
+    return _record(level, b"unsolvable", lines)
+
+
 def cells(listed):
     """Returns cells as they are written, in reading order."""
     return b" ".join(b"%d,%d" % cell

@@ -41,3 +41,15 @@ class Audits:
         text = b"\n".join(b"".join(row + b"\n" for row in level.rows) for level in some)
         for record in answers.read(self.program.make(self._put("some", text))).records:
             yield some[record.level - 1].number, record
+
+
+def refusal(program: auditor.Auditor, level: levels.Level, lines: Sequence[bytes]) -> str:
+    """Returns why an audit refuses lines as a certificate of a level, or ""."""
+    with Audits(program, b"".join(row + b"\n" for row in level.rows), 1) as audits:
+        line = audits.audit(answers.text([answers.certificate(1, lines)])).lines[0]
+    if line.is_answered:
+        return ""
+    if line.words[:1] != ["line"]:
+        return " ".join(["a certificate:", *line.words])
+    # The first line of the certificate is the fourth one of the text.
+    return f"{texts.shown(lines[int(line.words[1]) - 4])}: {' '.join(line.words[2:])}"

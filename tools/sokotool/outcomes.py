@@ -4,11 +4,12 @@ from typing import Dict, List, Sequence, Tuple
 
 from .boards import Form
 from .search.refute import FOUND, FULL, ILLEGAL, SOLVABLE
+from .solvers import FAILED, REFUTED, SOLVED
 
 # More time doesn't change these outcomes.
-_FINAL = (FULL, ILLEGAL)
+FINAL = (FULL, ILLEGAL)
 # These gave an answer: if there is none now, it was lost.
-_ANSWERED = (FOUND, SOLVABLE, "solved")
+_ANSWERED = (FOUND, SOLVABLE, SOLVED, REFUTED)
 
 
 class Outcomes:
@@ -26,15 +27,18 @@ class Outcomes:
         return what, seconds
 
     def due(self, forms: Sequence[Form], way: str, seconds: float) -> List[Form]:
-        """Returns the boards that were never searched in this way for so many seconds, those with
-        the fewest seconds first."""
+        """Returns the boards without an answer that were never searched in this way for so many
+        seconds, those with the fewest seconds first."""
         found = [form for form in forms for what, spent in [self.of(form, way)]
-                 if what in _ANSWERED or spent < seconds and what not in _FINAL]
+                 if what in _ANSWERED or spent < seconds and what not in FINAL]
         return sorted(found, key=lambda form: self.of(form, way)[1])
 
     def keep(self, form: Form, way: str, what: str, seconds: float) -> None:
-        """Remembers an outcome and the seconds that the search had."""
-        self.kept.setdefault(form.digest, {})[way] = (what, max(seconds, self.of(form, way)[1]))
+        """Remembers an outcome and the seconds that the search had. That a solver can't be run is
+        none."""
+        if what != FAILED:
+            most = max(seconds, self.of(form, way)[1])
+            self.kept.setdefault(form.digest, {})[way] = (what, most)
 
     def join(self, others: "Outcomes") -> None:
         """Remembers other outcomes too."""

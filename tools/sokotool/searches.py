@@ -1,14 +1,16 @@
-"""Runs searches for certificates, each in a process of its own: several at once, within a time
-limit. A search that dies loses only its own level."""
+"""Runs searches for certificates in processes of their own: several at once, within a time limit. A
+search that dies loses only its own level."""
+import contextlib
+import gc
 import multiprocessing.connection
 import signal
 import time
-from typing import Any, Callable, Dict, Iterator, List, NamedTuple, Optional, Sequence
+from typing import Any, Callable, Dict, Iterator, List, NamedTuple, Sequence, Tuple
 
 from . import answers, system
 from .levels import Level
-from .search.budget import Budget
-from .search.refute import LATE, SOLVABLE, Outcome, outcome
+from .search.budget import Budget, Limits
+from .search.refute import FOUND, FULL, ILLEGAL, LATE, LONG, SOLVABLE, Outcome, outcome
 
 MEMORY = "memory"
 # the seconds after its time limit in which a search may still shorten and write its list
@@ -18,49 +20,74 @@ _BEAT = 0.2
 
 class Result(NamedTuple):
     """The outcome of a level's search, the record of the certificate or solution if one was found,
-    and the seconds that the search could have."""
+    and the seconds that the search could have. `said` has lines that tell more."""
 
     level: Level
     what: str
     record: bytes
     seconds: float
+    said: Sequence[str] = ()
+
+    @property
+    def words(self) -> str:
+        """The outcome in words."""
+        return {FOUND: "found", SOLVABLE: "solved", LONG: "list too long", ILLEGAL: "not legal",
+                FULL: "gave up: its tables are full", MEMORY: "gave up: out of memory",
+                LATE: f"stopped after {self.seconds:.3g} s"}[self.what]
 
 
-class _Running(NamedTuple):
-    """A search that runs: the index of its level, its process, when it began, and its seconds."""
+class _Worker:
+    """A process that searches one level after another. `at` is the index of its level, if it has
+    one. It gets the first one when it has started, so that no search pays for the start."""
 
-    at: int
-    process: Any
-    pipe: Any
-    began: float
-    seconds: float
+    def __init__(self) -> None:
+        self.pipe, theirs = system.PROCESSES.Pipe()
+        self.process = system.PROCESSES.Process(target=_work, args=(theirs,), daemon=True)
+        self.process.start()
+        theirs.close()
+        self.is_ready, self.at = False, -1
+        self.began = self.seconds = 0.0
+
+    def search(self, at: int, level: Level, seconds: float) -> None:
+        """Begins to search a level."""
+        self.is_ready, self.at, self.began, self.seconds = False, at, time.monotonic(), seconds
+        with contextlib.suppress(OSError):  # It has died: its pipe says so.
+            self.pipe.send((level, seconds))
+
+    def is_late(self) -> bool:
+        """Returns whether a search goes on after its time."""
+        return self.at >= 0 and time.monotonic() - self.began > self.seconds + GRACE
+
+    def stop(self) -> None:
+        """Ends the process."""
+        self.process.kill()
+        self.process.join()
+        self.pipe.close()
 
 
 class Searches:
-    """The searches of some levels, up to `jobs` at once, each within some seconds. Results come in
-    the order of the levels. Once the time of a budget is over, no search begins."""
+    """The searches of some levels within limits. Once the time of the budget is over, no search
+    begins. Results come as searches end, or in the order of the levels."""
 
-    def __init__(self, levels: Sequence[Level], seconds: float, jobs: int,
-                 budget: Optional[Budget] = None) -> None:
-        self.levels, self.seconds, self.jobs, self.budget = levels, seconds, jobs, budget
-        self.running: Dict[int, _Running] = {}
+    def __init__(self, levels: Sequence[Level], limits: Limits, budget: Budget,
+                 is_ordered: bool = False) -> None:
+        self.levels, self.limits, self.budget = levels, limits, budget
+        self.is_ordered = is_ordered
+        self._workers: List[_Worker] = []
         self._done: Dict[int, Result] = {}
-        self._started = 0
+        self._started = self._yielded = 0
 
     def results(self, watch: Callable[[], None] = lambda: None) -> Iterator[Result]:
-        """Yields the result of each level once it and all before it are done. While it waits, it
-        calls `watch` several times a second."""
+        """Yields the results. While it waits, it calls `watch` several times a second."""
         try:
-            for index in range(len(self.levels)):
-                while index not in self._done:
-                    self._start()
-                    if not self.running:
-                        return
-                    watch()
-                    self._wait()
-                yield self._done.pop(index)
+            while self._goes_on():
+                watch()
+                self._wait()
+                yield from self._ready()
         finally:
-            self._kill()
+            for worker in self._workers:
+                worker.stop()
+            self._workers.clear()
 
     def rest(self) -> List[Result]:
         """Returns the results that were not yielded before an interrupt."""
@@ -70,56 +97,59 @@ class Searches:
         """Returns the levels that are searched, with their seconds."""
         now = time.monotonic()
         return ", ".join(f"level {self.levels[one.at].number} for {now - one.began:.0f} s"
-                         for one in sorted(self.running.values()))
+                         for one in sorted(self._workers, key=lambda it: it.at) if one.at >= 0)
 
-    def _start(self) -> None:
-        while len(self.running) < self.jobs and self._started < len(self.levels):
-            left = self.budget.seconds_left() if self.budget else self.seconds
-            if left <= 0:
-                break
-            seconds = min(self.seconds, left)
-            ours, theirs = system.PROCESSES.Pipe(duplex=False)
-            words = (self.levels[self._started], seconds, theirs)
-            process = system.PROCESSES.Process(target=_search, args=words, daemon=True)
-            process.start()
-            theirs.close()
-            self.running[self._started] = _Running(self._started, process, ours, time.monotonic(),
-                                                   seconds)
+    def _goes_on(self) -> bool:
+        """Gives levels to the processes. Returns whether there is a result to wait for."""
+        while self._started < len(self.levels) and not self.budget.is_late():
+            worker = next((it for it in self._workers if it.is_ready), None)
+            if worker is None:
+                if len(self._workers) == min(self.limits.jobs, len(self.levels)):
+                    return True
+                self._workers.append(_Worker())
+                continue
+            seconds = min(self.limits.seconds, self.budget.seconds_left())
+            worker.search(self._started, self.levels[self._started], seconds)
             self._started += 1
+        return any(it.at >= 0 for it in self._workers)
 
     def _wait(self) -> None:
-        """Takes the results that have come, and ends the searches that are late."""
-        running = {one.pipe: one for one in self.running.values()}
-        ready = multiprocessing.connection.wait(list(running), _BEAT)
-        for pipe, one in running.items():
-            if pipe in ready:
-                self._end(one, *_received(pipe))
-            elif time.monotonic() - one.began > one.seconds + GRACE:
-                self._end(one, LATE, b"")
+        """Takes what processes have sent, and ends those that are late."""
+        ready = multiprocessing.connection.wait([it.pipe for it in self._workers], _BEAT)
+        for worker in list(self._workers):
+            if worker.pipe in ready:
+                self._take(worker)
+            elif worker.is_late():
+                self._end(worker, LATE)
 
-    def _end(self, one: _Running, what: str, record: bytes) -> None:
-        self._done[one.at] = Result(self.levels[one.at], what, record, one.seconds)
-        _stop(one)
-        del self.running[one.at]
+    def _take(self, worker: _Worker) -> None:
+        """Takes what a process has sent. One that died before it sent anything ran out of memory.
+        """
+        try:
+            what, record = worker.pipe.recv()
+        except (EOFError, OSError):
+            self._end(worker, MEMORY)
+            return
+        self._note(worker, what, record)
+        worker.is_ready, worker.at = True, -1
 
-    def _kill(self) -> None:
-        for one in self.running.values():
-            _stop(one)
-        self.running.clear()
+    def _end(self, worker: _Worker, what: str) -> None:
+        self._note(worker, what, b"")
+        worker.stop()
+        self._workers.remove(worker)
 
+    def _note(self, worker: _Worker, what: str, record: bytes) -> None:
+        if worker.at >= 0:
+            self._done[worker.at] = Result(self.levels[worker.at], what, record, worker.seconds)
 
-def _stop(one: _Running) -> None:
-    one.process.kill()
-    one.process.join()
-    one.pipe.close()
-
-
-def _received(pipe: Any) -> Any:
-    """Returns what a search sent. One that died before it sent anything ran out of memory."""
-    try:
-        return pipe.recv()
-    except (EOFError, OSError):
-        return MEMORY, b""
+    def _ready(self) -> Iterator[Result]:
+        """Yields the results that are due."""
+        while self._done:
+            at = self._yielded if self.is_ordered else min(self._done)
+            if at not in self._done:
+                break
+            self._yielded += 1
+            yield self._done.pop(at)
 
 
 def _record(number: int, found: Outcome) -> bytes:
@@ -128,14 +158,22 @@ def _record(number: int, found: Outcome) -> bytes:
     return answers.solution(number, found.letters) if found.what == SOLVABLE else b""
 
 
-def _search(level: Level, seconds: float, pipe: Any) -> None:
-    """Searches a level and sends the outcome."""
+def _work(pipe: Any) -> None:
+    """Says that the process is ready, searches each level that comes, and sends the outcome."""
     signal.signal(signal.SIGINT, signal.SIG_IGN)
     system.end_with_parent()
+    gc.freeze()
+    gc.disable()  # A search makes many tuples, and no cycles.
+    with contextlib.suppress(EOFError, OSError):
+        pipe.send(("", b""))
+        while True:
+            pipe.send(_found(*pipe.recv()))
+            gc.collect()
+
+
+def _found(level: Level, seconds: float) -> Tuple[str, bytes]:
     try:
         found = outcome(level, seconds)
-        what, record = found.what, _record(level.number, found)
+        return found.what, _record(level.number, found)
     except MemoryError:
-        what, record = MEMORY, b""
-    pipe.send((what, record))
-    pipe.close()
+        return MEMORY, b""

@@ -1,57 +1,67 @@
 """Runs a solver on levels, several at once. Each run has a group of processes, which is ended whole
 where the system can, a limit of time, and a limit of output.
 
-A solver gets the level in XSB on standard input, and as a file where its command has `{}`. The
-letters of a solution may be anywhere in what it prints, and in files that it leaves in the folder
-of the level's file: the first ones that a replay accepts are the answer.
+A solver gets the level in XSB on standard input, and as a file where its command has `{}`. What it
+prints, and files that it leaves in the folder of the level's file, may have the answer: the first
+letters of a solution that a replay accepts, or the first certificate that an audit accepts.
 """
 import contextlib
 import os
-import re
 import shutil
 import subprocess
 import tempfile
 import time
-from typing import Callable, Dict, Iterator, List, NamedTuple, Optional, Sequence, Set, Tuple
+from typing import IO, Callable, Dict, Iterator, List, NamedTuple, Optional, Sequence, Tuple
 
-from . import answers, game, system, texts
-from .formats import coding, letters, written
+from . import answers, printed, system, texts
+from .formats import written
 from .levels import Level
-from .search.budget import Budget
+from .search.budget import Budget, Limits
 
-SOLVED, NOTHING, LATE, LONG, FAILED = "solved", "nothing", "late", "long", "failed"
+SOLVED, REFUTED, NOTHING, LATE, LONG, FAILED = (
+    "solved", "refuted", "nothing", "late", "long", "failed")
 PLACE = "{}"
-# the bytes of a solver's output that are kept of its beginning, and of its end
-KEPT = 1 << 20
+# the bytes of the beginning and of the end of an output that may have letters, and those of its
+# beginning that may have a certificate
+KEPT, MOST_CERTIFIED = 1 << 20, 1 << 24
+# the lines of an output that are shown
+MOST_SAID = 100
 # the bytes after which a solver is ended
 MOST_PRINTED = 250_000_000
 # the seconds from SIGTERM to SIGKILL
 GRACE = 1.0
-# how many texts of letters are replayed, and how many letters in all
-MOST_TRIED, MOST_LETTERS = 10_000, 4_000_000
 _BEAT = 0.02
 _MOST_FILES = 10
-_COLOURS = re.compile(rb"\x1b\[[0-9;]*[A-Za-z]")
 
 
 class Result(NamedTuple):
-    """The outcome of a level's run: the record of the solution if there is one, the seconds that
-    the run could have, and lines that tell the rest."""
+    """The outcome of a level's run: the record of its answer if there is one, the seconds that the
+    run could have, and lines that tell the rest."""
 
     level: Level
     what: str
     record: bytes
     seconds: float
-    said: List[str]
+    said: Sequence[str]
+
+    @property
+    def words(self) -> str:
+        """The outcome in words."""
+        return {SOLVED: "solved by the solver", REFUTED: "shown unsolvable by the solver",
+                NOTHING: "the solver found nothing",
+                LATE: f"the solver was stopped after {self.seconds:.3g} s",
+                LONG: "the solver was stopped after "
+                      f"{texts.count(MOST_PRINTED // 1_000_000, 'megabyte')} of output",
+                FAILED: "the solver cannot be run"}[self.what]
 
 
-class Limits(NamedTuple):
-    """The command of a solver, the seconds of a run, how many run at once, and the time of all."""
+class Solver(NamedTuple):
+    """A solver: its command, a function that tells why an audit refuses lines as a certificate of a
+    level, or returns "", and whether the results tell what was printed."""
 
     command: str
-    seconds: float
-    jobs: int
-    budget: Budget
+    refusal: Callable[[Level, Sequence[bytes]], str]
+    is_told: bool = False
 
 
 def words_of(command: str) -> List[str]:
@@ -117,6 +127,35 @@ class Run:
         if self.group:
             self.group.kill()
 
+    def result(self, solver: Solver) -> Result:
+        """Returns the outcome of a run that is closed, and removes its files."""
+        heads = [self._beginning(self.output), *self._written()]
+        parts = [*self._printed(), *(head[:2 * KEPT] for head in heads[1:])]
+        self.output.close()
+        with contextlib.suppress(OSError, RecursionError):
+            self.folder.cleanup()
+        what, record, said = self._answer(solver, parts, heads)
+        if self.fault:
+            said.append(self.fault)
+        elif self.group and self.group.process.returncode and self.ended is None:
+            said.append(_status(self.group.process.returncode))
+        return Result(self.level, what, record, self.seconds, said if solver.is_told else [])
+
+    def _answer(self, solver: Solver, parts: Sequence[bytes], heads: Sequence[bytes]
+                ) -> Tuple[str, bytes, List[str]]:
+        """Returns the outcome, a record, and lines that tell what was printed and refused."""
+        said = _shown(parts)
+        found, refused = printed.solution_in(self.level, parts)
+        said += refused
+        if found is not None:
+            return SOLVED, answers.solution(self.level.number, found), said
+        for lines in printed.certificates_in(heads):
+            why = solver.refusal(self.level, lines)
+            if not why:
+                return REFUTED, answers.certificate(self.level.number, lines), said
+            said.append(f"refused: {why}")
+        return self.what, b"", said
+
     def _printed(self) -> List[bytes]:
         """Returns what the solver printed, or the beginning and the end of it."""
         self.output.seek(0)
@@ -127,90 +166,44 @@ class Run:
         self.output.seek(length - KEPT)
         return [first, self.output.read(KEPT)]
 
-    def result(self) -> Result:
-        """Returns the outcome of a run that is closed, and removes its files."""
-        printed = self._printed()
-        found, said = solution_in(self.level, [*printed, *self._written()])
-        self.output.close()
-        with contextlib.suppress(OSError, RecursionError):
-            self.folder.cleanup()
-        said = [line for text in printed for line in _lines(text)] + said
-        if self.fault:
-            said.append(self.fault)
-        elif self.group and self.group.process.returncode and self.ended is None:
-            said.append(_status(self.group.process.returncode))
-        if found is None:
-            return Result(self.level, self.what, b"", self.seconds, said)
-        record = answers.solution(self.level.number, found)
-        return Result(self.level, SOLVED, record, self.seconds, said)
-
     def _written(self) -> Iterator[bytes]:
-        """Yields the files that the solver left beside the level."""
+        """Yields the beginnings of the files that the solver left beside the level."""
         with contextlib.suppress(OSError):
             for name in sorted(os.listdir(self.folder.name))[:_MOST_FILES]:
                 path = os.path.join(self.folder.name, name)
                 if path != self.file and os.path.isfile(path) and not os.path.islink(path):
                     with open(path, "rb") as file:
-                        yield file.read(2 * KEPT)
+                        yield self._beginning(file)
+
+    @staticmethod
+    def _beginning(file: IO[bytes]) -> bytes:
+        file.seek(0)
+        return file.read(MOST_CERTIFIED)
 
 
 def _status(code: int) -> str:
     return f"ended by signal {-code}" if code < 0 else f"ended with status {code}"
 
 
-def _lines(text: bytes) -> List[str]:
-    return [texts.shown(line).rstrip() for line in text.splitlines() if line.strip()]
-
-
-# ---- letters in an output
-
-def solution_in(level: Level, parts: Sequence[bytes]) -> Tuple[Optional[bytes], List[str]]:
-    """Returns the first letters in some texts that solve a level, each in its case, or None; and
-    what of the others was refused."""
-    board = game.Board(level)
-    refused: List[str] = []
-    tried: Set[str] = set()
-    left = MOST_LETTERS
-    for text in (text for part in parts for text in _texts(part)):
-        if text in tried or len(tried) == MOST_TRIED or left <= 0 or board.player is None:
-            continue
-        tried.add(text)
-        try:
-            spelled = coding.expand(text, left) if coding.is_coded(text) else text
-        except coding.Wrong:
-            continue
-        left -= len(spelled)
-        replay = board.replay(spelled.encode(), any_case=True)
-        if replay.fault is None:
-            return replay.letters, refused
-        refused.append(f"refused: {spelled[:20]}{'..' * (len(spelled) > 20)}: {replay.fault}")
-    return None, refused
-
-
-def _texts(part: bytes) -> Iterator[str]:
-    """Yields the texts of letters in an output: lines of letters joined, then each of them, and
-    letters among words."""
-    block: List[str] = []
-    for line in [*_COLOURS.sub(b"", part).decode("latin-1").splitlines(), ""]:
-        if letters.are_alone(line):
-            block.append(letters.packed(line))
-            continue
-        if len(block) > 1:
-            yield "".join(block)
-        yield from block
-        block = []
-        yield from letters.among_words(line)
+def _shown(parts: Sequence[bytes]) -> List[str]:
+    """Returns the first lines of some texts, and how many more there are."""
+    lines = [line for part in parts for line in part.splitlines() if line.strip()]
+    more = len(lines) - MOST_SAID
+    return [texts.shown(line).rstrip() for line in lines[:MOST_SAID]] + (
+        [f"and {texts.count(more, 'more line')}"] if more > 0 else [])
 
 
 # ---- all runs
 
 class Solvers:
     """The runs of a solver on some levels, up to some at once. Results come in the order in which
-    the runs end. `rest` has those of runs that an interrupt ended."""
+    the runs end."""
 
-    def __init__(self, levels: Sequence[Level], limits: Limits) -> None:
-        self.words, self.limits = words_of(limits.command), limits
-        self.waiting, self.rest = list(levels), []  # type: List[Level], List[Result]
+    def __init__(self, solver: Solver, levels: Sequence[Level], limits: Limits, budget: Budget
+                 ) -> None:
+        self.solver, self.limits, self.budget = solver, limits, budget
+        self._words = words_of(solver.command)
+        self._waiting, self._rest = list(levels), []  # type: List[Level], List[Result]
         self._running: Dict[int, Run] = {}
 
     def results(self, watch: Callable[[], None] = lambda: None) -> Iterator[Result]:
@@ -226,7 +219,11 @@ class Solvers:
         finally:
             for number, run in list(self._running.items()):
                 run.what, run.seconds = LATE, min(run.seconds, time.monotonic() - run.began)
-                self.rest.append(self._ended(number, run))
+                self._rest.append(self._ended(number, run))
+
+    def rest(self) -> List[Result]:
+        """Returns the results of runs that an interrupt ended."""
+        return self._rest
 
     def at_work(self) -> str:
         """Returns the levels at work, with their seconds."""
@@ -236,15 +233,15 @@ class Solvers:
 
     def _start(self) -> bool:
         """Starts runs as long as there is room for them. Returns whether one runs."""
-        while self.waiting and len(self._running) < self.limits.jobs:
-            if self.limits.budget.is_late():
+        while self._waiting and len(self._running) < self.limits.jobs:
+            if self.budget.is_late():
                 break
-            seconds = min(self.limits.seconds, self.limits.budget.seconds_left())
-            run = Run(self.words, self.waiting.pop(0), seconds)
+            seconds = min(self.limits.seconds, self.budget.seconds_left())
+            run = Run(self._words, self._waiting.pop(0), seconds)
             self._running[run.level.number] = run
         return bool(self._running)
 
     def _ended(self, number: int, run: Run) -> Result:
         run.close()
         del self._running[number]
-        return run.result()
+        return run.result(self.solver)

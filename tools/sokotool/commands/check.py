@@ -13,20 +13,19 @@ sokoaudit checks every answer. The variable SOKOAUDIT names it, or it is found i
 the installation. The status is 1 if a level has no accepted answer, or something was left out or is
 wrong."""
 import argparse
+import math
 import os
 import re
-from typing import Any, Callable, Iterable, List, NamedTuple, Optional, Tuple
+from typing import Any, List, NamedTuple, Optional, Sequence, Tuple
 
-from .. import (answers, auditor, exports, kept, levels, memory, output, own_files, solvers, stages,
-                summary, system, taking, texts)
+from .. import (answers, auditor, boards, exports, kept, memory, output, own_files, searching,
+                solvers, stages, summary, system, taking, texts)
 from ..collection import MOVES, PUSHES, Collection
 from ..own_files import ANSWERS, KEPT_ANSWERS, KEPT_XSB, MEMORY, PAGE, REPORT, XSB
 from ..progress import Progress
-from ..search.budget import Budget
-from ..solving import Solving
 from ..stages import Exports, Found, Given
 from . import convert, page
-from .find import SECONDS, Search, Unbroken, above_zero
+from .find import SECONDS, Unbroken, above_zero
 
 BUDGET = 60
 # how often the files are read again if they change
@@ -45,10 +44,10 @@ def arguments(parser: argparse.ArgumentParser) -> None:
     parser.add_argument("--best", choices=(MOVES, PUSHES), default=MOVES,
                         help="which of several solutions is kept (default moves)")
     parser.add_argument("--seconds", metavar="S", type=float, default=SECONDS,
-                        help="search each level that is left for S seconds "
+                        help="search each level that is left for up to S seconds "
                         f"(default {SECONDS}, 0 for no search)")
     parser.add_argument("--search", metavar="S", type=float, default=BUDGET,
-                        help=f"search for S seconds in all (default {BUDGET})")
+                        help=f"search for S seconds in all (default {BUDGET}, 0 for no search)")
     parser.add_argument("--jobs", metavar="N", type=above_zero(int),
                         default=system.processors(),
                         help="search N levels at once (default one for each processor)")
@@ -56,6 +55,10 @@ def arguments(parser: argparse.ArgumentParser) -> None:
     parser.add_argument("--solver", metavar="COMMAND",
                         help="run this command for each level that is left then: it gets the level "
                              "on standard input, and in the file {}")
+    parser.add_argument("--solver-seconds", metavar="S", type=above_zero(float), default=BUDGET,
+                        help=f"end a run of the solver after S seconds (default {BUDGET})")
+    parser.add_argument("--solver-search", metavar="S", type=above_zero(float), default=math.inf,
+                        help="begin no run of the solver after S seconds (no limit by default)")
     parser.add_argument("--verbose", action="store_true", help="print what the solver prints")
 
 
@@ -171,64 +174,19 @@ def write(given: Given, found: Found, done: Done) -> None:
 
 # ---- the search
 
-class Way(NamedTuple):
-    """A way to search: its name in the memory, what is said of levels, the seconds in all, and a
-    function that begins the search of some levels within a budget."""
-
-    name: str
-    words: str
-    seconds: float
-    begin: Callable[[List[levels.Level], Budget], Any]
-
-
 def searched(given: Given, found: Found, done: Done) -> Done:
-    """Searches the levels that are left, and then runs the solver, within the time of the run. An
-    interrupt ends both."""
-    options, shown = given.options, given.shown
-    seconds, jobs, solver = options.seconds, options.jobs, options.solver
-    end = Budget(options.search)
-    done, goes_on = _searched(given, found, done, Way(
-        "find", "to search", options.search / (2 if solver else 1),
-        lambda due, budget: Search(shown, due, seconds, jobs, budget)))
-    if solver and goes_on:
-        done, _ = _searched(given, found, done, Way(
-            f"solver {solver}", "for the solver", end.seconds_left(), lambda due, budget:
-            Solving(shown, due, solvers.Limits(solver, seconds, jobs, budget), options.verbose)))
-    return done
-
-
-def _searched(given: Given, found: Found, done: Done, way: Way) -> Tuple[Done, bool]:
-    """Searches the levels that weren't searched in this way, and writes the files again. Returns
-    false after an interrupt."""
-    shown, most = given.shown, given.options.seconds
-    known = done.read.memory.outcomes
-    due = known.due(done.audited.unanswered(done.merge.now), way.name, most)
-    if not due or not way.seconds > 0:
-        return done, True
-    shown.keep(f"{texts.count(len(due), 'level')} {way.words}, at most {most:g} s each, "
-               f"{way.seconds:.3g} s in all")
-    search = way.begin([form.level for form in due], Budget(way.seconds))
-    forms = {form.level.number: form for form in due}
-
-    def take(results: Iterable[Any]) -> None:
-        for result in results:
-            search.report(result)
-            form = forms[result.level.number]
-            if result.what != solvers.FAILED:
-                found.outcomes.keep(form, way.name, result.what, result.seconds)
+    """Searches the levels that are left, and brings the files up to date as results come."""
+    def take(way: str, results: Sequence[Tuple[boards.Form, Any]]) -> None:
+        nonlocal done
+        for form, result in results:
+            found.outcomes.keep(form, way, result.what, result.seconds)
             if result.record:
                 found.add(form, answers.read(answers.text([result.record])).records[0])
+        done = settled(given, found, done)
 
-    is_interrupted = False
-    try:
-        take(search.results())
-    except KeyboardInterrupt:
-        is_interrupted = True
-        take(search.rest())
-    left = len(due) - sum(search.counts.values())
-    if left:
-        shown.keep(f"{texts.count(left, 'level')} left: the next run goes on with them")
-    return settled(given, found, done), not is_interrupted
+    searching.search(given.shown, searching.ways(given.options, given.program), searching.Wanted(
+        lambda: done.audited.unanswered(done.merge.now), done.read.memory.outcomes, take))
+    return done
 
 
 # ---- the summary

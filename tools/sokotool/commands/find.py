@@ -8,15 +8,16 @@ Standard error gets a line for each level, and the totals as the last line. An i
 search, and what was printed is a whole answers file. The status is 1 if a level was searched and
 has no answer."""
 import argparse
+import math
 import signal
 from collections import Counter
-from typing import Any, Callable, Dict, Iterator, List, Optional, Sequence
+from typing import Any, Callable, Dict, List
 
-from .. import answers, levels, output, report, searches, texts
+from .. import answers, levels, output, report, texts
 from ..progress import Progress
-from ..search.budget import Budget
+from ..search.budget import Budget, Limits
 from ..search.refute import FOUND, FULL, ILLEGAL, LATE, LONG, SOLVABLE
-from ..searches import MEMORY
+from ..searches import MEMORY, Result, Searches
 
 SECONDS = 10
 # The names under which the last line counts levels, each with its outcomes.
@@ -48,74 +49,59 @@ def above_zero(kind: Callable[[str], Any]) -> Callable[[str], Any]:
 def run(options: argparse.Namespace) -> int:
     """Prints the header, then each record when it is found. Standard error gets a line for each
     level and the totals."""
-    shown = Progress("find")
-    search = Search(shown, chosen(levels.read_file(options.levels), options), options.seconds,
-                    options.jobs)
+    found = chosen(levels.read_file(options.levels), options)
+    tally = Tally(Progress("find"), len(found))
+    search = Searches(found, Limits(options.seconds, math.inf, options.jobs), Budget(math.inf),
+                      is_ordered=True)
     printed = put(answers.text([]))
     status = 130
     try:
-        for result in search.results():
+        for result in search.results(lambda: tally.show(search.at_work())):
             if printed + len(result.record) > texts.MOST_BYTES:
                 result = result._replace(what=LONG, record=b"")
             with Unbroken():
                 printed += put(result.record)
-                search.report(result)
-        status = int(search.answered() < len(search.levels))
+                tally.add(result)
+        status = int(tally.answered() < len(found))
     except KeyboardInterrupt:
         for result in search.rest():
             put(result.record)
-            search.report(result)
-    shown.keep(search.summary())
+            tally.add(result)
+    tally.end()
     return status
 
 
-class Search:
-    """The searches of some levels as a command shows them: a line for each level that is done, and
-    on a terminal a line that names the levels at work."""
+class Tally:
+    """What a search has shown: a line for each level that is done, on a terminal a line that names
+    the levels at work, and the totals."""
 
-    def __init__(self, shown: Progress, found: Sequence[levels.Level], seconds: float,
-                 jobs: int, budget: Optional[Budget] = None) -> None:
-        self.shown, self.levels = shown, found
+    def __init__(self, shown: Progress, count: int) -> None:
+        self.shown, self.count = shown, count
         self.counts: Dict[str, int] = Counter()
-        self._searches = searches.Searches(found, seconds, jobs, budget)
 
-    def results(self) -> Iterator[searches.Result]:
-        """Yields the results in order of the levels."""
-        yield from self._searches.results(self._watch)
+    def show(self, at_work: str) -> None:
+        """Shows the levels at work."""
+        self.shown.show(f"{at_work} ({self._done()})")
 
-    def rest(self) -> List[searches.Result]:
-        """Returns the results that were not yielded before an interrupt."""
-        return self._searches.rest()
-
-    def report(self, result: searches.Result) -> None:
+    def add(self, result: Result) -> None:
         """Counts a result, and prints its line."""
         self.counts[result.what] += 1
-        self.shown.keep(f"level {result.level.number}: {self.words(result)} ({self._done()}, "
+        self.shown.keep(f"level {result.level.number}: {result.words} ({self._done()}, "
                         f"{self.answered()} found)")
 
     def answered(self) -> int:
         """Returns how many levels got an answer."""
         return self.counts[FOUND] + self.counts[SOLVABLE]
 
-    def words(self, result: searches.Result) -> str:
-        """Returns an outcome in words."""
-        return {FOUND: "found", SOLVABLE: "solved", LONG: "list too long",
-                ILLEGAL: "not legal", FULL: "gave up: its tables are full",
-                MEMORY: "gave up: out of memory",
-                LATE: f"stopped after {result.seconds:.3g} s"}[result.what]
-
-    def summary(self) -> str:
-        """Returns the number of levels with each outcome, in a fixed form."""
+    def end(self) -> None:
+        """Prints the number of levels with each outcome, in a fixed form."""
         parts = [f"{name} {sum(self.counts[what] for what in kinds)}"
                  for name, kinds in NAMES.items()]
-        left = len(self.levels) - sum(self.counts.values())
-        return " ".join([f"total {len(self.levels)}", *parts, f"left {left}"])
+        left = self.count - sum(self.counts.values())
+        self.shown.keep(" ".join([f"total {self.count}", *parts, f"left {left}"]))
 
-    def _watch(self):
-        self.shown.show(f"{self._searches.at_work()} ({self._done()})")
-
-    def _done(self):
-        return f"{sum(self.counts.values())} of {len(self.levels)} done"
+    def _done(self) -> str:
+        return f"{sum(self.counts.values())} of {self.count} done"
 
 
 def put(text: bytes) -> int:

@@ -1,5 +1,7 @@
-"""The time limit of a search."""
+"""The time of a search."""
+import math
 import time
+from typing import NamedTuple
 
 
 class Budget:
@@ -15,3 +17,17 @@ class Budget:
     def is_late(self) -> bool:
         """Returns whether the time is over."""
         return time.monotonic() > self.end
+
+
+class Limits(NamedTuple):
+    """The seconds for a level, those for all levels, and how many levels are searched at once."""
+
+    seconds: float
+    total: float
+    jobs: int
+
+    @property
+    def words(self) -> str:
+        """The limits of time in words."""
+        total = "" if math.isinf(self.total) else f", {self.total:g} s in all"
+        return f"at most {self.seconds:g} s each{total}"

@@ -1,0 +1,121 @@
+"""The rounds of a search: their order, what is left for the next run, and when results come."""
+import os
+import signal
+import subprocess
+import sys
+import time
+import unittest.mock
+from typing import Any, Dict, List, Tuple
+
+from sokotool import boards, levels, rounds
+from sokotool.outcomes import Outcomes
+from sokotool.progress import Progress
+from sokotool.search.budget import Limits
+from sokotool.searches import Result
+from tests.tools.helping import TOP, Case
+from tests.tools.test_find import CORNER, SOLVABLE, TWO_ON_A_WALL, hall
+
+FORMS = boards.forms_of(levels.read("\n".join([
+    hall(20, 20), TWO_ON_A_WALL, CORNER, SOLVABLE]).encode()))
+SLOW = """
+import sys
+from sokotool import main, rounds
+rounds.EVERY = .2
+sys.exit(main.main(["check", "mine", "a.txt", "--search", "100", "--jobs", "2"]))
+"""
+
+
+class Found:
+    """Searches that note which levels they get, and for how many seconds. Levels have outcomes by
+    their numbers, and one takes some seconds."""
+
+    def __init__(self, outcomes: Dict[int, str], takes: float = 0.0) -> None:
+        self.outcomes, self.takes = outcomes, takes
+        self.seen: List[Tuple[float, List[int]]] = []
+
+    def __call__(self, some, limits, budget):
+        self.seen.append((limits.seconds, [level.number for level in some]))
+        self.levels, self.limits, self.budget = some, limits, budget
+        return self
+
+    def results(self, watch):
+        """Yields the results."""
+        for level in self.levels:
+            if self.budget.is_late():
+                return
+            watch()
+            seconds = min(self.limits.seconds, self.budget.seconds_left())
+            time.sleep(self.takes)
+            what = self.outcomes.get(level.number, "late")
+            yield Result(level, what, b"found" * (what == "found"), seconds)
+
+    def rest(self):
+        """Returns no results."""
+        return []
+
+    def at_work(self):
+        """Returns no level."""
+        return ""
+
+
+class Rounds(Case):
+    def run_rounds(self, found: Found, known: Outcomes, seconds: float = 10, total: float = 60
+                   ) -> List[Any]:
+        """Runs the rounds, remembers the outcomes, and returns what was handed on each time."""
+        handed: List[Any] = []
+
+        def hand_on(results):
+            handed.append([result.level.number for _, result in results])
+            for form, result in results:
+                known.keep(form, "find", result.what, result.seconds)
+        way = rounds.Way("find", Limits(seconds, total, 1), rounds.of(seconds), found)
+        with unittest.mock.patch.object(Progress, "keep"):
+            rounds.Rounds(Progress("check"), way, FORMS, known).run(hand_on)
+        return handed
+
+    def test_seconds(self):
+        for seconds, expected in ((10, [.1, 1, 10]), (600, [.1, 1, 10, 600]), (.5, [.1, .5]),
+                                  (.05, [.05]), (1, [.1, 1])):
+            self.assertEqual(rounds.of(seconds), expected)
+
+    def test_easy_levels_first_and_levels_that_are_done_no_more(self):
+        found, known = Found({3: "found", 4: "full"}), Outcomes({})
+        self.run_rounds(found, known)
+        self.assertEqual(found.seen, [(.1, [3, 4, 2, 1]), (1, [2, 1]), (10, [2, 1])])
+        found.seen.clear()
+        self.run_rounds(found, known, 20)
+        self.assertEqual([seconds for seconds, some in found.seen if some == [2, 1]], [20])
+
+    def test_a_level_that_was_cut_off_is_tried_again(self):
+        """It was searched for less time than its round has, so the next run has it in that round."""
+        found, known = Found({}, takes=.3), Outcomes({})
+        for form in FORMS:
+            known.keep(form, "find", "late", 1)
+        self.assertEqual(self.run_rounds(found, known, total=.5), [[3, 4]])
+        found = Found({})
+        self.run_rounds(found, known)
+        self.assertEqual(found.seen, [(10, [3, 4, 2, 1])])
+
+    def test_results_are_handed_on_while_others_are_searched(self):
+        with unittest.mock.patch("sokotool.rounds.EVERY", .25):
+            handed = self.run_rounds(Found({}, takes=.1), Outcomes({}), seconds=.1)
+        self.assertGreater(len(handed), 1)
+        self.assertEqual([number for some in handed for number in some], [3, 4, 2, 1])
+
+
+class Killed(Case):
+    def test_a_run_that_is_killed_keeps_what_it_found(self):
+        """Answers and outcomes are in the files while the search goes on."""
+        self.write("a.txt", "\n".join([hall(60, 60), SOLVABLE]))
+        with subprocess.Popen([sys.executable, "-c", SLOW], stderr=subprocess.DEVNULL,
+                              stdout=subprocess.DEVNULL, start_new_session=True,
+                              env={**os.environ, "PYTHONPATH": os.path.join(TOP, "tools")}) as run:
+            for _ in range(200):
+                time.sleep(.1)
+                if os.path.exists("mine.report") and b"1 missing" in self.read("mine.report"):
+                    break
+            time.sleep(1.5)
+            os.kill(run.pid, signal.SIGKILL)
+        self.assertIn(b"level 2 solved", self.read("mine.report"))
+        self.assertIn(b"level 2\nsolution\n", self.read("mine.answers"))
+        self.assertEqual(self.read("mine.memory").count(b'"find"'), 2)

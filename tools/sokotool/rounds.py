@@ -1,0 +1,115 @@
+"""Looks for answers in rounds: to all levels for a short time each, then to those that are left for
+a longer one, easy levels first. So most answers come early."""
+import time
+from collections import Counter
+from typing import Any, Callable, Dict, List, NamedTuple, Sequence, Tuple
+
+from . import texts
+from .boards import Form
+from .levels import Level
+from .outcomes import FINAL, Outcomes
+from .progress import Progress
+from .search.budget import Budget, Limits
+
+# the seconds of a level in the first rounds
+FIRST = 0.1, 1, 10
+# after how many seconds results are handed on
+EVERY = 8
+
+HandOn = Callable[[Sequence[Tuple[Form, Any]]], None]
+
+
+class Way(NamedTuple):
+    """A way to look for answers: its name in the memory, its limits, the seconds for a level in
+    each round, and a function that begins to look at levels within limits and a budget for all.
+    """
+
+    name: str
+    limits: Limits
+    rounds: Sequence[float]
+    begin: Callable[[Sequence[Level], Limits, Budget], Any]
+
+
+def of(seconds: float) -> List[float]:
+    """Returns the seconds for a level in each round, up to these seconds."""
+    return [*(one for one in FIRST if one < seconds), seconds]
+
+
+def size(form: Form) -> int:
+    """Returns a number that tends to be small for easy levels: the boxes times the cells."""
+    boxes = form.cells.count(b"$") + form.cells.count(b"*")
+    return boxes * (len(form.cells) - form.cells.count(0))
+
+
+class Rounds:
+    """The rounds of a way. `left` has the levels that have no answer and may still get one."""
+
+    def __init__(self, shown: Progress, way: Way, forms: Sequence[Form], known: Outcomes) -> None:
+        self.shown, self.way, self.known = shown, way, known
+        self.left = {form.level.number: form
+                     for form in known.due(forms, way.name, way.limits.seconds)}
+        self.count = len(self.left)
+        self._done: Dict[bool, int] = Counter()  # how many levels have an answer, and have none
+        self._results: List[Tuple[Form, Any]] = []
+        self._handed = time.monotonic()
+
+    def run(self, hand_on: HandOn) -> bool:
+        """Goes through the rounds, and hands on their results every few seconds. Returns false
+        after an interrupt."""
+        budget = Budget(self.way.limits.total)
+        goes_on = True
+        for seconds in self.way.rounds:
+            due = self.known.due(list(self.left.values()), self.way.name, seconds)
+            if not due:
+                continue
+            search = self.way.begin([form.level for form in sorted(due, key=size)],
+                                    self.way.limits._replace(seconds=seconds), budget)
+            try:
+                for result in search.results(lambda at=search: self._watch(at, hand_on)):
+                    self._add(result)
+            except KeyboardInterrupt:
+                for result in search.rest():
+                    self._add(result)
+                goes_on = False
+            if not goes_on or budget.is_late():
+                break
+        self._hand_on(hand_on)
+        if not goes_on:
+            hand_on([])  # The interrupt may have come while results were handed on.
+        left = self.count - sum(self._done.values())
+        if left:
+            self.shown.keep(f"{texts.count(left, 'level')} left: the next run goes on with them")
+        return goes_on
+
+    def _add(self, result: Any) -> None:
+        """Adds a result. No later round has its level if that is done."""
+        self._results.append((self.left[result.level.number], result))
+        if self._is_done(result):
+            del self.left[result.level.number]
+
+    def _is_done(self, result: Any) -> bool:
+        return (bool(result.record) or result.what in FINAL
+                or result.seconds >= self.way.limits.seconds)
+
+    def _watch(self, search: Any, hand_on: HandOn) -> None:
+        if time.monotonic() - self._handed > EVERY and self._results:
+            self._hand_on(hand_on)
+        self.shown.show(f"{search.at_work()} ({self._words()})")
+
+    def _hand_on(self, hand_on: HandOn) -> None:
+        """Prints a line for each level that is done, in the order of the levels, and hands on all
+        results."""
+        results, self._results = self._results, []
+        for _, result in sorted(results, key=lambda it: it[1].level.number):
+            for line in result.said:
+                self.shown.keep(f"level {result.level.number}: | {line}")
+            if self._is_done(result):
+                self._done[bool(result.record)] += 1
+                self.shown.keep(f"level {result.level.number}: {result.words} "
+                                f"({self._words()})")
+        if results:
+            hand_on(results)
+        self._handed = time.monotonic()
+
+    def _words(self) -> str:
+        return f"{sum(self._done.values())} of {self.count} done, {self._done[True]} found"
