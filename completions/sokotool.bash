@@ -3,7 +3,7 @@ _sokotool() {
     local word=${COMP_WORDS[COMP_CWORD]} before=${COMP_WORDS[COMP_CWORD - 1]} command=${COMP_WORDS[1]}
     local commands="check page table find export convert warn merge carry named diff twins help"
     local -A options=(
-        [check]="--answers --best --seconds --search --jobs --encoding --solver --verbose" [convert]="--best --replace --split --encoding" [named]="--json --output"
+        [check]="--answers --best --seconds --search --jobs --encoding --solver --solver-seconds --solver-search --verbose" [convert]="--best --replace --split --encoding" [named]="--json --output"
         [find]="--seconds --jobs --output" [diff]="--json --output" [table]="--page --seconds --memory --output"
         [export]="--to --output" [warn]="--output" [merge]="--output" [page]="--output"
         [twins]="--output" [carry]="--output"

@@ -21,6 +21,8 @@ complete -c sokotool -n "__fish_seen_subcommand_from check convert" -l encoding 
 complete -c sokotool -n "__fish_seen_subcommand_from convert" -l split -d 'Write several collections'
 complete -c sokotool -n "__fish_seen_subcommand_from export" -l to -x -a 'slc sok xsb rle' -d 'The form'
 complete -c sokotool -n "__fish_seen_subcommand_from check" -l solver -x -d 'A command for levels that are left'
+complete -c sokotool -n "__fish_seen_subcommand_from check" -l solver-seconds -x -d 'Seconds of the solver for each level'
+complete -c sokotool -n "__fish_seen_subcommand_from check" -l solver-search -x -d 'Seconds of the solver for all levels'
 complete -c sokotool -n "__fish_seen_subcommand_from check" -l verbose -d 'Print what the solver prints'
 complete -c sokotool -n "__fish_seen_subcommand_from check" -l answers -r -F -d 'More answers'
 complete -c sokotool -n "__fish_seen_subcommand_from check find table" -l seconds -x -d 'Limit of time'

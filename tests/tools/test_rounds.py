@@ -87,7 +87,7 @@ class Rounds(Case):
         self.assertEqual([seconds for seconds, some in found.seen if some == [2, 1]], [20])
 
     def test_a_level_that_was_cut_off_is_tried_again(self):
-        """It was searched for less time than its round has, so the next run has it in that round."""
+        """It was searched for less time than its round has: the next run has it in that round."""
         found, known = Found({}, takes=.3), Outcomes({})
         for form in FORMS:
             known.keep(form, "find", "late", 1)

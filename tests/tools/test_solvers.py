@@ -1,5 +1,7 @@
 """Runs of solvers, good and hostile ones."""
 import os
+import re
+import shlex
 import signal
 import sys
 import time
@@ -14,6 +16,23 @@ from tests.tools.helping import SAMPLES, TOP, Case
 from tests.tools.test_check import LOST, Check
 from tests.tools.test_export import Generator
 
+# Does what YASS or Festival does, by its name: reads the level that it is given, works until its
+# time is over, and writes a file of solutions beside the level or into the current folder.
+STAND_IN = f"""#!{sys.executable}
+import os, sys, time
+is_yass = os.path.basename(sys.argv[0]) == "YASS"
+level, *options = sys.argv[1:]
+time_limit = "-maxtime" if is_yass else "-time"
+allowed = {{time_limit: options[options.index(time_limit) + 1]}}
+if is_yass:
+    allowed["-prompt"] = "no"
+assert dict(zip(options[::2], options[1::2])) == allowed, options
+text = open(level).read()
+print("solving", level, flush=True)
+time.sleep(float(allowed[time_limit]))
+with open(level + ", Solutions.sok" if is_yass else "solutions.sok", "w") as file:
+    file.write(text + "\\nSolution\\n" + ("rR" if "#@ $" in text else "LL") + "\\n")
+"""
 LEVELS = levels.read(f"{ALPHA}\n\n{BETA}\n\n{GAMMA}\n".encode())
 RECORD = b"level 1\nsolution\nrRR\nend\n"
 
@@ -78,8 +97,8 @@ class Solvers(Case):
 
     def test_no_command(self):
         for command in ("", "  ", "'a", "./nothing", "no-such-program {}"):
-            self.assertRaises(texts.Stop, solvers.Solvers, solver(command), LEVELS, Limits(1, 60, 1),
-                              Budget(60))
+            self.assertRaises(texts.Stop, solvers.Solvers, solver(command), LEVELS,
+                              Limits(1, 60, 1), Budget(60))
         self.write("nothing", "\0")
         os.chmod("nothing", 0o755)
         (result,) = solvers.Solvers(solver("./nothing"), LEVELS[:1], Limits(1, 60, 1),
@@ -192,8 +211,15 @@ class Checks(Check):
         """Runs check with a solver in Python, and with a search that finds nothing."""
         self.write("solver.py", "import os, signal, sys, time\n" + script)
         with unittest.mock.patch("sokotool.searches.outcome", lambda *_: refute.Outcome("late")):
-            return self.tool("check", "mine", "a.txt", "--solver", f"{sys.executable} solver.py {words}",
-                             "--jobs", "2", *options)
+            return self.tool("check", "mine", "a.txt", "--jobs", "2", *options, "--solver",
+                             f"{sys.executable} solver.py {words}")
+
+    @staticmethod
+    def remove_files() -> None:
+        """Removes the files of the last check."""
+        for name in os.listdir():
+            if name.startswith("mine."):
+                os.remove(name)
 
     def test_levels_that_are_left(self):
         """Only levels without an answer are given to the solver, and its answers are audited."""
@@ -235,9 +261,7 @@ class Checks(Check):
             self.assertIn("level 1: shown unsolvable by the solver (1 of 1 done, 1 found)",
                           result.err, script)
             self.assertEqual(self.report()[0], "level 1 unsolvable patterns 2")
-            for name in os.listdir():
-                if name.startswith("mine."):
-                    os.remove(name)
+            self.remove_files()
         for lines, why in ((listed[:24], "pattern 3,2 5,2 @ 2,2: push 2,2 r"),
                            ("zone 3,2\\n", "zone 3,2: leak 3,2 l")):
             result = self.solve(f"print('so be it\\nunsolvable\\n{lines}end')", "--verbose")
@@ -245,9 +269,7 @@ class Checks(Check):
                          "level 1: the solver found nothing"):
                 self.assertIn(f"check: {said}", result.err)
             self.assertEqual(self.report()[0], "level 1 missing")
-            os.remove("mine.memory")
-            os.remove("mine.xsb")
-            os.remove("mine.answers")
+            self.remove_files()
 
     def test_limits_of_its_own(self):
         """The solver runs without the search, and a limit of the search is none of the solver."""
@@ -269,6 +291,29 @@ class Checks(Check):
         result = self.tool("check", "other", "a.txt", "--solver", "no-such-program {}")
         self.assertEqual((result.status, result.out, result.err), (
             2, b"", "check: --solver: there is no program no-such-program\n"))
+
+    def test_the_lines_of_the_page(self):
+        """The lines for two solvers work as they are, with shorter times, for stand-ins with the
+        options and files of those, which take all of their time on each level."""
+        with open(os.path.join(TOP, "docs/solvers.md"), encoding="utf-8") as file:
+            lines = re.findall(r"(?m)^sokotool check my inbox/\* (--solver '(?:YASS|sh).*)$",
+                               file.read())
+        self.assertEqual(len(lines), 2)
+        self.write("a.txt", f"{BETA}\n\n{GAMMA}")
+        for name in ("YASS", "festival"):
+            self.write(name, STAND_IN)
+            os.chmod(name, 0o755)
+        path = {"PATH": os.getcwd() + os.pathsep + os.environ["PATH"]}
+        for line in lines:
+            words = shlex.split(line.replace("55", "1.5"))
+            with unittest.mock.patch.dict(os.environ, path), unittest.mock.patch(
+                    "sokotool.searches.outcome", lambda *_: refute.Outcome("late")):
+                result = self.tool("check", "mine", "a.txt", "--solver-seconds", "4", "--search",
+                                   "1", "--jobs", "1", "--verbose", *words)
+            self.assertEqual(result.err.count("solved by the solver"), 2, result.err)
+            self.assertEqual(self.report()[-1],
+                             "total 2 solved 2 unsolvable 0 refused 0 missing 0")
+            self.remove_files()
 
     def test_the_example(self):
         """The solver of the examples solves fifty small levels."""

@@ -37,10 +37,14 @@ class Outcomes:
         """Remembers an outcome and the seconds that the search had. That a solver can't be run is
         none."""
         if what != FAILED:
-            most = max(seconds, self.of(form, way)[1])
-            self.kept.setdefault(form.digest, {})[way] = (what, most)
+            self._keep(form.digest, way, what, seconds)
 
     def join(self, others: "Outcomes") -> None:
         """Remembers other outcomes too."""
         for digest, ways in others.kept.items():
-            self.kept.setdefault(digest, {}).update(ways)
+            for way, outcome in ways.items():
+                self._keep(digest, way, *outcome)
+
+    def _keep(self, digest: str, way: str, what: str, seconds: float) -> None:
+        ways = self.kept.setdefault(digest, {})
+        ways[way] = what, max(seconds, ways.get(way, ("", 0))[1])

@@ -1,5 +1,6 @@
 """The searches of a check: its own, in rounds, and after it the keeper's solver."""
 import argparse
+from functools import partial
 from typing import Any, Callable, List, NamedTuple, Sequence, Tuple
 
 from . import auditor, audits, rounds, texts
@@ -41,11 +42,12 @@ def search(shown: Progress, several: Sequence[rounds.Way], wanted: Wanted) -> No
     ends all."""
     due = [len(wanted.known.due(wanted.unanswered(), way.name, way.limits.seconds))
            for way in several]
-    said = [f"{texts.count(count, 'level')} {'to search' if way.name == WAY else 'for the solver'}, "
-            f"{way.limits.words}" for count, way in zip(due, several) if count]
+    said = [f"{texts.count(count, 'level')} "
+            f"{'to search' if way.name == WAY else 'for the solver'}, {way.limits.words}"
+            for count, way in zip(due, several) if count]
     if said:
         shown.keep("; ".join(said))
     for way in several:
         one = rounds.Rounds(shown, way, wanted.unanswered(), wanted.known)
-        if not one.run(lambda results, name=way.name: wanted.take(name, results)):
+        if not one.run(partial(wanted.take, way.name)):
             break
