@@ -50,7 +50,8 @@ def arguments(parser: argparse.ArgumentParser) -> None:
                         help=f"search for S seconds in all (default {BUDGET}, 0 for no search)")
     parser.add_argument("--jobs", metavar="N", type=above_zero(int),
                         default=system.processors(),
-                        help="search N levels at once (default one for each processor)")
+                        help="search N levels at once (default one for each processor), "
+                        "each in up to 600 megabytes")
     convert.encoding_argument(parser)
     parser.add_argument("--solver", metavar="COMMAND",
                         help="run this command for each level that is left then: it gets the level "
