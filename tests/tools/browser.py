@@ -6,7 +6,6 @@ The protocol runs through two pipes, one message of JSON after the other, each e
 import atexit
 import base64
 import contextlib
-import fcntl
 import json
 import os
 import select
@@ -50,6 +49,7 @@ class Browser:
         if self.is_running:
             return
         self.folder = tempfile.mkdtemp()
+        import fcntl  # which Windows lacks
         pairs = [os.pipe(), os.pipe()]
         theirs = [fcntl.fcntl(end, fcntl.F_DUPFD, 10) for end in (pairs[0][0], pairs[1][1])]
         for end in (pairs[0][0], pairs[1][1]):

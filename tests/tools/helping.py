@@ -13,6 +13,12 @@ from sokotool.main import main
 
 from tests.runner import TOP, call
 
+# the system whose lacks this run has: windows, macos or none
+LACKING = os.environ.get("LACKING", "")
+not_on_windows = unittest.skipIf(LACKING == "windows", "Windows has no such thing")
+needs_copies = unittest.skipIf(LACKING == "windows", "a search is a new Python there, without what "
+                               "this test replaces")
+needs_a_memory_limit = unittest.skipIf(LACKING, "there is no limit of memory")
 PROGRAM = os.path.join(TOP, "crates/sokoaudit/out/sokoaudit")
 SAMPLES = os.path.join(TOP, "samples")
 ONE = "#####\n#@$.#\n#####\n"

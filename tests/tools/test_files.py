@@ -2,7 +2,6 @@
 import glob
 import os
 import re
-import resource
 import signal
 import subprocess
 import sys
@@ -11,7 +10,7 @@ import zipfile
 
 from sokotool import answers, levels, main
 
-from .helping import ONE, TOP, Case
+from .helping import ONE, TOP, Case, needs_a_memory_limit, not_on_windows
 
 TOOL = os.path.join(TOP, "sokotool")
 OTHER = "######\n#@ $.#\n######\n"
@@ -28,6 +27,7 @@ HAND = "sokoban-answers 1\nlevel 1\nsolution\nR\nend\n"
 
 def limited() -> None:
     """Limits each file that is written to 16 KB: the rest of a write fails."""
+    import resource  # which Windows lacks
     resource.setrlimit(resource.RLIMIT_FSIZE, (16384, 16384))
 
 
@@ -128,6 +128,7 @@ class Whole(Case):
             + b"total 3000 solved 3000 unsolvable 0 refused 0 missing 0\n")
         self.write("torn.xsb", "\n\n".join(["####"] * 3000))
 
+    @not_on_windows
     def test_a_full_disk(self):
         """An unbuffered stream may write a part and report nothing."""
         for unbuffered in ("", "1"):
@@ -153,6 +154,7 @@ class Whole(Case):
         self.assertEqual(self.tool("merge", "a", "many.answers", "-o", "a").status, 0)
         self.assertEqual(len(answers.read(self.read("a")).records), 3000)
 
+    @not_on_windows
     def test_output_stays_after_an_error(self):
         self.write("out", "kept")
         self.assertEqual(self.tool("merge", "many.answers", "many.xsb", "-o", "out").status, 2)
@@ -166,6 +168,7 @@ class Whole(Case):
         self.assertEqual(self.tool("merge", "many.answers", "-o", "/dev/null").status, 0)
         self.assertFalse(os.path.isfile("/dev/null"))
 
+    @not_on_windows
     def test_interrupts(self):
         """Once Python has started, the status is 130 at any moment and nothing is printed; outputs
         are whole or missing."""
@@ -216,6 +219,7 @@ class Reading(Case):
         self.assertEqual([it.level for it in answers.read(self.read("out.answers")).records], [4])
         self.assertEqual(self.tool("convert", "again", "exports/a.txt", "exports/sub").status, 0)
 
+    @not_on_windows
     def test_what_is_in_folders(self):
         """Links to parents end, a pipe isn't opened, a file that can't be read is reported, and
         none of the files that are written is read."""
@@ -352,8 +356,11 @@ class Reading(Case):
         self.assertEqual(self.tool("check", "my", "many.txt").err,
                          "check: many.txt line 40001: more than 10000 levels\n")
 
+    @needs_a_memory_limit
     def test_hostile_lines(self):
         """33 MB of such lines take at most 30 s and 1 GB; some are tried here within 1 GB."""
+        import resource  # which Windows lacks
+
         def bound():
             resource.setrlimit(resource.RLIMIT_AS, (1_000_000_000, 1_000_000_000))
             resource.setrlimit(resource.RLIMIT_CPU, (30, 30))

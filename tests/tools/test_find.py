@@ -1,6 +1,5 @@
 """The command find, and its search."""
 import os
-import pty
 import random
 import signal
 import subprocess
@@ -8,7 +7,7 @@ import time
 import unittest.mock
 
 import solve
-from tests.tools.helping import TOP, Case
+from tests.tools.helping import TOP, Case, needs_copies, not_on_windows
 from sokotool import levels
 from sokotool.game import Board
 from sokotool.search import refute
@@ -140,6 +139,7 @@ class Levels(Case):
             result = self.tool("find", "levels", *words)
             self.assertEqual((result.status, result.out), (2, b""), words)
 
+    @needs_copies
     def test_limits(self):
         big = "\n".join(["#" * 60] + ["#" + row.ljust(58) + "#" for row in ["", "  @"] +
                                       [" $ " * 10, "", " . " * 10, ""] * 3] + ["#" * 60]) + "\n"
@@ -171,6 +171,7 @@ class Levels(Case):
         self.tool("find", "levels", *words)
         return time.monotonic() - began
 
+    @needs_copies
     def test_list_that_is_too_long(self):
         self.write("levels", TWO_ON_A_WALL)
         for name, most in (("search.closed.MOST_PATTERNS", 3), ("search.refute.MOST_PATTERNS", 6),
@@ -180,6 +181,7 @@ class Levels(Case):
             self.assertEqual(result.out, b"sokoban-answers 1\n")
             self.assertEqual(summary(result), total(1, long=1))
 
+    @needs_copies
     def test_search_without_memory_costs_its_level_alone(self):
         self.write("levels", "\n".join([CORNER, SIDE, SIDE, CORNER]))
 
@@ -212,6 +214,7 @@ class Signs(Case):
         return subprocess.Popen([os.path.join(TOP, "sokotool"), "find", *words],
                                 start_new_session=True, **streams)
 
+    @not_on_windows
     def test_interrupt_keeps_what_was_found(self):
         self.write("levels", "\n".join([CORNER, hall(60, 60), CORNER]))
         with open("answers", "wb") as answers, open("said", "wb") as said:
@@ -227,8 +230,10 @@ class Signs(Case):
                          record % 3)
         self.assertEqual(self.read("said").decode().splitlines()[-1], total(3, found=2, left=1))
 
+    @not_on_windows
     def test_terminal_names_the_level_at_work(self):
         self.write("levels", hall(60, 60))
+        import pty  # which Windows lacks
         ours, theirs = pty.openpty()
         self.find("levels", "--seconds", "1.5", stdout=subprocess.DEVNULL, stderr=theirs).wait(20)
         os.close(theirs)

@@ -12,7 +12,7 @@ from sokotool import levels, solvers, texts
 from sokotool.search import refute
 from sokotool.search.budget import Budget, Limits
 from tests.tools.exports import ALPHA, BETA, GAMMA
-from tests.tools.helping import SAMPLES, TOP, Case
+from tests.tools.helping import LACKING, SAMPLES, TOP, Case, needs_copies, not_on_windows
 from tests.tools.test_check import LOST, Check
 from tests.tools.test_export import Generator
 
@@ -77,6 +77,7 @@ class Solvers(Case):
         self.assertEqual(self.outcome("open(sys.argv[1] + ', Solutions.sok', 'w').write('rRR')",
                                       words="{}"), "solved")
 
+    @not_on_windows
     def test_the_folder_is_gone_or_full(self):
         """What a solver does to its folder costs nothing but its level."""
         self.assertEqual(self.outcome("import shutil\nshutil.rmtree(os.path.dirname(sys.argv[1]))\n"
@@ -130,6 +131,7 @@ class Solvers(Case):
         self.assertEqual(self.outcome("os.close(1); os.close(2)\nwhile True: time.sleep(9)",
                                       seconds=.5), solvers.LATE)
 
+    @not_on_windows
     def test_forks(self):
         """The children of a solver end with it, even if it is gone and they hold its output."""
         script = """
@@ -159,7 +161,7 @@ print("rRR")
         script = """
 time.sleep(1)
 text = sys.stdin.read()
-if "$@" in text: os.kill(os.getpid(), signal.SIGKILL)
+if "$@" in text: os.kill(os.getpid(), signal.SIGTERM)
 print("rRR" if "$ ." in text else "rR")
 """
         began = time.monotonic()
@@ -168,7 +170,7 @@ print("rRR" if "$ ." in text else "rR")
         self.assertEqual([found[number].what for number in (1, 2, 3)],
                          [solvers.SOLVED, solvers.SOLVED, solvers.NOTHING])
         self.assertEqual(found[2].record, b"level 2\nsolution\nrR\nend\n")
-        self.assertEqual(found[3].said, [f"ended by signal {signal.SIGKILL.value}"])
+        self.assertEqual(found[3].said, [f"ended by signal {signal.SIGTERM.value}"])
 
     def test_time_of_all(self):
         """No run begins, and none goes on, when the time of all is over."""
@@ -221,6 +223,7 @@ class Checks(Check):
             if name.startswith("mine."):
                 os.remove(name)
 
+    @needs_copies
     def test_levels_that_are_left(self):
         """Only levels without an answer are given to the solver, and its answers are audited."""
         self.write("a.txt", f"{ALPHA}\nrRR\n\n{BETA}\n\n{GAMMA}\n\n{LOST}")
@@ -239,6 +242,7 @@ class Checks(Check):
                           "check: level 3: the solver found nothing"})
         self.assertTrue(said[-1].endswith("(2 of 2 done, 1 found)"))
 
+    @needs_copies
     def test_verbose(self):
         self.write("a.txt", BETA)
         result = self.solve("print('thinking\\nrr\\n\\x1b[2Jup')\nsys.exit(7)", "--verbose")
@@ -247,6 +251,7 @@ class Checks(Check):
         self.assertEqual(self.report()[0], "level 1 solved moves 2 pushes 1 changes 1")
         self.assertNotIn("thinking", self.solve("print('thinking')").err)
 
+    @needs_copies
     def test_a_certificate(self):
         """A certificate in what is printed, or in a file, counts like a solution once the audit has
         accepted it. What is refused is told."""
@@ -271,6 +276,7 @@ class Checks(Check):
             self.assertEqual(self.report()[0], "level 1 missing")
             self.remove_files()
 
+    @needs_copies
     def test_limits_of_its_own(self):
         """The solver runs without the search, and a limit of the search is none of the solver."""
         self.write("a.txt", f"{BETA}\n\n{GAMMA}")
@@ -292,6 +298,7 @@ class Checks(Check):
         self.assertEqual((result.status, result.out, result.err), (
             2, b"", "check: --solver: there is no program no-such-program\n"))
 
+    @needs_copies
     def test_the_lines_of_the_page(self):
         """The lines for two solvers work as they are, with shorter times, for stand-ins with the
         options and files of those, which take all of their time on each level."""
@@ -314,6 +321,12 @@ class Checks(Check):
             self.assertEqual(self.report()[-1],
                              "total 2 solved 2 unsolvable 0 refused 0 missing 0")
             self.remove_files()
+
+    def test_what_a_solver_starts(self):
+        """Where the system can't end it with the solver, a line says so."""
+        self.write("a.txt", BETA)
+        said = self.solve("print('rR')").err
+        self.assertEqual(said.count("what it starts may go on"), LACKING == "windows")
 
     def test_the_example(self):
         """The solver of the examples solves fifty small levels."""

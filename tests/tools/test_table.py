@@ -9,7 +9,7 @@ import unittest.mock
 from sokotool import auditor
 from tests.tools import helping
 from tests.tools.browser import PROGRAM as BROWSER
-from tests.tools.helping import Case
+from tests.tools.helping import Case, needs_a_memory_limit
 from tests.tools.test_page import data_of
 
 LEVELS = ("Warm-up\n#######\n#@ $ .#\n#######\n\nCorner turn\n######\n#    #\n#@$  #\n#  . #\n"
@@ -84,6 +84,7 @@ class Table(Case):
         self.assertEqual(standings[1:],
                          ["1\tpushes\t1\t1\t0\t0\t0\t1\t", "2\tmoves\t1\t0\t0\t1\t1\t0\t"])
 
+    @needs_a_memory_limit
     def test_five_with_a_broken_file_and_a_list_of_20_megabytes(self):
         """A file affects only its entrant, and takes no more than its time and memory."""
         hall = "#" * 60 + "\n" + ("#" + "$ .  " * 11 +
@@ -109,6 +110,7 @@ class Table(Case):
         self.assertEqual(faults, {"ben": "answers line 9 unclosed", "eve": "out of memory",
                                   "frank": "answers line 1 header"})
 
+    @needs_a_memory_limit
     def test_limits(self):
         for name, body in (("slow", "exec sleep 30"),
                            ("large", "exec python3 -c 'bytearray(10 ** 9)'"),

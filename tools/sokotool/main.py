@@ -77,6 +77,9 @@ def main(words: Sequence[str]) -> int:
         words = [*words[1:2], "--help"]
     try:
         options = parser_for(words).parse_args(words)
+        for name, value in vars(options).items():
+            if isinstance(value, list):  # a list is one of files
+                setattr(options, name, texts.expanded(value))
         with output.into(options.output):
             status: int = options.run(options)
         sys.stdout.flush()

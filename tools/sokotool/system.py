@@ -29,6 +29,8 @@ PROGRAM = ".exe" if IS_WINDOWS else ""
 # A search starts as a copy of this process where there are copies: a new Python takes longer.
 PROCESSES: Any = multiprocessing.get_context("fork" if hasattr(os, "fork") else "spawn")
 _HAS_GROUPS = hasattr(os, "killpg")
+# whether the system can end the processes that a command starts
+ENDS_CHILDREN = _HAS_GROUPS or hasattr(ctypes, "WinDLL")
 _KILL = getattr(signal, "SIGKILL", signal.SIGTERM)
 # whether a process has ended, without taking it off the system's list: its number stays its own
 _LOOK = os.WEXITED | os.WNOHANG | os.WNOWAIT if hasattr(os, "waitid") else 0
@@ -92,8 +94,7 @@ def end_with_parent() -> None:
 
 
 class Group:
-    """A command that runs, with all processes that it starts. `is_whole` tells whether the system
-    can end those too."""
+    """A command that runs, with all processes that it starts, if the system ends children."""
 
     def __init__(self, words: Sequence[str], **streams: Any) -> None:
         if _HAS_GROUPS:
@@ -103,7 +104,6 @@ class Group:
             streams.update(creationflags=getattr(subprocess, "CREATE_NEW_PROCESS_GROUP", 0))
         self.process = subprocess.Popen(words, **streams)
         self._job = _job_of(self.process.pid)
-        self.is_whole = _HAS_GROUPS or self._job is not None
 
     def has_ended(self) -> bool:
         """Returns whether the command itself has ended."""

@@ -1,4 +1,5 @@
 """Reads files within the auditor's limits, decodes them, and splits them into lines."""
+import glob
 import hashlib
 import os
 import re
@@ -39,6 +40,13 @@ def read(name: str, most: int = MOST_BYTES) -> bytes:
     if len(data) > most:
         raise Stop(f"{shown(name)} is longer than {most} bytes")
     return data
+
+
+def expanded(names: Sequence[str]) -> List[str]:
+    """Returns names of files, with those that a wildcard stands for in its place, in order. On
+    Windows no shell does that."""
+    found = ([] if os.path.lexists(name) else sorted(glob.glob(name)) for name in names)
+    return [it for name, some in zip(names, found) for it in some or [name]]
 
 
 def check_names(names: Sequence[str]) -> None:

@@ -103,6 +103,8 @@ def gathered(options: argparse.Namespace) -> Given:
     if options.solver:
         solvers.words_of(options.solver)
     shown, program = Progress("check"), auditor.find()
+    if options.solver and not system.ENDS_CHILDREN:
+        shown.keep("this system ends the solver alone: what it starts may go on")
     own_files.check_writable(options.name)
     more = [(name, answers.read_file(name, rising=False)) for name in options.answers]
     return Given(options, shown, program, converted(options, shown), more)

@@ -1,0 +1,1 @@
+"""Runs on a system that lacks what Windows or macOS lack."""
