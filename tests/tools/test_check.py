@@ -10,7 +10,7 @@ import unittest.mock
 
 from sokotool import auditor, boards, levels, outcomes, searches
 from tests.tools import helping
-from tests.tools.ending import EndsEarly, Killed, Meanwhile
+from tests.tools.ending import EndsEarly, Killed
 from tests.tools.helping import ONE, SAMPLES, TOP, Case
 
 MAPS = "/usr/share/games/cavepacker/maps"
@@ -448,92 +448,6 @@ class Typed(Check):
             for name in os.listdir():
                 if name.startswith(("mine", ".sokotool")):
                     os.remove(name)
-
-
-class Beside(Check):
-    """What is typed while a check runs, and other checks beside it."""
-
-    def typed(self, name, text):
-        """Returns a function that types a text at the end of a file."""
-        return lambda: self.write(name, self.read(name) + text.encode())
-
-    def test_typed_during_the_search(self):
-        """A comment and a solution that were typed then, and what the search found."""
-        self.write("a.txt", CORNER + "\n" + LONG.replace("Solution", "No solution"))
-        record = "; by me\nlevel 1\nsolution\nRurD\nend\n; a note\n"
-        with Meanwhile("search", 1, self.typed("mine.answers", record)):
-            result = self.tool("check", "mine", "a.txt", "--best", "pushes")
-        self.assertEqual(result.err.splitlines()[-1], "check: mine.answers was changed by somebody "
-                         "else: reading again")
-        self.assertEqual(self.report()[-1], "total 2 solved 2 unsolvable 0 refused 0 missing 0")
-        self.assertIn(record[:-9].encode(), self.read("mine.answers"))
-        self.assertIn(b"\n; a note\n", self.read("mine.answers"))
-        again = self.tool("check", "mine", "a.txt", "--best", "pushes")
-        self.assertEqual((again.status, again.err), (0, ""))
-
-    def test_typed_while_it_reads_and_audits(self):
-        self.write("a.txt", CORNER)
-        self.check("mine", "a.txt")
-        for moment in ("audit", "progress", "mkstemp"):
-            for calls in (1, 2, 3):
-                self.write("a.txt", self.read("a.txt") + b"\n" + LONG.replace(
-                    "@ ", "@" + " " * (calls + 3 * (moment == "audit") + 6 * (
-                        moment == "mkstemp"))).encode())
-                with Meanwhile(moment, calls, self.typed("mine.xsb", f"{moment} {calls}\n")):
-                    result = self.check("mine", "a.txt")
-                self.assertIn("edited by hand: level", result.out.decode())
-                self.assertIn(f"{moment} {calls}\n".encode(), self.read("mine.xsb"))
-
-    def test_file_that_changes_again_and_again(self):
-        """After three rounds the run ends, and all files are whole."""
-        self.write("a.txt", CORNER)
-        self.check("mine", "a.txt")
-        self.write("a.txt", LONG)
-        files = {name: self.read(name) for name in os.listdir()}
-        with unittest.mock.patch.object(auditor.Auditor, "audit", autospec=True,
-                                        side_effect=self.type_and_audit(auditor.Auditor.audit)):
-            result = self.check("mine", "a.txt")
-        said = "mine.xsb was changed by somebody else"
-        self.assertEqual((result.status, result.err.splitlines()),
-                         (2, [f"check: {said}: reading again"] * 3
-                          + [f"check: {said}, again and again: the files are as they were"]))
-        now = {name: self.read(name) for name in os.listdir()}
-        self.assertEqual(now.pop("mine.xsb").replace(b"typed\n", b""), files.pop("mine.xsb"))
-        self.assertEqual(now, files)
-
-    def type_and_audit(self, audit):
-        """Returns an audit that types first."""
-        def typing(*words):
-            self.typed("mine.xsb", "typed\n")()
-            return audit(*words)
-        return typing
-
-    def test_checks_at_once(self):
-        """They wait for each other, and nothing is lost."""
-        for number in range(6):
-            row = "#@" + " " * number + "$  .#"
-            walls = "#" * len(row)
-            self.write(f"{number}.txt",
-                       f"{walls}\n{row}\n{walls}\nSolution: {'r' * number}RRR\n")
-        self.check("mine", ".")
-        self.typed("mine.xsb", "typed\n")()
-        runs = [subprocess.Popen([f"{TOP}/sokotool", "check", "mine", ".", "--best", best],
-                                 stdout=subprocess.PIPE, stderr=subprocess.PIPE)
-                for best in ("moves", "pushes") * 4]
-        for run in runs:
-            out, err = run.communicate()
-            said = err.replace(b"check: another check of mine is running: waiting for its end\n",
-                               b"")
-            self.assertEqual((run.returncode, said), (0, b""), out)
-        self.assertIn(b"typed\n", self.read("mine.xsb"))
-        self.assertEqual(self.report()[-1], "total 6 solved 6 unsolvable 0 refused 0 missing 0")
-        self.assertFalse([name for name in os.listdir() if name.startswith(".sokotool")])
-
-    def test_check_that_is_killed_bars_no_other(self):
-        self.write("a.txt", CORNER)
-        self.write(".sokotool-mine.lock", "")
-        self.assertEqual(self.check("mine", "a.txt").err, "")
-        self.assertFalse(os.path.exists(".sokotool-mine.lock"))
 
 
 class Files(Check):

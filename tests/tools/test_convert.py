@@ -306,7 +306,7 @@ class Kept(Case):
             result, found, solved = self.convert(LONG + text + "\n\n" + ONE)
             self.assertEqual((result.status, letters_of(solved)), (0, {1: "rRR"}), text)
             self.assertIn(text.split("\n")[0].encode() + b"\n", found)
-            self.assertEqual(titles_of(found), ["mine.txt", ""])
+            self.assertEqual(titles_of(found), ["", ""])
         result, found, _ = self.convert(LONG + "Solution: unknown; hint: push right first\n")
         self.assertIn(b"hint: push right first\n", found)
         for text in ("Solution: rRR", "Solution 3/2:\nrRR", "; Best solution (3 moves): rRR",
@@ -363,6 +363,34 @@ class Kept(Case):
             self.assertEqual((result.status, titles_of(found)), (0, ["First", "Second"]), text)
             self.assertEqual(titles_of(text.encode()), ["First", "Second"])
 
+    def test_titles_of_letters_and_digits(self):
+        """They are titles if they are nearer to the level below, and no solution."""
+        for text, wanted in (
+                ("Dull\n" + ONE + "\nLull\n" + ONE, ["Dull", "Lull"]),
+                ("1\n\n" + ONE + "\n42\n\n" + ONE, ["1", "42"]),
+                (ONE + "\n3D\n" + ONE + "\n\n\n4l8r\n\n" + ONE, ["", "3D", "4l8r"]),
+                ("Levels by Someone\n\n7\n" + ONE, ["7"]),
+                (ONE + "ud\n" + ONE, ["", ""]), (ONE + "\nud\n\n" + ONE, ["", ""]),
+                (ONE + "\nMy solution\nud\n" + ONE, ["", "My solution"]),
+                (ONE + "\nud\nlr\n" + ONE, ["", ""]), ("Dull\nAuthor: B\n" + ONE, [""])):
+            self.write("a.xsb", text)
+            self.assertEqual(titles_of(self.read("a.xsb")), wanted, text)
+            self.assertEqual(titles_of(self.convert(text)[1]), wanted, text)
+
+    def test_titles_lose_their_marks(self):
+        for line in ("<h2>First</h2>", "# First", "; ## First", "Title=First", "\fFirst",
+                     "\fTitle: First", "<b>First</b><br>"):
+            self.assertEqual(titles_of(self.convert(line + "\n" + ONE)[1]), ["First"], line)
+
+    def test_name_of_a_file_is_no_title(self):
+        _, found, _ = self.convert(ONE + "\n" + ONE)
+        self.assertIn(b"; File: mine.txt\n", found)
+        self.assertEqual(titles_of(found), ["", ""])
+        for form in ("sok", "slc", "xsb", "rle"):
+            exported = self.tool("export", "out", "--to", form).out
+            self.assertNotIn(b"Title: ", exported)
+            self.assertNotIn(b'Id="mine', exported)
+
     def test_titles_of_two_files(self):
         self.write("a.txt", f"Title: First\n{ONE}\nTitle: Second\n{OTHER}")
         self.write("b.txt", f"Title: All\n\n{ONE}\n{OTHER}Title: Fourth\n")
@@ -396,7 +424,7 @@ class Kept(Case):
         result, found, solved = self.convert(
             f"{ONE}Solution: R\n\n{OTHER}Title: Six\nType: Hexoban\nSolution: rR\n\n{OTHER}rR\n")
         self.assertEqual((result.status, letters_of(solved)), (1, {1: "R", 2: "rR"}))
-        self.assertEqual(titles_of(found), ["mine.txt", ""])
+        self.assertEqual(titles_of(found), ["", ""])
         self.assertIn("line 6: a level of Hexoban, which is not read", result.err)
 
     def test_unsolved_is_reported(self):

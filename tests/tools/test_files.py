@@ -214,7 +214,7 @@ class Reading(Case):
         result = self.tool("convert", "out", "exports")
         self.assertEqual(result.err, "convert: 4 levels, 1 solutions, 0 left out\n")
         found = [line for line in self.read("out.xsb").decode().split("\n") if line[:1] == ";"]
-        self.assertEqual(found, [f"; {name}" for name in (
+        self.assertEqual(found, [f"; File: {name}" for name in (
             "a.txt", "b.txt", "sub/c.txt", "sub/one.xsb")])
         self.assertEqual([it.level for it in answers.read(self.read("out.answers")).records], [4])
         self.assertEqual(self.tool("convert", "again", "exports/a.txt", "exports/sub").status, 0)
@@ -255,7 +255,7 @@ class Reading(Case):
         self.assertEqual((result.status, result.err),
                          (0, "convert: 2 levels, 1 solutions, 0 left out\n"))
         self.assertEqual([line for line in self.read("out.xsb").split(b"\n") if line[:1] == b";"],
-                         [b"; a.txt", b"; b/two.txt"])
+                         [b"; File: a.txt", b"; File: b/two.txt"])
         self.write("a.txt", ONE)
         self.write("bad.zip", self.read("pack.zip").replace(b"#", b"x", 3))
         result = self.tool("convert", "two", "a.txt", "bad.zip")

@@ -137,7 +137,7 @@ class History:
         for name, several in self.exports.items():
             with open(f"inbox/{name}.txt", "w", encoding="utf-8") as file:
                 file.write("".join(one.text() for one in several))
-        if self.chance.random() < .0:
+        if self.chance.random() < .2:
             self.put_friend()
 
     def put_friend(self) -> None:
@@ -320,15 +320,16 @@ class Histories(Case):
                 history.change_exports()
             for _ in range(history.chance.randint(1, 3)):
                 history.type()
-        if self.run_whole(history, "whole") == "refused":
-            return
+        for _ in range(2):
+            if self.run_whole(history, "whole") == "refused":
+                return
         files = {name: self.read(name) for name in glob.glob("mine.*")}
         self.check()
         self.assertEqual(sorted(files), sorted(glob.glob("mine.*")))
         self.assertFalse([name for name, data in files.items() if self.read(name) != data])
 
     def assert_has_words(self, words: Set[str], said: str, where: str) -> None:
-        self.assertFalse(sorted(words - words_in(said == "killed")), where)
+        self.assertFalse(sorted(words - words_in(said in ("killed", "full"))), where)
 
     def run_somehow(self, history: History) -> str:
         """Runs check, and perhaps types, starts another run or ends this one at a random moment.

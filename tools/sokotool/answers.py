@@ -6,6 +6,7 @@ from typing import List
 from . import texts
 
 MOST_PATTERNS = 65_536
+_BLANKS = b" \t\r"
 _HEADER = re.compile(rb"sokoban-answers ([12])")
 _LEVEL = re.compile(rb"level ([1-9][0-9]*)")
 
@@ -63,6 +64,15 @@ class Record:
         found.kind, found.body, found.raw = self.kind, self.body, found.raw + self.raw[1:]
         return found
 
+    def relettered(self, letters):
+        """Returns the solution with other letters, as many as its own, in the same lines."""
+        found, left = self.numbered(self.level), iter(letters)
+        found.body = [(number, bytes(byte if byte in _BLANKS else next(left) for byte in line))
+                      for number, line in self.body]
+        for number, line in found.body:
+            found.raw[number - self.line] = line
+        return found
+
 
 class Answers:
     """The version of an answers file, its records in order, and the lines after the last one."""
@@ -108,6 +118,11 @@ def read(data, levels=None, rising=True):
     return Answers(int(header.group(1)), records, loose + above)
 
 
+def is_begun(data):
+    """Returns whether a file begins as an answers file does."""
+    return data.startswith(b"sokoban-answers ")
+
+
 def read_text(name, data, levels=None, rising=True):
     """Reads an answers text of this name; its first fault ends the command."""
     try:
@@ -115,7 +130,8 @@ def read_text(name, data, levels=None, rising=True):
         check_ends(found)
         return found
     except Fault as fault:
-        raise texts.Stop(f"{texts.shown(name)} {advice(data, fault, levels)}") from None
+        place = "" if fault.why == "header" else f"line {fault.line}: "
+        raise texts.Stop(f"{texts.shown(name)} {place}{advice(data, fault, levels)}") from None
 
 
 def check_ends(found):
@@ -132,14 +148,13 @@ def advice(data, fault, levels):
     if fault.why == "header":
         return "is no answers file: line 1 isn't 'sokoban-answers 1'"
     typed = texts.shown(b"".join(texts.lines(data)[fault.line - 1:fault.line])[:40])
-    said = {"level": f"'{typed}' is neither a line 'level N' nor a comment, which begins with ';'",
+    return {"level": f"'{typed}' is neither a line 'level N' nor a comment, which begins with ';'",
             "order": f"'{typed}' has to come before the records of higher levels",
             "unknown": f"'{typed}': there is no such level, the highest is {levels}",
             "kind": f"'{typed}' is neither 'solution' nor 'unsolvable', one of which has to follow "
                     "the line 'level N'",
             "end": f"'{typed}': the record above it lacks its last line, 'end'",
             "unclosed": "the last record lacks its last line, 'end'"}[fault.why]
-    return f"line {fault.line}: {said}"
 
 
 def read_file(name, levels=None, rising=True):

@@ -6,6 +6,7 @@ from . import answers, game, levels, texts
 from .formats import coding
 
 MOST_MESSAGES = 1000
+MOST_NAMED = 5
 MOVES, PUSHES = "moves", "pushes"
 
 
@@ -51,6 +52,8 @@ class Collection:
         self.count = self.total = 0
         self.solutions = self.faults = self.unsolved = self.torn = 0
         self.file = self.published = ""
+        # the names of files that were found, and have nothing to read
+        self.idle: List[str] = []
         self.level: Optional[levels.Level] = None
         self._board: Optional[game.Board] = None
         self._tries: List[Try] = []
@@ -75,6 +78,18 @@ class Collection:
         """Returns a place as messages begin with it: a line, or 0 for a message that names its
         file."""
         return f"{texts.shown(file or self.file)} line {line}: " if line else ""
+
+    def source(self) -> str:
+        """Returns the comment that names the file. With its key it is no title."""
+        return "; File: " + texts.shown(self.published)
+
+    def report_idle(self) -> None:
+        """Reports the files without a level."""
+        if self.idle:
+            named = ", ".join(map(texts.shown, sorted(self.idle)[:MOST_NAMED]))
+            more = ", .." if len(self.idle) > MOST_NAMED else ""
+            has = "has" if len(self.idle) == 1 else "have"
+            self.note(0, f"{texts.count(len(self.idle), 'file')} {has} no level: {named}{more}")
 
     def report_rest(self) -> None:
         """Reports how many messages were not printed."""
@@ -144,7 +159,7 @@ class Collection:
         self.text, self.records = bytearray(), []
         self.count = self._letters = 0
         self._after_row = False
-        self.add_text("; " + texts.shown(self.published))
+        self.add_text(self.source())
 
     def _add(self, text: str) -> None:
         data = text.encode("utf-8", "replace")
@@ -231,6 +246,13 @@ class Collection:
         parts = [[(f"{name}-{number}.xsb", text), (f"{name}-{number}.answers", records)]
                  for number, (text, records) in enumerate(self.full, 1)]
         return parts + [self.files(f"{name}-{len(parts) + 1}")]
+
+
+class Silent(Collection):
+    """A collection that reports nothing."""
+
+    def note(self, line: int, why: str, file: Optional[str] = None) -> None:
+        pass
 
 
 def _failed(why: str) -> Attempt:

@@ -1,23 +1,29 @@
-"""The exports that a command reads: files, the files of folders, and those of zip archives."""
+"""The exports that a command reads: files, the files of folders, and those of zip archives. A file
+.sokoignore in a folder has names and wildcards of files and folders there that aren't read."""
+import fnmatch
 import glob
 import os
 import stat
 import zipfile
 import zlib
-from typing import Callable, Dict, Iterator, List, NamedTuple, Sequence, Set, Tuple
+from typing import Callable, Dict, Iterator, List, NamedTuple, Optional, Sequence, Set, Tuple
 
 from . import texts
 
 MOST_IN_ARCHIVE = 10_000
 MOST_UNPACKED = 8 * texts.MOST_BYTES
 _ZIP = b"PK\3\4"
+IGNORE = ".sokoignore"
+IsOut = Callable[[str], bool]
 
 
 class Export(NamedTuple):
-    """An export: its name, and a function that reads it or raises `Stop`."""
+    """An export: its name, a function that reads it or raises `Stop`, and whether it was found in a
+    folder or an archive, and not named itself."""
 
     name: str
     read: Callable[[], bytes]
+    is_found: bool = True
 
     @property
     def is_solution(self) -> bool:
@@ -25,12 +31,17 @@ class Export(NamedTuple):
         return self.name.lower().endswith(".sol")
 
     @property
+    def is_answers(self) -> bool:
+        """Whether its name is that of answers."""
+        return self.name.endswith(".answers")
+
+    @property
     def stem(self) -> str:
         """Its name without the end."""
         return os.path.splitext(self.name)[0]
 
 
-def listed(names: Sequence[str], is_own: Callable[[str], bool] = lambda _: False) -> List[Export]:
+def listed(names: Sequence[str], is_own: IsOut = lambda _: False) -> List[Export]:
     """Returns the exports to read: a folder stands for its regular files in order, without hidden
     ones and those that the command itself writes, and an archive for the files in it. Each folder
     is read once, and a file that was read isn't read again with a folder.
@@ -39,17 +50,30 @@ def listed(names: Sequence[str], is_own: Callable[[str], bool] = lambda _: False
     """
     seen: Set[Tuple[int, int]] = set()
     found = [export for name in names for export in _of(name, seen, is_own)]
-    stems = [export.stem for export in found]
+    stems = [export.stem for export in found if not export.is_answers]
     for solution in [export for export in found if export.is_solution]:
         if stems.count(solution.stem) == 2:
             found.remove(solution)
-            at = next((at for at, it in enumerate(found) if it.stem == solution.stem),
-                      len(found) - 1)
+            at = next((at for at, it in enumerate(found)
+                       if it.stem == solution.stem and not it.is_answers), len(found) - 1)
             found.insert(at + 1, solution)
     return found
 
 
-def own(name: str, ends: Sequence[str]) -> Callable[[str], bool]:
+def levels_of(export: Export, every: Sequence[Export]) -> Optional[Export]:
+    """Returns the levels that a file of answers is for: those of its name, or the only ones that
+    lie beside it."""
+    beside = [it for it in every if it.name.endswith(".xsb")
+              and os.path.dirname(it.name) == os.path.dirname(export.name)]
+    same = [it for it in beside if it.stem == export.stem]
+    name = export.stem + ".xsb"
+    if not same and os.path.isfile(name):
+        same = [Export(name, lambda: texts.read(name))]
+    found = same or beside
+    return found[0] if len(found) == 1 else None
+
+
+def own(name: str, ends: Sequence[str]) -> IsOut:
     """Returns a function that tells the files that a command writes or keeps for NAME: those with
     these ends, also if they are numbered parts."""
     written = [name + end + more for end in ends for more in ("", "~")]
@@ -77,16 +101,33 @@ def _drive(path: str) -> str:
     return os.path.splitdrive(path)[0].lower().replace(os.sep, "/").strip(":/")
 
 
-def _of(name: str, seen: Set[Tuple[int, int]], is_own: Callable[[str], bool]) -> Iterator[Export]:
+def _of(name: str, seen: Set[Tuple[int, int]], is_own: IsOut) -> Iterator[Export]:
     """Yields the exports that a name on the command line stands for. `seen` gets the folders and
     files."""
+    is_ignored = _ignored(os.path.dirname(name))
     if os.path.isdir(name):
-        yield from _in_folder(name, seen, is_own)
+        yield from _in_folder(name, seen, lambda file: is_own(file) or is_ignored(file))
     elif name == "-" or not os.path.isfile(name):
-        yield Export(name, lambda: texts.read(name))
+        yield Export(name, lambda: texts.read(name), False)
     else:
         _is_new(os.stat(name), seen)
-        yield from _in_file(name)
+        for export in _in_file(name):
+            if not is_ignored(export.name):
+                yield export._replace(is_found=export.name != name)
+
+
+def _ignored(folder: str) -> IsOut:
+    """Returns a function that tells what the keeper leaves out of a folder. A pattern with a slash
+    is for paths from this folder on, and any other one for names in it and below."""
+    path = os.path.join(folder, IGNORE)
+    lines = texts.decoded(texts.read(path)).splitlines() if os.path.isfile(path) else []
+    patterns = [line.strip().rstrip("/") for line in lines if not line.startswith("#")]
+
+    def is_ignored(file: str) -> bool:
+        inner = os.path.relpath(file, folder or ".").replace(os.sep, "/")
+        return any(fnmatch.fnmatchcase(inner if "/" in pattern else inner.rpartition("/")[2],
+                                       pattern.lstrip("/")) for pattern in patterns)
+    return is_ignored
 
 
 def _is_new(known: os.stat_result, seen: Set[Tuple[int, int]]) -> bool:
@@ -97,25 +138,31 @@ def _is_new(known: os.stat_result, seen: Set[Tuple[int, int]]) -> bool:
     return is_new
 
 
-def _in_folder(folder: str, seen: Set[Tuple[int, int]], is_own: Callable[[str], bool]
-               ) -> Iterator[Export]:
+def _in_folder(folder: str, seen: Set[Tuple[int, int]], is_out: IsOut) -> Iterator[Export]:
     try:
         if not _is_new(os.stat(folder), seen):
             return
         names = sorted(os.listdir(folder))
+        is_ignored = _ignored(folder)
     except OSError as error:
         yield _unreadable(folder, error.strerror)
         return
+
+    def is_left(file: str) -> bool:
+        return is_out(file) or is_ignored(file)
+
     for path in [os.path.join(folder, name) for name in names if not name.startswith(".")]:
+        if is_left(path):
+            continue
         try:
             known = os.stat(path)
         except OSError as error:
             yield _unreadable(path, error.strerror)
             continue
         if stat.S_ISDIR(known.st_mode):
-            yield from _in_folder(path, seen, is_own)
-        elif stat.S_ISREG(known.st_mode) and not is_own(path) and _is_new(known, seen):
-            yield from _in_file(path)
+            yield from _in_folder(path, seen, is_left)
+        elif stat.S_ISREG(known.st_mode) and _is_new(known, seen):
+            yield from (export for export in _in_file(path) if not is_left(export.name))
 
 
 def _in_file(path: str) -> Iterator[Export]:

@@ -22,10 +22,11 @@ class Entry(NamedTuple):
 
 
 class Kept(NamedTuple):
-    """Kept things, and the lines after the last answer."""
+    """Kept things, the lines after the last answer, and the lines of a file without a level."""
 
     entries: List[Entry]
     rest: List[bytes]
+    alone: blocks.Lines = ()
 
     def forms(self) -> Sequence[boards.Form]:
         """Returns the forms of the levels."""
@@ -50,13 +51,14 @@ class Kept(NamedTuple):
 
     def files(self) -> Tuple[Optional[bytes], Optional[bytes]]:
         """Returns the contents of both files: None if there is nothing to keep."""
-        if not self.entries and not any(self.rest):
-            return None, None
         listed = [entry.block._replace(above=(entry.head or _HEAD, *entry.block.above),
                                        below=(*_trimmed(entry.block.below), b""))
                   for entry in self.entries]
         records = [answers.spelled(record.loose) + record.text for record in self.records()]
-        return blocks.text(listed), answers.text(records) + answers.spelled(self.rest)
+        text = answers.spelled(self.alone) + blocks.text(listed)
+        has_answers = self.records() or any(self.rest)
+        return (text if text.strip() else None,
+                answers.text(records) + answers.spelled(self.rest) if has_answers else None)
 
 
 def read(levels_text: bytes, found: answers.Answers) -> Kept:
@@ -74,7 +76,7 @@ def read(levels_text: bytes, found: answers.Answers) -> Kept:
         several = records.get(number, [])
         entries.append(Entry(head, block, several[0] if several else None))
         entries += [Entry(head, Block((), block.rows, ()), other) for other in several[1:]]
-    return Kept(entries, found.rest)
+    return Kept(entries, found.rest, () if entries else tuple(texts.lines(levels_text)))
 
 
 def head_of(number: int, title: str) -> bytes:

@@ -9,20 +9,24 @@ MOST_LEVELS = 10_000
 CHARACTERS = alphabet.ROW.encode()
 # the colon, and the full-width one
 _COLON = rb"[ \t]*(?::|\xef\xbc\x9a)"
+_EQUALS = rb"[ \t]*(?:=|:|\xef\xbc\x9a)"
 _NAMES = "|".join((
     "titel", "titre", "titolo", "t\u00edtulo", "titulo", "tytu\u0142", "name", "nom", "nome",
     "level", "(?:\u043d|\u041d)\u0430\u0437\u0432\u0430\u043d\u0438\u0435", "\u6807\u9898",
     "\u6a19\u984c", "\u30bf\u30a4\u30c8\u30eb")).encode()
-_TITLE, _NAME = (re.compile(rb"[-*> \t]*(?:" + keys + rb")" + _COLON + rb"[ \t]*(.*)", re.I | re.S)
+_TITLE, _NAME = (re.compile(rb"[-*>\s]*(?:" + keys + rb")" + _EQUALS + rb"[ \t]*(.*)", re.I | re.S)
                  for keys in (b"title", _NAMES))
-_KEY = re.compile(rb"[-*>;\s]*[A-Za-z\x80-\xff-]+" + _COLON)
+_KEY = re.compile(rb"[-*>;#\s]*[A-Za-z\x80-\xff-]+" + _COLON)
 _TAGS = re.compile(rb"(?:</?[A-Za-z][^<>]*>|\[/?[A-Za-z]+(?:=[^\]]*)?\]|```.*|~~~.*"
                    rb"|[^A-Za-z0-9\x80-\xff])*", re.S)
+# tags, and the mark of a heading
+_MARKS = re.compile(rb"</?[A-Za-z][^<>]*>|\A#+[ \t]+")
 _AUTHOR = re.compile(rb"(?:by|author)\b", re.I)
 _LETTERS = re.compile(rb"[lurdLURD0-9() \t]*")
+_DIGITS = re.compile(rb"[0-9 \t]*")
 _SOLUTION = re.compile(rb"\W*(?:[A-Za-z'\x80-\xff]+\s+){0,2}solution\b(?:[^:=]*[:=]|\W*[0-9(])",
                        re.I)
-_OTHER, _ROW, _BELOW, _ABOVE, _NAMED = range(5)
+_OTHER, _ROW, _BELOW, _ABOVE, _NAMED, _SHORT = range(6)
 _ROWS = re.compile(b"%b+" % bytes([_ROW]))
 
 
@@ -41,10 +45,11 @@ def is_row(line: bytes) -> bool:
 
 
 def _kind_of(line: bytes) -> int:
-    """Returns the kind of a line: a row, a title with its key, a title above a level, or neither.
-    """
+    """Returns the kind of a line: a row, a title with its key, a title above a level, letters of
+    solutions or digits alone, or neither."""
     return (_ROW if is_row(line) else _BELOW if _TITLE.match(line) else _NAMED if _NAME.match(line)
-            else _ABOVE if title_in(line) else _OTHER)
+            else _ABOVE if title_in(line)
+            else _SHORT if line.strip() and _LETTERS.fullmatch(line) else _OTHER)
 
 
 def read(data: bytes, most: int = sys.maxsize) -> List[Level]:
@@ -75,12 +80,33 @@ def read(data: bytes, most: int = sys.maxsize) -> List[Level]:
 def _title_above(lines: List[bytes], kinds: bytes, end: int, first: int) -> bytes:
     """Returns the last line of text between two lines, or of several comment lines the first that
     names no author."""
+    short = kinds.rfind(_SHORT, end, first)
     at = last = kinds.rfind(_ABOVE, end, first)
+    if short > last and _is_title(lines, kinds, (end, short, first)):
+        return lines[short].strip()
     while at > end and kinds[at - 1] == _ABOVE and lines[at - 1].startswith(b";") and (
             lines[at].startswith(b";")):
         at -= 1
     found = [title_in(line) for line in lines[at:last + 1]] if at >= 0 else [b""]
     return next((title for title in found if not _AUTHOR.match(title)), found[-1])
+
+
+def _is_title(lines: List[bytes], kinds: bytes, where: Tuple[int, int, int]) -> bool:
+    """Returns whether letters or digits alone are where a title is: nearer to the level below than
+    to what is above, which is no solution. `where` has the end of the level above, the line, and
+    the first row below."""
+    end, at, first = where
+    top = at
+    while top > end and not lines[top - 1].strip():
+        top -= 1
+    if any(line.strip() for line in lines[at + 1:first]):
+        return False
+    above, below = at - top, first - at - 1
+    is_number = bool(_DIGITS.fullmatch(lines[at]))
+    if top > end:
+        is_solution = kinds[top - 1] == _SHORT or b"solution" in lines[top - 1].lower()
+        return not is_solution and (is_number or not below or above > below)
+    return end == 0 or above > below or is_number and above == below > 0
 
 
 def _title_of(lines: List[bytes], kinds: bytes, end: int, first: int) -> str:
@@ -99,7 +125,7 @@ def title_in(line: bytes) -> bytes:
     A line with a key such as `Author: ..`, a solution, the heading of one, tags and a line without
     a letter or digit are no titles.
     """
-    text = line.lstrip(b"; \t").rstrip()
+    text = _MARKS.sub(b"", line.lstrip(b"; \t\v\f").rstrip()).strip()
     if _KEY.match(line) or _TAGS.fullmatch(text) or _LETTERS.fullmatch(line):
         return b""
     return b"" if _SOLUTION.match(line) or is_row(text) else text

@@ -4,7 +4,7 @@ import os
 import time
 from typing import IO, Dict, Iterator, Optional
 
-from . import answers, auditor, memory, output, system, texts
+from . import answers, auditor, memory, output, report, system, texts
 from .progress import Progress
 
 # The page of a collection within the limits is shorter.
@@ -13,7 +13,9 @@ XSB, ANSWERS, REPORT, PAGE = ".xsb", ".answers", ".report", ".html"
 KEPT_XSB, KEPT_ANSWERS, MEMORY = ".kept.xsb", ".kept.answers", ".memory"
 # the files that are kept as NAME.xsb~ and so on when one of them changes
 ENDS = (XSB, ANSWERS, REPORT, PAGE, KEPT_XSB, KEPT_ANSWERS)
-EVERY = (*ENDS, MEMORY, ".unfinished")
+JOURNAL = ".unfinished"
+EVERY = (*ENDS, MEMORY, JOURNAL)
+_PAGE = b"<title>sokoaudit report</title>"
 _BEAT = 0.1
 _NOTE = f"; {auditor.REFERENCE_NOTE}".encode()
 
@@ -23,7 +25,7 @@ class Files:
 
     def __init__(self, name: str, has_backups: bool) -> None:
         self.name, self.has_backups = name, has_backups
-        self._journal = name + ".unfinished"
+        self._journal = name + JOURNAL
         output.finish(self._journal)
         self.before: Dict[str, bytes] = self._read()
         self.now: Dict[str, Optional[bytes]] = dict(self.before)
@@ -70,6 +72,15 @@ class Files:
             output.write_files(listed, self._journal, known)
             self.now.update(changed)
             self.has_backups = self.has_backups or bool(backups)
+
+
+def is_made(name: str, data: bytes) -> bool:
+    """Returns whether a file is one that check made for some NAME, but not its levels or answers:
+    a backup, what was kept, a report, a page, a memory, or a journal."""
+    return (name.endswith(("~", KEPT_XSB, KEPT_ANSWERS, JOURNAL))
+            or name.endswith(REPORT) and report.read(data).total is not None
+            or name.endswith(PAGE) and _PAGE in data
+            or name.endswith(MEMORY) and data.startswith(b"{"))
 
 
 def check_writable(name: str) -> None:

@@ -205,4 +205,4 @@ def left(done: Read, made: Merge, taken: taking.Taken) -> kept.Kept:
     for index, block in merged.away:
         level = done.mine.state.levels[index]
         entries.append(kept.Entry(kept.head_of(level.number, level.title), block))
-    return kept.Kept(entries, done.stored.rest)
+    return done.stored._replace(entries=entries)

@@ -1,19 +1,27 @@
 """The summary of a check, which fits a screen."""
-from typing import Dict, Iterator, List, NamedTuple, Optional, Sequence
+from collections import Counter
+from typing import Dict, Iterator, List, NamedTuple, Optional, Sequence, Tuple
 
-from . import auditor, boards, changes
+from . import auditor, boards, changes, texts
+from .outcomes import Outcomes
+from .search.refute import FULL, ILLEGAL, LATE, LONG
+from .searches import MEMORY
+from .solvers import NOTHING
 
 MOST_PROBLEMS = 8
 MOST_LINES = 5
 MOST_ITEMS = 4
 _NAMES = {"solved": "newly solved", "unsolvable": "newly unsolvable", "changed": "another board",
           "other": "otherwise answered"}
+# the outcomes without an answer in words
+_OUTCOMES = {LATE: "stopped", FULL: "gave up with full tables", MEMORY: "gave up out of memory",
+             LONG: "too long", ILLEGAL: "not legal", NOTHING: "without an answer"}
 
 
 class Done(NamedTuple):
     """The result of a check: the name of the collection, its state now and before, what was left
     out or is wrong, whether the reference checked it, the numbers of the levels that the keeper
-    edited, and what is kept elsewhere."""
+    edited, what is kept elsewhere, and how levels without an answer were searched before."""
 
     name: str
     now: changes.State
@@ -22,6 +30,7 @@ class Done(NamedTuple):
     is_reference: bool
     edited: List[int]
     kept: List[str]
+    searched: List[str]
 
 
 def lines(done: Done) -> Iterator[str]:
@@ -36,6 +45,7 @@ def lines(done: Done) -> Iterator[str]:
     yield from _some("no answer: ", [
         f"{line.text}\tline {level.line}\t{level.title}".rstrip()
         for level, line in zip(done.now.levels, done.now.lines) if not line.is_answered])
+    yield from done.searched
     if done.before:
         found = changes.changes(done.before, done.now)
         yield from changed(found)
@@ -57,6 +67,25 @@ def _some(head: str, items: Sequence[str], most: int = MOST_LINES) -> Iterator[s
         yield head + item
     if items[shown:]:
         yield f"{head}and {len(items) - shown} more"
+
+
+def searched(forms: Sequence[boards.Form], known: Outcomes, new: Outcomes) -> List[str]:
+    """Returns a line for each way in which levels without an answer were searched by earlier runs,
+    with their outcomes."""
+    ways: Dict[str, List[Tuple[str, float]]] = {}
+    for form in forms:
+        for way, outcome in known.kept.get(form.digest, {}).items():
+            if way not in new.kept.get(form.digest, {}):
+                ways.setdefault(way, []).append(outcome)
+    found = []
+    for way, several in sorted(ways.items()):
+        words = Counter(_OUTCOMES.get(what, "an answer that is lost") for what, _ in several)
+        were = "was" if len(several) == 1 else "were"
+        by = "" if way == "find" else f" by the {way}"
+        found.append(f"{texts.count(len(several), 'level')} {were} searched before{by}, up to "
+                     f"{max(seconds for _, seconds in several):g} s each: "
+                     + ", ".join(f"{count} {said}" for said, count in words.items()))
+    return found
 
 
 def changed(found: Sequence[changes.Change]) -> Iterator[str]:

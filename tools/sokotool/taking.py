@@ -4,6 +4,7 @@ from typing import Dict, Hashable, List, NamedTuple, Sequence, Set, Tuple
 
 from . import answers, carrying, changes, kept, picks, texts
 from .blocks import Block
+from .game import Board
 from .levels import Level
 from .picks import Source
 
@@ -36,6 +37,7 @@ class Taken:
                 computed: Set[str]) -> None:
         """Adds the records of NAME.answers, by the board of the level `before` that each names, and
         by that of the level that has its number now. Some were computed, by their digests."""
+        found.records[:] = [_in_case(it, (before, mine)) for it in found.records]
         count = len(before.levels)
         self._own = self._by_board([it for it in found.records if it.level <= count], before, True)
         self._own += self._by_board([it for it in found.records if it.level > count], mine, True)
@@ -81,6 +83,7 @@ class Taken:
     def add_file(self, name: str, found: answers.Answers, before: changes.State) -> None:
         """Adds the records of another file, by the numbers of levels before and now. Those that no
         level accepts are reported."""
+        found.records[:] = [_in_case(it, (self.now, before)) for it in found.records]
         for record in found.records:
             self.picks.add_source(Source(name, record.line))
             if record.level <= len(self.now.levels):
@@ -176,6 +179,21 @@ class Taken:
         """Returns whether a record was computed, or is in the exports."""
         return any(text in self._computed or number in self._exported
                    and picks.covers(self._exported[number], text) for number, text in own.targets)
+
+
+def _in_case(record: answers.Record, states: Sequence[changes.State]) -> answers.Record:
+    """Returns a solution with each letter in its case, if it solves a level of its number so."""
+    if record.kind != "solution":
+        return record
+    for state in states:
+        if record.level <= len(state.levels):
+            board = Board(state.levels[record.level - 1])
+            if board.player is None or not board.replay(record.letters).fault:
+                continue
+            replay = board.replay(record.letters, any_case=True)
+            if not replay.fault:
+                return record.relettered(replay.letters)
+    return record
 
 
 def _is_same(entry: kept.Entry, other: kept.Entry) -> bool:

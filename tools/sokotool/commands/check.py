@@ -30,7 +30,8 @@ from .find import SECONDS, Unbroken, above_zero
 BUDGET = 60
 # how often the files are read again if they change
 ROUNDS = 3
-_LEVEL = re.compile(r"\blevel (\d+)")
+# a level by its number in the exports; in quotes it is a line of a file
+_LEVEL = re.compile(r"(?<!')\blevel (\d+)")
 
 
 def arguments(parser: argparse.ArgumentParser) -> None:
@@ -210,7 +211,9 @@ def report(given: Given, found: Found, done: Done) -> int:
               if number in merge.merged.edited or form.key in found.edited]
     for said in summary.lines(summary.Done(
             given.options.name, merge.now._replace(lines=lines), found.before, problems,
-            given.program.is_reference, edited, left.reasons(merge.now.forms))):
+            given.program.is_reference, edited, left.reasons(merge.now.forms),
+            summary.searched(audited.unanswered(merge.now), read.memory.outcomes,
+                             found.outcomes))):
         print(said)
     return int(bool(problems) or not all(line.is_answered for line in lines))
 

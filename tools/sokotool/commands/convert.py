@@ -17,8 +17,8 @@ import sys
 from typing import List, Optional, Sequence, Tuple
 
 from .. import collection as collections
-from .. import exports, former, output, texts
-from ..collection import Collection
+from .. import answers, exports, former, levels, output, own_files, texts
+from ..collection import Collection, Silent
 from ..formats import letters, lists, plain, slc
 
 
@@ -90,8 +90,9 @@ def _check_inputs(files: Sequence[str], written: Sequence[str]) -> None:
 # ---- what to read
 
 def read_files(collection: Collection, listed: Sequence[exports.Export]) -> List[str]:
-    """Reads exports into the collection. Returns their names from the common folder on, and of
-    standard input a checksum. A file that can't be read is reported, unless it is the only one."""
+    """Reads exports into the collection, but no other file that sokotool wrote for some NAME than
+    its levels and answers. Returns their names from the common folder on, and of standard input a
+    checksum. A file that can't be read is reported, unless it is the only one."""
     sources = []
     before: Tuple[str, int] = ("", 0)
     waiting = lists.Lists(collection)
@@ -104,34 +105,57 @@ def read_files(collection: Collection, listed: Sequence[exports.Export]) -> List
                 raise
             collection.fault(0, str(stop), export.name)
             continue
+        if own_files.is_made(export.name, data):
+            continue
         name = names[export.name]
         sources.append("-" + hashlib.sha256(data).hexdigest()[:16] if name == "-" else name)
         if not export.is_solution:
             collection.end_level()
         collection.file, collection.published = export.name, name
-        if export.is_solution:
+        if answers.is_begun(data):
+            _read_answers(collection, data, exports.levels_of(export, listed), waiting)
+        elif export.is_solution:
             _read_solution(collection, data, before, waiting)
-            continue
-        count = collection.total
-        _read_levels(collection, data, waiting)
-        before = (export.stem, collection.total - count)
-        waiting.add_export(export.name, count, collection.total)
+        else:
+            count = collection.total
+            _read_levels(collection, data, export.is_found, waiting)
+            before = (export.stem, collection.total - count)
+            waiting.add_export(export.name, count, collection.total)
     collection.end_level()
     waiting.place()
+    collection.report_idle()
     return sources
 
 
-def _read_levels(collection: Collection, data: bytes, waiting: lists.Lists) -> None:
+def _read_answers(collection: Collection, data: bytes, its_levels: Optional[exports.Export],
+                  waiting: lists.Lists) -> None:
+    """Reads answers that sokotool or sokoaudit wrote to the levels of another export."""
+    if its_levels is None:
+        stem = texts.shown(os.path.splitext(os.path.basename(collection.file))[0])
+        collection.fault(1, f"answers to levels that are not there: {stem}.xsb is missing")
+        return
+    try:
+        found = levels.read(its_levels.read())
+        waiting.add_answers(collection.file, found, answers.read(data, len(found), rising=False))
+    except texts.Stop as stop:
+        collection.fault(1, str(stop))
+    except answers.Fault as fault:
+        collection.fault(fault.line, answers.advice(data, fault, len(found)))
+
+
+def _read_levels(collection: Collection, data: bytes, is_found: bool, waiting: lists.Lists) -> None:
+    if is_found and _is_idle(data, collection.encoding):
+        collection.idle.append(collection.published)
+        return
     text = _text_of(collection, data)
     if text is None:
         return
     if not slc.is_slc(text) and lists.is_list(texts.lines_of(text)):
-        waiting.add(collection.file, texts.lines_of(text))
+        waiting.add(collection.file, texts.lines_of(text),
+                    collection.published if is_found else "")
         return
     if collection.file != "-":
-        collection.add_text("; " + texts.shown(collection.published))
-        if text.startswith(";"):
-            collection.add_lines([""])
+        collection.add_text(collection.source())
     count = collection.total
     if slc.is_slc(text):
         slc.read(collection, data, text)
@@ -139,6 +163,19 @@ def _read_levels(collection: Collection, data: bytes, waiting: lists.Lists) -> N
         plain.read(collection, texts.lines_of(text))
     if collection.total == count:
         collection.fault(1, "no level in this file")
+
+
+def _is_idle(data: bytes, encoding: str) -> bool:
+    """Returns whether a file has neither a row nor letters, nor anything that looks like them."""
+    text, _ = texts.text_of(data, encoding)
+    if text is None:
+        return True
+    lines = texts.lines_of(text)
+    if slc.is_slc(text) or lists.is_list(lines):
+        return False
+    tried = Silent(encoding=encoding)
+    plain.read(tried, lines)
+    return not tried.total and not tried.faults
 
 
 def _text_of(collection: Collection, data: bytes) -> Optional[str]:

@@ -13,7 +13,7 @@ import sys
 from typing import Dict, Iterator, List, NamedTuple
 
 from .. import answers, game, levels, output, texts
-from ..collection import Collection
+from ..collection import Silent
 from ..formats import plain, slc, written
 from ..formats.written import Solution
 
@@ -80,13 +80,6 @@ def solutions_of(name: str, found: List[levels.Level]) -> Found:
 
 
 # ---- there and back
-
-class Silent(Collection):
-    """A collection that reports nothing."""
-
-    def note(self, line, why, file=None):
-        pass
-
 
 def read_back(text: bytes) -> List[written.Entry]:
     """Returns the levels of an exported text as convert reads them."""

@@ -9,7 +9,7 @@ import os
 import re
 from typing import Container, Dict, Iterator, List, NamedTuple, Optional, Sequence, Tuple
 
-from .. import answers, game, levels, texts
+from .. import answers, boards, carrying, game, levels, texts
 from ..collection import Attempt, Collection, another, cost
 from . import headings, letters, plain, rows
 
@@ -86,6 +86,7 @@ class Target(NamedTuple):
     part: int
     number: int
     board: game.Board
+    level: levels.Level
 
 
 class Export(NamedTuple):
@@ -94,6 +95,14 @@ class Export(NamedTuple):
     stem: str
     first: int
     end: int
+
+
+class Answered(NamedTuple):
+    """A file of answers: its name, the forms of the levels that it counts, and its records."""
+
+    file: str
+    forms: Sequence[boards.Form]
+    records: Sequence[answers.Record]
 
 
 class Found(NamedTuple):
@@ -118,16 +127,23 @@ class Lists:
 
     def __init__(self, collection: Collection) -> None:
         self.collection = collection
-        self._lists: List[Tuple[str, Sequence[str]]] = []
+        self._lists: List[Tuple[str, Sequence[str], str]] = []
+        self._answers: List[Answered] = []
+        self._certificates: Dict[Tuple[int, int], bytes] = {}
         self._exports: List[Export] = []
         self._targets: List[Target] = []
         self._by_title: Dict[str, List[Target]] = {}
         self._found: Dict[Tuple[int, int], List[Found]] = {}
         self._reported = 0
 
-    def add(self, file: str, lines: Sequence[str]) -> None:
-        """Adds a list."""
-        self._lists.append((file, lines))
+    def add(self, file: str, lines: Sequence[str], idle: str = "") -> None:
+        """Adds a list. If it has a name `idle`, it may be no list, and is idle then."""
+        self._lists.append((file, lines, idle))
+
+    def add_answers(self, file: str, its_levels: Sequence[levels.Level], found: answers.Answers
+                    ) -> None:
+        """Adds answers to the levels of an export."""
+        self._answers.append(Answered(file, boards.forms_of(its_levels), found.records))
 
     def add_export(self, file: str, first: int, end: int) -> None:
         """Adds an export, whose levels are those from `first` up to `end`, counted from 0."""
@@ -136,13 +152,15 @@ class Lists:
 
     def place(self) -> None:
         """Gives the solutions of all lists to their levels."""
-        if not self._lists:
+        if not self._lists and not self._answers:
             return
         parts = [*self.collection.full, (bytes(self.collection.text),
                                          answers.text(self.collection.records))]
         self._index([text for text, _ in parts])
-        for file, lines in self._lists:
-            self._read(file, lines)
+        for answered in self._answers:
+            self._place_answers(answered)
+        for file, lines, idle in self._lists:
+            self._read(file, lines, idle)
         for part, (text, written) in enumerate(parts):
             records = self._joined(part, answers.read(written).records)
             if part < len(self.collection.full):
@@ -153,14 +171,47 @@ class Lists:
     def _index(self, parts: Sequence[bytes]) -> None:
         for part, text in enumerate(parts):
             for level in levels.read(text):
-                target = Target(part, level.number, game.Board(level))
+                target = Target(part, level.number, game.Board(level), level)
                 self._targets.append(target)
                 for name in {_key(level.title), _key(level.title.strip(_DRESS))} - {""}:
                     self._by_title.setdefault(name, []).append(target)
 
+    # ---- answers
+
+    def _place_answers(self, answered: "Answered") -> None:
+        """Gives answers to the levels that have the boards of theirs."""
+        placed = set()
+        parts = {target.part for target in self._targets}
+        for part in sorted(parts):
+            targets = [it for it in self._targets if it.part == part]
+            carried = carrying.carried(answered.records, answered.forms,
+                                       boards.forms_of(it.level for it in targets))
+            for number, several in carried.items():
+                for one in several:
+                    placed.add(id(one.record))
+                    self._place_answer(answered.file, targets[number - 1], one)
+        for record in answered.records:
+            if id(record) not in placed:
+                self._fault(answered.file, record.line, "no level has the board of this record")
+
+    def _place_answer(self, file: str, target: Target, one: carrying.Carried) -> None:
+        record = answers.read(answers.text([one.text])).records[0]
+        if record.kind != "solution":
+            self._certificates.setdefault(target[:2], one.text)
+            return
+        attempt = self.collection.attempt_on(target.board, record.letters.decode("latin-1"))
+        if attempt.why:
+            self._fault(file, one.record.line,
+                        f"the solution of level {target.number} {attempt.why}")
+            return
+        notes = [texts.decoded(line) for line in record.above + record.raw
+                 if line.startswith(b";")]
+        self._found.setdefault(target[:2], []).append(
+            Found(file, one.record.line, attempt, notes))
+
     # ---- entries
 
-    def _read(self, file: str, lines: Sequence[str]) -> None:
+    def _read(self, file: str, lines: Sequence[str], idle: str) -> None:
         self._reported = 0
         within = self._within(file)
         groups: List[List[Target]] = []
@@ -175,6 +226,8 @@ class Lists:
                 found.notes[:], rest, last = rest, [], found
         if last:
             last.notes.extend(rest)
+        elif idle and not self._reported:
+            self.collection.idle.append(idle)
         else:
             if sum(map(len, lines)) <= MOST_KEPT:
                 self.collection.add_comment([texts.shown(line) for line in lines if line.strip()])
@@ -267,7 +320,11 @@ class Lists:
         own = {record.level: record.letters for record in records}
         for target in self._targets:
             several = self._found.get(target[:2], [])
-            if target.part != part or not several:
+            if target.part != part:
+                continue
+            if target[:2] in self._certificates and not several:
+                texts_of.setdefault(target.number, self._certificates[target[:2]])
+            if not several:
                 continue
             before = [Found("", 0, self.collection.attempt_on(target.board, own[it].decode()), [])
                       for it in [target.number] if it in own]

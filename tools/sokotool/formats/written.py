@@ -91,7 +91,7 @@ def _text(lines: Sequence[bytes], titles: Container[str], next_title: str) -> Li
         match = _TITLE.match(line)
         if match and texts.shown(match.group(1)).strip() in titles or line in _OWN:
             continue
-        if next_title and texts.shown(levels.title_in(line.encode())) == next_title:
+        if next_title and next_title in (texts.shown(levels.title_in(line.encode())), line.strip()):
             title_at = len(kept)
         kept.append("Collection: " + match.group(1) if match else line.rstrip())
     if title_at >= 0:

@@ -1,0 +1,192 @@
+"""The command check beside others: what is typed while it runs, other runs, older files, slips."""
+import os
+import subprocess
+import unittest.mock
+
+from sokotool import auditor, boards, levels
+from tests.tools.ending import Meanwhile
+from tests.tools.helping import TOP
+from tests.tools.test_check import CORNER, LONG, LOST, Check
+
+
+class Beside(Check):
+    """What is typed while a check runs, and other checks beside it."""
+
+    def typed(self, name, text):
+        """Returns a function that types a text at the end of a file."""
+        return lambda: self.write(name, self.read(name) + text.encode())
+
+    def test_typed_during_the_search(self):
+        """A comment and a solution that were typed then, and what the search found."""
+        self.write("a.txt", CORNER + "\n" + LONG.replace("Solution", "No solution"))
+        record = "; by me\nlevel 1\nsolution\nRurD\nend\n; a note\n"
+        with Meanwhile("search", 1, self.typed("mine.answers", record)):
+            result = self.tool("check", "mine", "a.txt", "--best", "pushes")
+        self.assertEqual(result.err.splitlines()[-1], "check: mine.answers was changed by somebody "
+                         "else: reading again")
+        self.assertEqual(self.report()[-1], "total 2 solved 2 unsolvable 0 refused 0 missing 0")
+        self.assertIn(record[:-9].encode(), self.read("mine.answers"))
+        self.assertIn(b"\n; a note\n", self.read("mine.answers"))
+        again = self.tool("check", "mine", "a.txt", "--best", "pushes")
+        self.assertEqual((again.status, again.err), (0, ""))
+
+    def test_typed_while_it_reads_and_audits(self):
+        self.write("a.txt", CORNER)
+        self.check("mine", "a.txt")
+        for moment in ("audit", "progress", "mkstemp"):
+            for calls in (1, 2, 3):
+                self.write("a.txt", self.read("a.txt") + b"\n" + LONG.replace(
+                    "@ ", "@" + " " * (calls + 3 * (moment == "audit") + 6 * (
+                        moment == "mkstemp"))).encode())
+                with Meanwhile(moment, calls, self.typed("mine.xsb", f"{moment} {calls}\n")):
+                    result = self.check("mine", "a.txt")
+                self.assertIn("edited by hand: level", result.out.decode())
+                self.assertIn(f"{moment} {calls}\n".encode(), self.read("mine.xsb"))
+
+    def test_file_that_changes_again_and_again(self):
+        """After three rounds the run ends, and all files are whole."""
+        self.write("a.txt", CORNER)
+        self.check("mine", "a.txt")
+        self.write("a.txt", LONG)
+        files = {name: self.read(name) for name in os.listdir()}
+        with unittest.mock.patch.object(auditor.Auditor, "audit", autospec=True,
+                                        side_effect=self.type_and_audit(auditor.Auditor.audit)):
+            result = self.check("mine", "a.txt")
+        said = "mine.xsb was changed by somebody else"
+        self.assertEqual((result.status, result.err.splitlines()),
+                         (2, [f"check: {said}: reading again"] * 3
+                          + [f"check: {said}, again and again: the files are as they were"]))
+        now = {name: self.read(name) for name in os.listdir()}
+        self.assertEqual(now.pop("mine.xsb").replace(b"typed\n", b""), files.pop("mine.xsb"))
+        self.assertEqual(now, files)
+
+    def type_and_audit(self, audit):
+        """Returns an audit that types first."""
+        def typing(*words):
+            self.typed("mine.xsb", "typed\n")()
+            return audit(*words)
+        return typing
+
+    def test_checks_at_once(self):
+        """They wait for each other, and nothing is lost."""
+        for number in range(6):
+            row = "#@" + " " * number + "$  .#"
+            walls = "#" * len(row)
+            self.write(f"{number}.txt",
+                       f"{walls}\n{row}\n{walls}\nSolution: {'r' * number}RRR\n")
+        self.check("mine", ".")
+        self.typed("mine.xsb", "typed\n")()
+        runs = [subprocess.Popen([f"{TOP}/sokotool", "check", "mine", ".", "--best", best],
+                                 stdout=subprocess.PIPE, stderr=subprocess.PIPE)
+                for best in ("moves", "pushes") * 4]
+        for run in runs:
+            out, err = run.communicate()
+            said = err.replace(b"check: another check of mine is running: waiting for its end\n",
+                               b"")
+            self.assertEqual((run.returncode, said), (0, b""), out)
+        self.assertIn(b"typed\n", self.read("mine.xsb"))
+        self.assertEqual(self.report()[-1], "total 6 solved 6 unsolvable 0 refused 0 missing 0")
+        self.assertFalse([name for name in os.listdir() if name.startswith(".sokotool")])
+
+    def test_check_that_is_killed_bars_no_other(self):
+        self.write("a.txt", CORNER)
+        self.write(".sokotool-mine.lock", "")
+        self.assertEqual(self.check("mine", "a.txt").err, "")
+        self.assertFalse(os.path.exists(".sokotool-mine.lock"))
+
+
+class Older(Check):
+    """Files that are put back or lost."""
+
+    def test_answer_that_was_found_and_lost(self):
+        """It is searched again, and without a search the summary says so."""
+        self.write("a.txt", CORNER)
+        self.tool("check", "mine", "a.txt")
+        found = self.read("mine.answers")
+        for text in (None, b"sokoban-answers 1\n"):
+            os.remove("mine.answers")
+            if text is not None:
+                self.write("mine.answers", text)
+            self.assertIn("1 level was searched before, up to 10 s each: 1 an answer that is lost",
+                          self.lines(self.check("mine", "a.txt")))
+            self.assertIn("level 1: solved", self.tool("check", "mine", "a.txt").err)
+            self.assertEqual(self.read("mine.answers"), found)
+
+    def test_outcomes_are_in_the_summary(self):
+        self.write("a.txt", CORNER + "\n" + LOST.replace("#$ .#", "# $.#"))
+        self.check("mine", "a.txt")
+        memory = self.read("mine.memory")
+        forms = boards.forms_of(levels.read(self.read("a.txt")))
+        self.write("mine.memory", memory.replace(b'"searched": {}', (
+            '"searched": {"%s": {"find": ["late", 20], "solver mine": ["nothing", 60]}, '
+            '"%s": {"find": ["full", 10]}}' % tuple(form.digest for form in forms)).encode()))
+        self.assertEqual(self.lines(self.check("mine", "a.txt"))[3:5], [
+            "2 levels were searched before, up to 20 s each: 1 stopped, 1 gave up with full tables",
+            "1 level was searched before by the solver mine, up to 60 s each: 1 without an answer"])
+
+    def test_older_memory(self):
+        """It has fewer levels than the collection has now."""
+        self.write("a.txt", CORNER)
+        self.check("mine", "a.txt")
+        memory = self.read("mine.memory")
+        self.write("a.txt", CORNER + "\n" + LONG)
+        self.check("mine", "a.txt")
+        self.write("mine.memory", memory)
+        result = self.check("mine", "a.txt")
+        self.assertEqual((result.status, result.err), (1, ""))
+        self.assertEqual(self.report()[-1], "total 2 solved 1 unsolvable 0 refused 0 missing 1")
+
+    def test_slips_in_the_answers(self):
+        """Each gets a sentence that says what to type, and no file is changed."""
+        self.write("a.txt", CORNER + "\n" + LONG)
+        self.check("mine", "a.txt")
+        for body, why in (
+                ("Level 2\nsolution\n", "line 2: 'Level 2' is neither a line 'level N' nor a "
+                                        "comment, which begins with ';'"),
+                ("level 7\nsolution\nend\n", "line 2: 'level 7': there is no such level, the "
+                                             "highest is 2"),
+                ("level 1\nRurD\nend\n", "line 3: 'RurD' is neither 'solution' nor 'unsolvable', "
+                                         "one of which has to follow the line 'level N'"),
+                ("level 1\nsolution\nRurD\nlevel 2\nsolution\nrRRR\nend\n",
+                 "line 5: 'level 2': the record above it lacks its last line, 'end'"),
+                ("level 1\nsolution\nRurD\n", "line 5: the last record lacks its last line, "
+                                              "'end'")):
+            self.write("mine.answers", "sokoban-answers 1\n" + body)
+            files = {name: self.read(name) for name in os.listdir()}
+            result = self.check("mine", "a.txt")
+            self.assertEqual((result.status, result.err), (2, f"check: mine.answers {why}\n"))
+            self.assertEqual(files, {name: self.read(name) for name in os.listdir()})
+
+    def test_letters_in_the_wrong_case(self):
+        """They are put right in the answers and in other files, with their lines and comments."""
+        self.write("a.txt", CORNER)
+        self.check("mine", "a.txt")
+        self.write("mine.answers",
+                   "sokoban-answers 1\nlevel 1\nsolution\n; by me\nru r\nd\nend\n")
+        self.assertEqual(self.check("mine", "a.txt").status, 0)
+        self.assertIn(b"level 1\nsolution\n; by me\nRu r\nD\nend\n", self.read("mine.answers"))
+        self.assertFalse(os.path.exists("mine.kept.xsb"))
+        self.write("own", "sokoban-answers 1\nlevel 1\nsolution\nRURD\nend\n")
+        self.assertEqual(self.check("other", "a.txt", "--answers", "own").status, 0)
+
+    def test_kept_files(self):
+        """They never appear empty, and text that is typed there stays."""
+        self.write("a.txt", CORNER)
+        self.check("mine", "a.txt")
+        self.write("mine.kept.answers", "sokoban-answers 1\n; a note\n")
+        self.check("mine", "a.txt")
+        self.assertFalse(os.path.exists("mine.kept.xsb"))
+        self.write("mine.kept.xsb", "a text\n")
+        self.check("mine", "a.txt")
+        self.assertEqual(self.read("mine.kept.xsb"), b"a text\n")
+        self.write("b.txt", LONG)
+        self.check("mine", "a.txt", "b.txt")
+        self.write("mine.answers",
+                   self.read("mine.answers").replace(b"solution", b"; my\nsolution"))
+        self.check("mine", "a.txt", "b.txt")
+        self.check("mine", "a.txt")
+        for _ in range(2):
+            self.assertIn(b"a text\n", self.read("mine.kept.xsb"))
+            self.assertIn(b"; my\n", self.read("mine.kept.answers"))
+            self.assertIn(b"; a note\n", self.read("mine.kept.answers"))
+            self.check("mine", "a.txt")
