@@ -107,7 +107,7 @@ class Older(Check):
             os.remove("mine.answers")
             if text is not None:
                 self.write("mine.answers", text)
-            self.assertIn("1 level was searched before, up to 10 s each: 1 an answer that is lost",
+            self.assertIn("1 level was searched before, up to 0.1 s each: 1 an answer that is lost",
                           self.lines(self.check("mine", "a.txt")))
             self.assertIn("level 1: solved", self.tool("check", "mine", "a.txt").err)
             self.assertEqual(self.read("mine.answers"), found)

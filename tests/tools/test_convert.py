@@ -371,7 +371,7 @@ class Kept(Case):
                 (ONE + "\n3D\n" + ONE + "\n\n\n4l8r\n\n" + ONE, ["", "3D", "4l8r"]),
                 ("Levels by Someone\n\n7\n" + ONE, ["7"]),
                 (ONE + "ud\n" + ONE, ["", ""]), (ONE + "\nud\n\n" + ONE, ["", ""]),
-                (ONE + "\nMy solution\nud\n" + ONE, ["", "My solution"]),
+                (ONE + "\nOne more solution:\nud\n" + ONE, ["", ""]),
                 (ONE + "\nud\nlr\n" + ONE, ["", ""]), ("Dull\nAuthor: B\n" + ONE, [""])):
             self.write("a.xsb", text)
             self.assertEqual(titles_of(self.read("a.xsb")), wanted, text)
