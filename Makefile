@@ -5,6 +5,8 @@
 #   make install         installs the program, sokotool, man pages, completions, documents and samples below DESTDIR/PREFIX
 #   make install-tools   installs the same with the reference in place of the program, in seconds and without the toolchain
 #   make uninstall       removes them
+#   make pyz             makes out/sokotool.pyz: sokotool, the reference and the manual in one file, which runs wherever Python does
+#                        (without make: python packaging/pyz)
 #   make dist            makes out/sokoaudit-VERSION-x86_64-linux.tar.xz, which can be unpacked anywhere
 #   make deb             makes out/sokoaudit_VERSION_amd64.deb, and out/libsokoaudit-dev_VERSION_amd64.deb with the library for C
 #   (dist and deb also test the packages, and compare them byte for byte with packages of a second build in another folder)
@@ -21,6 +23,8 @@ check:
 	@bash .ci/run
 fuzz: all
 	@tests/run reference.fuzz --minutes $(or $(MINUTES),1) $(built)/sokoaudit
+pyz:
+	@packaging/pyz
 install: all
 	packaging/install $(built)/sokoaudit "$(prefix)"
 install-tools:
@@ -52,4 +56,4 @@ prove-$(1): $(patsubst %,prove-%,$(call below,$(1)))
 endef
 $(foreach it,$(names),$(eval $(call rule,$(it))))
 
-.PHONY: all check fuzz install install-tools uninstall dist deb lib $(names:%=prove-%)
+.PHONY: all check fuzz pyz install install-tools uninstall dist deb lib $(names:%=prove-%)

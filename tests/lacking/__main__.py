@@ -11,7 +11,7 @@ import sys
 from tests.runner import TOP, Cases, arguments, run
 
 TESTS = [f"test_{it}" for it in ("auditor", "check", "commands", "convert", "files", "find", "page",
-                                 "solvers", "system", "table")]
+                                 "pyz", "solvers", "system", "table")]
 
 
 def without(cases: Cases, system: str, python: str, *words: str) -> None:

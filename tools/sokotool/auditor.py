@@ -11,9 +11,10 @@ from . import system, texts
 REFERENCE_NOTE = "checked by the reference in Python, not by the proved program"
 _HERE = os.path.dirname(os.path.realpath(__file__))
 _TOP = os.path.dirname(os.path.dirname(_HERE))
-# the reference as pip or 'make install-tools' installs it, and in a checkout
-_REFERENCES = [os.path.join(_HERE, *up, "reference", "sokoaudit")
-               for up in ((), ("..",), ("..", ".."))]
+# the reference as pip or 'make install-tools' installs it, in a checkout, and in sokotool.pyz, which
+# runs it itself
+_REFERENCES = [*(os.path.join(_HERE, *up, "reference", "sokoaudit")
+                 for up in ((), ("..",), ("..", ".."))), os.path.dirname(_HERE)]
 
 
 class Limits(NamedTuple):
@@ -81,9 +82,9 @@ def find() -> Auditor:
         shutil.which("sokoaudit"),
         *_REFERENCES]
     for path in paths:
-        if path and os.path.isfile(path) and not _is_script(path):
+        if path and os.path.isfile(path):
             is_reference = any(texts.same_file(path, it) for it in _REFERENCES)
-            if is_reference or os.access(path, os.X_OK):
+            if is_reference or os.access(path, os.X_OK) and not _is_script(path):
                 return Auditor(os.path.realpath(path), is_reference)
     raise texts.Stop(f"cannot run {texts.shown(named)}" if named else
                      "there is no sokoaudit: install it, or name it by SOKOAUDIT")

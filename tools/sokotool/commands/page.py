@@ -7,7 +7,7 @@ If the report isn't of these levels and answers, or is cut, the page says so in 
 and the status is 1."""
 import argparse
 import json
-import os
+import pkgutil
 import re
 import sys
 from typing import Any, Dict, List, Optional, Sequence, Tuple
@@ -15,7 +15,6 @@ from typing import Any, Dict, List, Optional, Sequence, Tuple
 from .. import answers, game, levels, report, texts
 
 _MARK = re.compile(r"@([A-Za-z.]+)@")
-_VIEWER = os.path.join(os.path.dirname(os.path.dirname(__file__)), "viewer")
 
 
 def arguments(parser: argparse.ArgumentParser) -> None:
@@ -116,8 +115,9 @@ def _verdict_of(line):
 
 def part(name: str) -> str:
     """Returns a part of the page: a file of the viewer."""
-    with open(os.path.join(_VIEWER, name), encoding="utf-8") as file:
-        return file.read()
+    data = pkgutil.get_data("sokotool", f"viewer/{name}")
+    assert data is not None
+    return data.decode()
 
 
 def _page_of(data: Dict[str, Any]) -> bytes:
