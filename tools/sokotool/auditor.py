@@ -11,8 +11,8 @@ from . import system, texts
 REFERENCE_NOTE = "checked by the reference in Python, not by the proved program"
 _HERE = os.path.dirname(os.path.realpath(__file__))
 _TOP = os.path.dirname(os.path.dirname(_HERE))
-# the reference as pip or 'make install-tools' installs it, in a checkout, and in sokotool.pyz, which
-# runs it itself
+# the reference as pip or 'make install-tools' installs it, in a checkout, and in sokotool.pyz,
+# which runs it itself
 _REFERENCES = [*(os.path.join(_HERE, *up, "reference", "sokoaudit")
                  for up in ((), ("..",), ("..", ".."))), os.path.dirname(_HERE)]
 
