@@ -169,6 +169,22 @@ class Older(Check):
         self.write("own", "sokoban-answers 1\nlevel 1\nsolution\nRURD\nend\n")
         self.assertEqual(self.check("other", "a.txt", "--answers", "own").status, 0)
 
+    def test_files_that_convert_wrote(self):
+        """They count as written by check, but for what was typed since."""
+        self.write("a.txt", "A\n" + CORNER + "\nB\n" + LONG)
+        for typed in ("", "typed\n"):
+            self.assertEqual(self.tool("convert", "mine", "a.txt", "--replace").status, 0)
+            self.write("mine.xsb", self.read("mine.xsb") + typed.encode())
+            self.write("mine.answers", self.read("mine.answers") + b"; a comment\n")
+            self.write("b.txt", "A\n" + CORNER)
+            self.check("mine", "b.txt")
+            self.assertEqual(len(self.report()), 3 if typed else 2)
+            self.assertNotIn(b"convert wrote", self.read("mine.answers"))
+            self.assertIn(b"; a comment\n", self.read("mine.answers"))
+            for name in os.listdir():
+                if name.startswith("mine"):
+                    os.remove(name)
+
     def test_kept_files(self):
         """They never appear empty, and text that is typed there stays."""
         self.write("a.txt", CORNER)

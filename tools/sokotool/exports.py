@@ -1,7 +1,6 @@
 """The exports that a command reads: files, the files of folders, and those of zip archives. A file
 .sokoignore in a folder has names and wildcards of files and folders there that aren't read."""
 import fnmatch
-import glob
 import os
 import stat
 import zipfile
@@ -71,14 +70,6 @@ def levels_of(export: Export, every: Sequence[Export]) -> Optional[Export]:
         same = [Export(name, lambda: texts.read(name))]
     found = same or beside
     return found[0] if len(found) == 1 else None
-
-
-def own(name: str, ends: Sequence[str]) -> IsOut:
-    """Returns a function that tells the files that a command writes or keeps for NAME: those with
-    these ends, also if they are numbered parts."""
-    written = [name + end + more for end in ends for more in ("", "~")]
-    written += [part for end in ends for part in glob.glob(f"{glob.escape(name)}-[0-9]*{end}*")]
-    return lambda file: any(texts.same_file(file, it) for it in written)
 
 
 def published(names: Sequence[str]) -> Dict[str, str]:

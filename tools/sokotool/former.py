@@ -1,43 +1,11 @@
-"""Files that convert would replace: whether it wrote them itself, and what would be lost.
-
-An answers file that convert wrote ends in a comment with the checksums of both files and the names
-of the exports. It shows if a file was changed since, or was made from other exports.
-"""
-import json
+"""What would be lost of files that convert replaces."""
 import os
-import re
-from typing import Iterator, List, NamedTuple, Optional, Sequence, Set, Tuple
+from typing import Iterator, List, Optional, Sequence, Set, Tuple
 
-from . import answers, levels, output, texts
+from . import answers, levels, output, own_files, texts
+from .own_files import File
 
-File = Tuple[str, bytes]
-_MARK = re.compile(rb"; convert wrote this \(([0-9a-f]{16}) ([0-9a-f]{16})\) from (\[.*\])\n\Z")
 MOST_NAMED = 5
-
-
-class Mark(NamedTuple):
-    """The last comment of an answers file that convert wrote: the checksums of the levels and the
-    answers, and the exports."""
-
-    levels: str
-    answers: str
-    sources: Set[str]
-
-
-def marked(pair: Sequence[File], sources: Sequence[str]) -> List[File]:
-    """Returns the two files of a collection, with the mark at the end of the answers."""
-    (levels_name, levels_data), (answers_name, data) = pair
-    mark = (f"; convert wrote this ({texts.digest(levels_data)} {texts.digest(data)}) from "
-            f"{json.dumps(list(sources))}\n")
-    return [(levels_name, levels_data), (answers_name, data + mark.encode())]
-
-
-def mark_of(data: bytes) -> Optional[Mark]:
-    """Returns the mark of an answers file, or None if it has none or was changed since."""
-    match = _MARK.search(data)
-    if not match or texts.digest(data[:match.start()]) != match.group(2).decode():
-        return None
-    return Mark(match.group(1).decode(), match.group(2).decode(), set(json.loads(match.group(3))))
 
 
 def backups(files: Sequence[File], sources: Sequence[str], replace: bool) -> List[File]:
@@ -65,7 +33,7 @@ def _losses_of(new_levels: File, new_answers: File, sources: Set[str]
     for name, _ in (new_levels, new_answers):
         output.check_writable(name)
     old = _read(new_answers[0])
-    mark = mark_of(old) if old is not None else None
+    mark = own_files.mark_of(old) if old is not None else None
     is_own = mark is not None and mark.sources <= sources
     old_levels = _read(new_levels[0])
     if old_levels is not None and not (is_own and mark and mark.levels == texts.digest(old_levels)):
@@ -96,10 +64,7 @@ def lost_answers(old: bytes, new: bytes) -> str:
         more = f" and {len(lost) - MOST_NAMED} more" if len(lost) > MOST_NAMED else ""
         return f"the answer of level {named}{more}" if len(lost) == 1 else (
             f"the answers of levels {named}{more}")
-    notes = {line for line in texts.lines(old) if line.startswith(b";")}
-    mark = _MARK.search(old)
-    if mark:
-        notes.discard(mark.group().rstrip(b"\n"))
+    notes = [line for line in texts.lines(own_files.unmarked(old)) if line.startswith(b";")]
     return "comments" if notes else ""
 
 

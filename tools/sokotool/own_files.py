@@ -1,10 +1,19 @@
-"""The files of a check: NAME.xsb and so on, as they were and as they become."""
-import contextlib
-import os
-import time
-from typing import IO, Dict, Iterator, Optional
+"""The files that convert and check write: NAME.xsb and so on. Which files those are, whether they
+are as they were written, how they were, and how they become.
 
-from . import answers, auditor, memory, output, report, system, texts
+An answers file that convert wrote ends in a comment with the checksums of both files and the names
+of the exports, and NAME.memory has what check wrote. They show what was typed since.
+"""
+import contextlib
+import glob
+import json
+import os
+import re
+import time
+from typing import (IO, Callable, Dict, Iterator, List, NamedTuple, Optional, Sequence, Set,
+                    Tuple)
+
+from . import answers, auditor, blocks, memory, output, report, system, texts
 from .progress import Progress
 
 # The page of a collection within the limits is shorter.
@@ -16,8 +25,42 @@ ENDS = (XSB, ANSWERS, REPORT, PAGE, KEPT_XSB, KEPT_ANSWERS)
 JOURNAL = ".unfinished"
 EVERY = (*ENDS, MEMORY, JOURNAL)
 _PAGE = b"<title>sokoaudit report</title>"
+_MARK = re.compile(rb"; convert wrote this \(([0-9a-f]{16}) ([0-9a-f]{16})\) from (\[.*\])\n")
 _BEAT = 0.1
 _NOTE = f"; {auditor.REFERENCE_NOTE}".encode()
+
+File = Tuple[str, bytes]
+
+
+class Mark(NamedTuple):
+    """The last comment of an answers file that convert wrote: the checksums of the levels and the
+    answers, and the exports."""
+
+    levels: str
+    answers: str
+    sources: Set[str]
+
+
+def marked(pair: Sequence[File], sources: Sequence[str]) -> List[File]:
+    """Returns the two files of a collection, with the mark at the end of the answers."""
+    (levels_name, levels_data), (answers_name, data) = pair
+    mark = (f"; convert wrote this ({texts.digest(levels_data)} {texts.digest(data)}) from "
+            f"{json.dumps(list(sources))}\n")
+    return [(levels_name, levels_data), (answers_name, data + mark.encode())]
+
+
+def mark_of(data: bytes) -> Optional[Mark]:
+    """Returns the mark of an answers file, or None if it has none or was changed since."""
+    match = _MARK.search(data)
+    if not match or match.end() < len(data) or (
+            texts.digest(data[:match.start()]) != match.group(2).decode()):
+        return None
+    return Mark(match.group(1).decode(), match.group(2).decode(), set(json.loads(match.group(3))))
+
+
+def unmarked(data: bytes) -> bytes:
+    """Returns an answers file without the mark."""
+    return _MARK.sub(b"", data)
 
 
 class Files:
@@ -44,7 +87,7 @@ class Files:
 
     def answers(self, end: str, most: int) -> answers.Answers:
         """Returns the records of an answers file for so many levels, in any order."""
-        data = self.before.get(end, answers.text([]))
+        data = unmarked(self.before.get(end, answers.text([])))
         found: answers.Answers = answers.read_text(self.name + end, data, most, rising=False)
         for lines in (found.rest, *(record.loose for record in found.records)):
             while _NOTE in lines:
@@ -52,8 +95,12 @@ class Files:
         return found
 
     def memory(self) -> memory.Memory:
-        """Returns what the last check remembers."""
-        return memory.read(self.before.get(MEMORY), self.name + MEMORY)
+        """Returns what the last check remembers. Levels that convert wrote count as its own."""
+        found = memory.read(self.before.get(MEMORY), self.name + MEMORY)
+        text, mark = self.before.get(XSB, b""), _MARK.search(self.before.get(ANSWERS, b""))
+        if MEMORY not in self.before and mark and mark.group(1).decode() == texts.digest(text):
+            return found._replace(blocks=blocks.read(text))
+        return found
 
     def write(self, files: Dict[str, Optional[bytes]]) -> None:
         """Writes the files that changed, and first the former ones as backups. If a file isn't as
@@ -72,6 +119,14 @@ class Files:
             output.write_files(listed, self._journal, known)
             self.now.update(changed)
             self.has_backups = self.has_backups or bool(backups)
+
+
+def own(name: str) -> Callable[[str], bool]:
+    """Returns a function that tells the files that convert and check write or keep for NAME, also
+    if they are numbered parts."""
+    written = [name + end + more for end in EVERY for more in ("", "~")]
+    written += [part for end in EVERY for part in glob.glob(f"{glob.escape(name)}-[0-9]*{end}*")]
+    return lambda file: any(texts.same_file(file, it) for it in written)
 
 
 def is_made(name: str, data: bytes) -> bool:

@@ -115,7 +115,7 @@ def converted(options: argparse.Namespace, shown: Progress) -> Exports:
     """Reads the exports, without the files of NAME."""
     shown.show("reading")
     collection = QuietCollection(shown, options)
-    is_own = exports.own(options.name, own_files.EVERY)
+    is_own = own_files.own(options.name)
     named = [name for name in options.exports if os.path.isdir(name) or not is_own(name)]
     if not named:
         raise texts.Stop(f"would write over {texts.shown(options.exports[0])}")

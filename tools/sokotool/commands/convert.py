@@ -59,16 +59,15 @@ def _encoding(name: str) -> str:
 def run(options) -> int:
     """Converts the files, and reports how much was read."""
     check_name(options.name)
-    ends = (".xsb", ".answers")
-    listed = exports.listed(options.files, exports.own(options.name, ends))
+    listed = exports.listed(options.files, own_files.own(options.name))
     files = [export.name for export in listed]
-    _check_inputs(files, [options.name + end for end in ends])
+    _check_inputs(files, [options.name + end for end in (own_files.XSB, own_files.ANSWERS)])
     collection = Collection(options.best, options.split, options.encoding or "")
     sources = read_files(collection, listed)
     collection.report_rest()
-    written: List[former.File] = []
+    written: List[own_files.File] = []
     for pair in collection.parts(options.name):
-        written += former.marked(pair, sources)
+        written += own_files.marked(pair, sources)
     _check_inputs(files, [name for name, _ in written])
     output.write_files(former.backups(written, sources, options.replace) + written)
     print(f"convert: {collection.summary()}", file=sys.stderr)
