@@ -4,10 +4,10 @@ for more, audits, and writes NAME.xsb, NAME.answers, NAME.report and NAME.html.
 The files are written before the search and again after it, each time whole or not at all, and the
 former ones are kept as NAME.xsb~ and so on. A level is known by its board, so an answer follows its
 level if levels are inserted, removed or turned. Of several accepted answers to a level the best is
-kept. What you type into NAME.xsb and NAME.answers stays; what has no place there any more is in
-NAME.kept.xsb and NAME.kept.answers. The summary says what was left out, what changed since the last
-time, and which levels are twins. If it doesn't fit a screen, standard error gets everything that
-was left out.
+kept. What you type into NAME.xsb and NAME.answers stays, also while this runs; what has no place
+there any more is in NAME.kept.xsb and NAME.kept.answers. The summary says what was left out, what
+changed since the last time, and which levels are twins. If it doesn't fit a screen, standard error
+gets everything that was left out.
 
 sokoaudit checks every answer. The variable SOKOAUDIT names it, or it is found in the checkout or
 the installation. The status is 1 if a level has no accepted answer, or something was left out or is
