@@ -6,6 +6,8 @@ from typing import List, NamedTuple, Tuple
 from . import alphabet, texts
 
 MOST_LEVELS = 10_000
+# how many bytes a line with a title may have, so that no search in a long line takes long
+MOST_TITLE = 999
 CHARACTERS = alphabet.ROW.encode()
 # the colon, and the full-width one
 _COLON = rb"[ \t]*(?::|\xef\xbc\x9a)"
@@ -47,7 +49,8 @@ def is_row(line: bytes) -> bool:
 def _kind_of(line: bytes) -> int:
     """Returns the kind of a line: a row, a title with its key, a title above a level, letters of
     solutions or digits alone, or neither."""
-    return (_ROW if is_row(line) else _BELOW if _TITLE.match(line) else _NAMED if _NAME.match(line)
+    return (_ROW if is_row(line) else _OTHER if len(line) > MOST_TITLE
+            else _BELOW if _TITLE.match(line) else _NAMED if _NAME.match(line)
             else _ABOVE if title_in(line)
             else _SHORT if line.strip() and _LETTERS.fullmatch(line) else _OTHER)
 

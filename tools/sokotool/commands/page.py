@@ -15,6 +15,8 @@ from typing import Any, Dict, List, Optional, Sequence, Tuple
 from .. import answers, game, levels, report, texts
 
 _MARK = re.compile(r"@([A-Za-z.]+)@")
+# how many rows and characters of a row are drawn; no legal level has more
+_MOST_SIDE = 255
 
 
 def arguments(parser: argparse.ArgumentParser) -> None:
@@ -99,7 +101,7 @@ def _size_of(record):
 
 def _level_of(level):
     return {"number": level.number, "line": level.line, "title": level.title,
-            "rows": [row.decode("latin-1") for row in level.rows]}
+            "rows": [row[:_MOST_SIDE].decode("latin-1") for row in level.rows[:_MOST_SIDE]]}
 
 
 def _record_of(record):
