@@ -11,7 +11,8 @@ shared = browser.Browser()
 FOCUS = "document.activeElement"
 CARD = FOCUS + ".dataset.level ?? ''"
 SAID = "document.getElementById('said').textContent"
-HASH = "location.hash"
+# the address, once the page shows what it names
+HASH = "routed === location.hash ? routed : null"
 # A solution whose fourth letter is refused, and a list whose first pattern has one push out.
 WALK = "Walk\n#######\n#@ $ .#\n#  *  #\n#######\n"
 WALK_ANSWER = "level 1\nsolution\nrRlLRR\nend\n"
@@ -68,5 +69,5 @@ class Page(Case):
 
     def holds(self, expression: str, value: Any) -> None:
         """Waits until an expression in the page has this value."""
-        shared.until(f"JSON.stringify({expression}) === {json.dumps(json.dumps(value))}", 5)
+        shared.until(f"JSON.stringify({expression}) === {json.dumps(json.dumps(value))}", 30)
         self.assertEqual(shared.ask(expression), value)
