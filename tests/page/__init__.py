@@ -1,0 +1,1 @@
+"""The tests of sokoaudit.html, in a browser."""

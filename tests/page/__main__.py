@@ -1,0 +1,102 @@
+"""tests/run page PROGRAM [PAGE]: gives sokoaudit.html, or PAGE, to a browser, and compares what it
+says with what PROGRAM prints. Ends in 'N passed, M failed'."""
+import os
+import random
+
+from bench.measured import Size, cases as bench_cases
+from tests.page import hostile, using
+from tests.page.comparing import HEADER, Comparison
+from tests.page.driving import Tab
+from tests.reference.fuzz import batches
+from tests.runner import TOP, Cases, arguments, encode, enter_folder, read, write
+from tests.tables.rows import rows, text
+from tests.tools import browser
+
+SAMPLES = ("first", "every", "deadlocks", "exports")
+TABLES = ("bytes", "certificates", "collections", "limits", "solutions", "words", "zones")
+RANDOM, SEED = 2000, 7
+
+
+def sample(name: str, folder: str = "samples") -> bytes:
+    """The bytes of a sample."""
+    return encode(read(f"{TOP}/{folder}/{name}"))
+
+
+def samples(check: Comparison) -> None:
+    """The samples, with made answers and maps."""
+    for name in SAMPLES:
+        check.audit(name, sample(f"{name}.xsb"), sample(f"{name}.answers"))
+        check.stack(name)
+        for number in range(1, 7):
+            check.dead(name, number)
+    check.audit("faulty", sample("faulty.xsb", "tests/samples"),
+                sample("faulty.answers", "tests/samples"))
+    for name in ("first", "deadlocks", "zones"):
+        check.made(name, sample(f"{name}.xsb"))
+
+
+def tables(check: Comparison) -> None:
+    """The rows of the tables that are an audit of two files."""
+    for table in TABLES:
+        for row in rows(table):
+            if row["words"] == "audit levels answers" and "levels" in row and "answers" in row:
+                levels, answers = encode(text(row["levels"])), encode(text(row["answers"]))
+                # an empty field is no text; the page then reads the solutions below the levels
+                if answers:
+                    check.audit(f"{table}: {row['name']}", levels, answers, is_shown=False)
+
+
+def random_cases(check: Comparison) -> None:
+    """Random texts, whole and torn."""
+    for i, (_, (levels, answers), form) in enumerate(batches(random.Random(SEED), RANDOM)):
+        if answers.startswith(b"sokoban-answers"):
+            check.audit(f"random {form} {i}", levels, answers)
+
+
+def bench(check: Comparison) -> None:
+    """The cases of the benchmark, at about a hundredth of their size."""
+    os.symlink(check.program, "sokoaudit")
+    for case in bench_cases(Size(is_small=True)):
+        for file, line in (("levels", case.levels), ("answers", case.answers)):
+            if line is not None:
+                write(file, text(line))
+        words = case.command.split()
+        if words[1] == "audit":
+            check.audit(case.name, encode(read("levels")), encode(read("answers")), is_shown=False)
+            check.stack(case.name)
+        elif words[1] == "make":
+            check.made(case.name, encode(read("levels")))
+            write("out", check.tab.saved("answers").decode("latin-1"))
+
+
+def limits(check: Comparison) -> None:
+    """The largest texts."""
+    level = b"#####\n#@$.#\n#####\n"
+    most = level + b"\n" * (33554432 - len(level))
+    check.audit("33,554,432 bytes", most, HEADER + b"level 1\nsolution\nR\nend\n", is_shown=False)
+    check.audit("33,554,433 bytes", most + b"\n", HEADER, is_shown=False)
+    check.audit("10,000 levels", (level + b"\n") * 10000, HEADER + b"".join(
+        b"level %d\nsolution\nR\nend\n" % i for i in range(1, 10001)))
+    check.audit("10,001 levels", b"#\n\n" * 10001, HEADER, is_shown=False)
+
+
+program, *named = arguments("page PROGRAM [PAGE]")
+cases, _room = Cases("page"), enter_folder()
+if not browser.PROGRAM:
+    cases.skip("sokoaudit.html in a browser", "there is no chromium")
+    cases.finish()
+tab = Tab()
+tab.page = os.path.abspath(named[0] if named else f"{TOP}/sokoaudit.html")
+tab.start()
+tab.size(1280, 900)
+check = Comparison(cases, tab, program)
+for part in (samples, hostile.texts, tables, random_cases, bench, limits):
+    tab.fresh()
+    part(check)
+    check.same(f"{part.__name__}: no error of a script", [], tab.errors)
+for it in using.PARTS:
+    tab.fresh()
+    it(check, tab)
+    check.same(f"{it.__name__}: no error of a script", [], tab.errors)
+tab.close()
+cases.finish()

@@ -1,0 +1,76 @@
+"""The page in a browser: gives it files and texts, and asks what it says."""
+import base64
+import json
+import os
+import time
+from typing import Sequence
+
+from tests.tools.browser import Browser
+
+SHOWN = "!($('result').hidden && $('message').hidden)"
+IDLE = f"$('busy').hidden && {SHOWN}"
+HIDE = "$('result').hidden = $('message').hidden = true; 0"
+# the bytes of a result of the last run
+BYTES = """(async () => {
+    const file = new Blob([kept[%s]]), reader = new FileReader();
+    await new Promise(done => { reader.onload = done; reader.readAsDataURL(file); });
+    return reader.result.slice(reader.result.indexOf(",") + 1);
+})()"""
+# what the viewer reads, with all that it makes when it is asked for
+DATA = "JSON.parse(JSON.stringify(shownData, (key, it) => /card|board/.test(key) ? 0 : it))"
+
+
+class Tab(Browser):
+    """A tab with the page."""
+
+    page = ""
+
+    def fresh(self) -> None:
+        """Opens the page anew."""
+        self.open("file://" + self.page)
+
+    def wait(self, expression: str, seconds: float = 100) -> None:
+        """Waits until an expression holds."""
+        end = time.monotonic() + seconds
+        while not self.ask(f"Boolean({expression})"):
+            if time.monotonic() > end:
+                raise TimeoutError(expression)
+            time.sleep(.01)
+
+    def give(self, *names: str) -> str:
+        """Gives the page files, and waits for the result. Returns the page's message, or ''."""
+        self.ask(HIDE)
+        self.choose(*names)
+        self.wait(IDLE)
+        return self.message()
+
+    def choose(self, *names: str) -> None:
+        """Gives the page files."""
+        found = self.call("Runtime.evaluate", expression="$('files')")["result"]["objectId"]
+        self.call("DOM.setFileInputFiles", objectId=found,
+                  files=[os.path.abspath(it) for it in names])
+
+    def paste(self, field: str, text: str) -> str:
+        """Pastes a text into a field, and waits for the result. Returns the page's message."""
+        self.ask(f"{HIDE}; $('{field}').select(); 0")
+        self.call("Input.insertText", text=text)
+        self.ask(f"$('{field}').dispatchEvent(new ClipboardEvent('paste')); 0")
+        self.wait(IDLE)
+        return self.message()
+
+    def message(self) -> str:
+        """The page's message, or ''."""
+        return self.ask("$('message').hidden ? '' : $('message').textContent")
+
+    def text(self, name: str) -> str:
+        """The text of an element of the page."""
+        return self.ask(f"$('{name}').textContent")
+
+    def saved(self, what: str) -> bytes:
+        """The bytes of a result of the last run: its report, answers or page."""
+        return base64.b64decode(self.ask(BYTES % json.dumps(what)))
+
+    def frame(self, selector: str) -> Sequence[str]:
+        """The texts of the elements in the frame that fit a selector."""
+        return self.ask("[...$('page').contentDocument.querySelectorAll("
+                        f"{json.dumps(selector)})].map(e => e.textContent)")

@@ -1,0 +1,223 @@
+"""What a user does with the page, and what it says then."""
+import base64
+import os
+import re
+from typing import Tuple
+
+from bench.measured import crowded
+from tests.page.comparing import Comparison
+from tests.page.driving import IDLE, Tab
+from tests.runner import TOP, encode, write
+from tests.tables.rows import text
+
+LEVEL = "####\n# .#\n#  ###\n#*@  #\n#  $ #\n#  ###\n####\n"
+LETTERS = "dlUrrrdLullddrUluRuulDrddrruLdlUU"
+LINE = "level 1 solved moves 33 pushes 8 changes 4\n"
+CORNER = "#####\n#$ .#\n# @ #\n#####\n"
+MADE = "pattern 2,2 @ *\npattern 2,3 @ *\npattern 3,3 @ *\npattern 4,3 @ *\n"
+# what stands below the level, and what becomes of it
+BELOW = {
+    LETTERS: "solved", f"Solution\n{LETTERS}": "solved",
+    f"Title: x\n\nSolution: {LETTERS}": "solved",
+    f"Solution/Solver (moves 33)\n{LETTERS[:10]}\n{LETTERS[10:]}": "solved",
+    f"Dull\n\n{LETTERS}": "solved", "Dull\n": "missing", "Solution\nlurd\n": "refused",
+    f"Solution 1\nlllllllll\nSolution 2\n{LETTERS}": "solved",
+    "dlU3rdLu2l2drUluR2ulDr2d2ruLdl2U": "solved", "2(u)": "missing",
+    "Solution\n99999999999(u)": "missing", f"Solution\r\n{LETTERS}\r\n": "solved",
+}
+UNREAD = "2 lines of letters solve no level or aren't needed: lines 8, 10."
+HOSTILE = ("<img src=x onerror=\"document.title='run'\"></script>"
+           "<script>document.title='run'</script>")
+NAMES = ["levels", "the solutions below its levels"]
+# what a browser does that has no vectors, or no WebAssembly
+LACKS = "WebAssembly.validate = () => false", "delete globalThis.WebAssembly"
+
+
+def below(check: Comparison, tab: Tab) -> None:
+    """Solutions below a level, and what is said of the rest."""
+    for letters, status in BELOW.items():
+        tab.paste("levels", LEVEL + letters)
+        check.same(f"below: {letters!r}", status, tab.text("lines").split()[2])
+    tab.paste("levels", f"{LEVEL}llllllllll\nx\nrrrrrrrrrr\nx\n{LETTERS}\n")
+    check.same("letters that aren't read", True, UNREAD in tab.text("notes"))
+    tab.paste("levels", f"{LEVEL}\nsokoban-answers 1\nlevel 1\nsolution\n{LETTERS}\nend\n")
+    check.same("both texts in one", LINE, tab.text("lines")[:len(LINE)])
+
+
+def viewing(check: Comparison, tab: Tab) -> None:
+    """The viewer within the page, with its keys, and dead squares."""
+    tab.paste("levels", LEVEL + LETTERS)
+    check.same("one level is shown at once", [f"\u2713 {LINE.strip()}"],
+               tab.frame("#level .verdict"))
+    tab.ask("$('page').focus(); 0")
+    tab.press("ArrowRight", "ArrowRight")
+    tab.wait("$('page').contentWindow.location.hash === '#1:2'")
+    tab.press("d")
+    tab.wait("$('page').contentDocument.querySelector('.dead')")
+    check.same("dead squares", "2,2 3,2 2,6 3,6".split()[:1],
+               tab.ask("$('page').contentDocument.querySelector('.dead').dataset.cells")
+               .split()[:1])
+    check.same("the key of dead squares is listed", True, "d" in tab.frame("#keys dt"))
+
+
+def making(check: Comparison, tab: Tab) -> None:
+    """Certificates, and what is saved."""
+    tab.paste("levels", f"{LEVEL}{LETTERS}\n\n{CORNER}")
+    tab.click("#make")
+    tab.wait("$('lines').textContent.includes('level 2 unsolvable patterns 4')")
+    answers = (f"sokoban-answers 1\nlevel 1\nsolution\n{LETTERS}\nend\nlevel 2\nunsolvable\n{MADE}"
+               "end\n")
+    check.same("made answers", answers, tab.saved("answers").decode())
+    check.same("nothing is left to make", True, tab.ask("$('make').disabled"))
+    tab.ask("savePage().then(() => 0)")
+    texts = tab.ask("$('levels').value"), answers, tab.text("lines")
+    check.shows("the saved page", list(map(encode, texts)), NAMES)
+    write("saved.html", tab.saved("page").decode())
+    tab.open("file://" + os.path.abspath("saved.html"))
+    check.same("the saved page opens", "\u2715 2",
+               tab.ask("document.querySelector('.card.unsolvable b').textContent"))
+    check.same("the saved page asks for nothing", 1, len(tab.requests))
+
+
+def several(check: Comparison, tab: Tab) -> None:
+    """Several files, one after the other."""
+    samples = f"{TOP}/samples"
+    write("bad.xsb", CORNER)
+    write("bad.answers", "sokoban-answers 1\nlevel 7\n")
+    tab.choose(*(f"{samples}/{name}.{end}" for name in ("every", "first")
+                 for end in ("xsb", "answers")), "bad.xsb", "bad.answers")
+    tab.wait("document.querySelectorAll('#each li').length === 3")
+    totals = [f"{name}.xsb {open(f'{samples}/{name}.report').read().splitlines()[-1]}"
+              for name in ("every", "first")]
+    check.same("several files", [*totals, "bad.xsb answers line 2 unknown"],
+               tab.ask("[...document.querySelectorAll('#each li')].map(e => e.textContent)"))
+    tab.ask("document.querySelectorAll('#each button')[1].click()")
+    tab.wait(f"{IDLE} && kept.names?.[0] === 'first.xsb'")
+    check.same("one of several", open(f"{samples}/first.report").read(), tab.text("lines"))
+
+
+def hostile(check: Comparison, tab: Tab) -> None:
+    """Titles and names of files that are written as markup."""
+    name = HOSTILE.replace("/", "\u2215") + ".xsb"
+    write(name, f"{HOSTILE}\n{LEVEL}Title: {HOSTILE}\n\n{HOSTILE}\n{LEVEL}{LETTERS}\n")
+    tab.give(name)
+    tab.ask("$('page').contentWindow.go(1)")
+    check.same("hostile titles are texts", True, HOSTILE in tab.frame("#heading")[0])
+    tab.ask("savePage().then(() => 0)")
+    check.same("no text becomes markup", ["sokoaudit", 0], tab.ask(
+        "[document.title, [document, $('page').contentDocument].map(it => it.querySelectorAll("
+        "'img, main script').length).reduce((a, b) => a + b)]"))
+    write("saved.html", tab.saved("page").decode())
+    asked = tab.requests
+    check.same("nothing is asked for", [], [it for it in asked if it[:5] not in ("file:", "blob:")])
+    tab.open("file://" + os.path.abspath("saved.html"))
+    check.same("nor becomes it markup in the saved page", 0,
+               tab.ask("document.querySelectorAll('img, main script').length"))
+    tab.fresh()
+    tab.ask("document.body.append(Object.assign(document.createElement('script'), "
+            "{ textContent: \"document.title = 'run'\" }))")
+    check.same("no other script runs", "sokoaudit", tab.ask("document.title"))
+    check.same("no address is asked for", "refused", tab.ask(
+        "fetch('http://127.0.0.1:9/').then(() => 'answered', () => 'refused')"))
+
+
+def stopping(check: Comparison, tab: Tab) -> None:
+    """A run that is cancelled, and a memory that doesn't grow."""
+    write("slow.xsb", text(crowded(300, 255, 400, True)))
+    tab.give("slow.xsb")
+    tab.ask("run('make', 'Looking for certificates', {}), 0")
+    check.same("the page answers while the program runs", [False, True], tab.ask(
+        "[$('busy').hidden, $('busy').textContent.includes('Looking for certificates')]"))
+    tab.click("#cancel")
+    check.same("cancelled", True, tab.ask("$('busy').hidden"))
+    tab.ask("clear(); 0")
+    tab.paste("levels", LEVEL + LETTERS)
+    check.same("the next run after that", LINE, tab.text("lines")[:len(LINE)])
+
+
+def limited(page: str, pages: int) -> str:
+    """The page with a module whose memory has at most this many pages of 64 KiB."""
+    def capped(match: "re.Match[str]") -> str:
+        data = base64.b64decode(match[1])
+        at, out = 8, data[:8]
+        while at < len(data):
+            kind, (size, begin) = data[at], number(data, at + 1)
+            body = data[begin:begin + size]
+            if kind == 5:
+                least, _ = number(body, 2)
+                body = b"\1\1" + spelled(least) + spelled(pages)
+            out += bytes([kind]) + spelled(len(body)) + body
+            at = begin + size
+        return f'id="wasm">{base64.b64encode(out).decode()}<'
+
+    return re.sub(r'id="wasm">([^<]*)<', capped, page)
+
+
+def number(data: bytes, at: int) -> Tuple[int, int]:
+    """A number of a module, and where the next byte is."""
+    value = shift = 0
+    while True:
+        value |= (data[at] & 127) << shift
+        shift += 7
+        at += 1
+        if data[at - 1] < 128:
+            return value, at
+
+
+def spelled(value: int) -> bytes:
+    """A number as a module has it."""
+    out = b""
+    while value > 127:
+        out += bytes([value & 127 | 128])
+        value >>= 7
+    return out + bytes([value])
+
+
+def growth(check: Comparison, tab: Tab) -> None:
+    """A memory that may not grow far: one sentence, and the next run works."""
+    with open(tab.page, encoding="utf-8") as file:
+        write("small.html", limited(file.read(), 64))
+    write("long.xsb", " " * 3000000 + "\n" + LEVEL)
+    tab.open("file://" + os.path.abspath("small.html"))
+    check.same("no memory", "out of memory.", tab.give("long.xsb")[:14])
+    tab.ask("clear(); 0")
+    tab.paste("levels", LEVEL + LETTERS)
+    check.same("after no memory", LINE, tab.text("lines")[:len(LINE)])
+
+
+def browsers(check: Comparison, tab: Tab) -> None:
+    """Browsers that can't run the program: one sentence that names what to use."""
+    for lack in LACKS:
+        made = tab.call("Page.addScriptToEvaluateOnNewDocument", source=lack)["identifier"]
+        tab.fresh()
+        check.same(lack, True, "no WebAssembly" in tab.message() and "reference" in tab.message())
+        tab.call("Page.removeScriptToEvaluateOnNewDocument", identifier=made)
+
+
+def reaching(check: Comparison, tab: Tab) -> None:
+    """Keys alone, dropped files, a screen reader, and a narrow page."""
+    tab.press("Tab")
+    check.same("the first stop of Tab", "levels", tab.ask("document.activeElement.id"))
+    tab.call("Input.insertText", text=LEVEL + LETTERS)
+    tab.press("Tab", "Tab", "Enter")
+    tab.wait("document.activeElement.id === 'total'")
+    check.same("an audit by keys", LINE, tab.text("lines")[:len(LINE)])
+    names = tab.spoken()
+    for pair in (("textbox", "Levels and perhaps the solution below each"), ("button", "Cancel"),
+                 ("heading", "total 1 solved 1 unsolvable 0 refused 0 missing 0")):
+        check.same(f"spoken: {pair}", pair != ("button", "Cancel"), pair in names)
+    for dark in (False, True):
+        tab.size(360, 740, dark)
+        check.same("no scrolling sideways", True,
+                   tab.ask("document.documentElement.scrollWidth <= innerWidth"))
+    tab.size(1280, 900)
+    tab.ask("clear(); 0")
+    write("one.xsb", LEVEL + LETTERS)
+    data = {"items": [], "files": [os.path.abspath("one.xsb")], "dragOperationsMask": 1}
+    for kind in ("dragEnter", "dragOver", "drop"):
+        tab.call("Input.dispatchDragEvent", type=kind, x=200, y=200, data=data)
+    tab.wait(IDLE)
+    check.same("a dropped file", LINE, tab.text("lines")[:len(LINE)])
+
+
+PARTS = below, viewing, making, several, hostile, stopping, growth, browsers, reaching
