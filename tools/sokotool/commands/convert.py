@@ -13,13 +13,17 @@ import argparse
 import codecs
 import hashlib
 import os
+import re
 import sys
 from typing import List, Optional, Sequence, Tuple
 
 from .. import collection as collections
 from .. import answers, exports, former, levels, output, own_files, texts
 from ..collection import Collection, Silent
-from ..formats import letters, lists, plain, slc
+from ..formats import entries, letters, lists, plain, slc
+
+# a piece of a row, between other things
+_DRAWN = re.compile(r"#[-_ #]*[@$.*+][-_ #@$.*+]+#")
 
 
 def arguments(parser):
@@ -149,7 +153,7 @@ def _read_levels(collection: Collection, data: bytes, is_found: bool, waiting: l
     text = _text_of(collection, data)
     if text is None:
         return
-    if not slc.is_slc(text) and lists.is_list(texts.lines_of(text)):
+    if not slc.is_slc(text) and entries.is_list(texts.lines_of(text)):
         waiting.add(collection.file, texts.lines_of(text),
                     collection.published if is_found else "")
         return
@@ -168,9 +172,10 @@ def _is_idle(data: bytes, encoding: str) -> bool:
     """Returns whether a file has neither a row nor letters, nor anything that looks like them."""
     text, _ = texts.text_of(data, encoding)
     if text is None:
-        return True
+        return not any(len(line) > 2 and levels.is_row(line)
+                       for line in texts.lines(data.replace(b"\0", b"")))
     lines = texts.lines_of(text)
-    if slc.is_slc(text) or lists.is_list(lines):
+    if slc.is_slc(text) or entries.is_list(lines) or _DRAWN.search(text):
         return False
     tried = Silent(encoding=encoding)
     plain.read(tried, lines)

@@ -1,83 +1,23 @@
-"""Reads lists of solutions: letters for many levels, whose boards are in other files.
+"""Reads lists of solutions: letters or answers for many levels, whose boards are in other files.
 
-An entry of a list is letters, alone in lines or at the end of a line of words, and the lines of
-words above them. One of these has the title of a level, or its number in the export of the list's
-name. A replay decides: letters go to the level of that title or number whose board they solve.
+The words of an entry have the title of a level, or its number in the export of the list's name. A
+replay decides: letters go to the level of that title or number whose board they solve. Answers of
+sokotool and sokoaudit go by the boards of their levels.
 """
-import functools
 import os
 import re
-from typing import Container, Dict, Iterator, List, NamedTuple, Optional, Sequence, Tuple
+from typing import Dict, List, NamedTuple, Optional, Sequence, Tuple
 
 from .. import answers, boards, carrying, game, levels, texts
 from ..collection import Attempt, Collection, another, cost
-from . import headings, letters, plain, rows
+from . import headings
+from .entries import DRESS, Entry, entries, key_of, names
 
-LONG = 8
-# A file with more lines or a longer one is no list.
-MOST_LINES, LONGEST = 100_000, 1 << 20
-# the most characters of a title before letters
-LONGEST_TITLE = 200
 # the most bytes of a list without a solution that become a comment
 MOST_KEPT = 1 << 20
-_NUMBERED = re.compile(r"[>;\s]*[#(\[]?[0-9]+(?:[.):\];,|=]+\s*|\s+)(?=[lurdLURD(0-9\"'])")
-_TOKEN = re.compile(r"[^\s:;,=|\"'\[\]{}<>]+")
-_LETTERS = re.compile(r"[0-9()]*[lurdLURD][lurdLURD0-9()]*")
 _NUMBER = re.compile(r"\W*(?:[^\W\d_]+\W+){0,3}([0-9]{1,5})(?![0-9])")
-# what may be before a number or a title
-_BEFORE = re.compile(r"(?:[0-9]+\W+|(?:(?:the|best|solution|answer|level|puzzle|of|to|for)\W+)+)",
-                     re.I)
-_DRESS = " \t;#*>[](){}<>\"':.,=/-"
 # a line that is nothing but a number
 _BARE_NUMBER = re.compile(r"\W*(?:level|puzzle|no|nr|number)?\W*[0-9]+\W*", re.I)
-_HEADINGS = {headings.HEADING, headings.SOFT, headings.KEY, headings.KEY_WORDS, headings.SAVED}
-
-
-_kind_of = functools.lru_cache(maxsize=1000)(headings.kind_of)
-
-
-class Words(NamedTuple):
-    """A line of words: its number, its text, and the letters in it with the text before them."""
-
-    line: int
-    text: str
-    front: str = ""
-    letters: str = ""
-
-    @property
-    def kind(self) -> int:
-        """The kind of the line."""
-        return _kind_of(self.text)
-
-
-class Entry(NamedTuple):
-    """An entry of a list: its words, its letters, and the line where they begin."""
-
-    words: List[Words]
-    letters: str
-    line: int
-
-    @property
-    def readings(self) -> List[str]:
-        """The letters that may be the solution: with those in the last words, or without."""
-        front = self.words[-1].letters if self.words else ""
-        both = [front + self.letters, self.letters, front]
-        return [text for text in dict.fromkeys(both) if text]
-
-    @property
-    def is_sure(self) -> bool:
-        """Whether the letters can hardly be words."""
-        kinds = {words.kind for words in self.words}
-        if headings.SAVED in kinds:
-            return False
-        return (bool(self.letters or kinds & {headings.HEADING, headings.SOFT})
-                or any(len(text) >= LONG for text in self.readings)
-                or any(_NUMBERED.match(words.text) for words in self.words[-1:]))
-
-    @property
-    def goes_on(self) -> bool:
-        """Whether it has no name of its own."""
-        return all(words.kind in _HEADINGS and not words.letters for words in self.words)
 
 
 class Target(NamedTuple):
@@ -112,14 +52,6 @@ class Found(NamedTuple):
     line: int
     attempt: Attempt
     notes: List[str]
-
-
-def is_list(lines: Sequence[str]) -> bool:
-    """Returns whether a file has letters and no level."""
-    return (len(lines) <= MOST_LINES and not any(rows.is_plain(line) for line in lines)
-            and max(map(len, lines), default=0) <= LONGEST
-            and any(letters.are_alone(line) or _words(0, line, {}).letters for line in lines)
-            and not any(plain.rows_of(lines).rows))
 
 
 class Lists:
@@ -173,41 +105,42 @@ class Lists:
             for level in levels.read(text):
                 target = Target(part, level.number, game.Board(level), level)
                 self._targets.append(target)
-                for name in {_key(level.title), _key(level.title.strip(_DRESS))} - {""}:
+                for name in {key_of(level.title), key_of(level.title.strip(DRESS))} - {""}:
                     self._by_title.setdefault(name, []).append(target)
 
     # ---- answers
 
     def _place_answers(self, answered: "Answered") -> None:
-        """Gives answers to the levels that have the boards of theirs."""
-        placed = set()
-        parts = {target.part for target in self._targets}
-        for part in sorted(parts):
+        """Gives answers to the levels that have the boards of theirs. One that doesn't hold is
+        reported once, although several levels may have its board."""
+        whys: Dict[int, str] = {}
+        for part in sorted({target.part for target in self._targets}):
             targets = [it for it in self._targets if it.part == part]
             carried = carrying.carried(answered.records, answered.forms,
                                        boards.forms_of(it.level for it in targets))
-            for number, several in carried.items():
+            for number, several in sorted(carried.items()):
                 for one in several:
-                    placed.add(id(one.record))
-                    self._place_answer(answered.file, targets[number - 1], one)
+                    why = self._place_answer(answered.file, targets[number - 1], one)
+                    whys.setdefault(one.record.line, why)
         for record in answered.records:
-            if id(record) not in placed:
-                self._fault(answered.file, record.line, "no level has the board of this record")
+            why = whys.get(record.line, "no level has the board of this record")
+            if why:
+                self._fault(answered.file, record.line, why)
 
-    def _place_answer(self, file: str, target: Target, one: carrying.Carried) -> None:
+    def _place_answer(self, file: str, target: Target, one: carrying.Carried) -> str:
+        """Gives an answer to a level. Returns in words why it doesn't hold, or ""."""
         record = answers.read(answers.text([one.text])).records[0]
         if record.kind != "solution":
             self._certificates.setdefault(target[:2], one.text)
-            return
+            return ""
         attempt = self.collection.attempt_on(target.board, record.letters.decode("latin-1"))
         if attempt.why:
-            self._fault(file, one.record.line,
-                        f"the solution of level {target.number} {attempt.why}")
-            return
+            return f"the solution of level {target.number} {attempt.why}"
         notes = [texts.decoded(line) for line in record.above + record.raw
                  if line.startswith(b";")]
         self._found.setdefault(target[:2], []).append(
             Found(file, one.record.line, attempt, notes))
+        return ""
 
     # ---- entries
 
@@ -241,7 +174,7 @@ class Lists:
         by_number: List[Target] = []
         for words in reversed(entry.words):
             name_at = [words.front, words.text] if words.letters else [words.text]
-            for name in dict.fromkeys(name for text in name_at for name in _names(text)):
+            for name in dict.fromkeys(name for text in name_at for name in names(text)):
                 by_title += [it for it in self._by_title.get(name, ()) if it not in by_title]
             number = _NUMBER.match(name_at[0])
             if number:
@@ -309,7 +242,7 @@ class Lists:
         return [words.text for words in entry.words
                 if not words.letters and words.kind != headings.HEADING
                 and not _BARE_NUMBER.fullmatch(words.text)
-                and not any(name in self._by_title for name in _names(words.text))]
+                and not any(name in self._by_title for name in names(words.text))]
 
     # ---- records
 
@@ -351,63 +284,3 @@ class Lists:
 def _record(number: int, found: Found) -> bytes:
     notes = "".join(f"; {texts.shown(note).strip(' ;')}\n" for note in found.notes)
     return notes.encode("utf-8", "replace") + answers.solution(number, found.attempt.letters)
-
-
-# ---- lines
-
-def entries(lines: Sequence[str], titles: Dict[str, List[Target]]) -> Iterator[Entry]:
-    """Yields the entries of a list. A line of letters that is a title is one, if no letters are
-    due after a name."""
-    words: List[Words] = []
-    found: List[str] = []
-    line = 0
-    for at, text in enumerate(lines, 1):
-        if not text.strip():
-            continue
-        is_title = _key(text) in titles and (
-            bool(found) or not any(name in titles for it in words[-1:] for name in _names(it.text)))
-        if letters.are_alone(text) and not is_title and not _NUMBERED.match(text):
-            line = line if found else at
-            found.append(letters.packed(text))
-            continue
-        if found or words and words[-1].letters:
-            yield Entry(words, "".join(found), line or words[-1].line)
-            words, found, line = [], [], 0
-        words.append(_words(at, text, titles))
-    if words or found:
-        yield Entry(words, "".join(found), line or words[-1].line)
-
-
-def _words(at: int, line: str, titles: Container[str]) -> Words:
-    """Reads a line of words: the longest run of letters in it, and the text before that. A title
-    that begins the line ends before the letters."""
-    bare = letters.untagged(line)
-    runs: List[Tuple[int, List[str]]] = []
-    is_run = False
-    for match in _TOKEN.finditer(bare):
-        if is_run and match.start() <= LONGEST_TITLE and (
-                _key(bare[:match.start()].strip(_DRESS)) in titles):
-            runs, is_run = [], False
-        was_run, is_run = is_run, bool(_LETTERS.fullmatch(match.group()))
-        if is_run and not was_run:
-            runs.append((match.start(), [match.group()]))
-        elif is_run:
-            runs[-1][1].append(match.group())
-    first, parts = max(runs, key=lambda run: sum(map(len, run[1])), default=(len(bare), []))
-    return Words(at, line, bare[:first], "".join(parts))
-
-
-def _names(text: str) -> Iterator[str]:
-    """Yields the titles that words may have, as keys."""
-    bare = text.strip(_DRESS)
-    fields = re.split(r"[,;|]|\t|  +", bare)
-    before = _BEFORE.match(bare)
-    for name in (text, bare, bare.partition(":")[2], bare[before.end() if before else 0:], *fields):
-        for key in (_key(name), _key(name.strip(_DRESS))):
-            if key:
-                yield key
-
-
-def _key(title: str) -> str:
-    """Returns a title as titles are compared."""
-    return " ".join(title.split()).casefold()
