@@ -10,8 +10,9 @@ import sys
 
 from tests.runner import TOP, Cases, arguments, run
 
-TESTS = [f"test_{it}" for it in ("auditor", "beside", "check", "commands", "convert", "files", "find",
-                                 "friends", "page", "pyz", "solvers", "system", "table")]
+TESTS = [f"test_{it}" for it in (
+    "auditor", "beside", "check", "commands", "convert", "files", "find", "friends", "page", "pyz",
+    "solvers", "system", "table")]
 
 
 def without(cases: Cases, system: str, python: str, *words: str) -> None:

@@ -165,13 +165,14 @@ class Folders(Check):
 
     def test_what_looks_like_a_level_is_a_problem(self):
         """Also in a folder: rows that can't be read, and letters of no level."""
-        for text in ("####\n", "11111\n10001\n10231\n11111\n", "Solution: rrrrlllluuuu\n",
-                     "XXXXX\nX@$.X\nXXXXX\n", '{"levels": [["####", "#@.#"]]}',
-                     LOST.encode("utf-16") + b"#", b"PK\0\0" + LOST.encode()):
+        texts = ["####\n", "11111\n10001\n10231\n11111\n", "Solution: rrrrlllluuuu\n",
+                 "XXXXX\nX@$.X\nXXXXX\n", '{"levels": [["####", "#@.#"]]}']
+        for text in [*map(str.encode, texts), LOST.encode("utf-16") + b"#",
+                     b"PK\0\0" + LOST.encode()]:
             self.write("inbox/b.txt", text)
             result = self.check("mine", "inbox")
             self.assertEqual(result.status, 1, text)
-            self.assertIn("problem: inbox/b.txt", result.out.decode(), text)
+            self.assertIn(b"problem: inbox/b.txt", result.out, text)
 
     def test_ignored_names(self):
         self.write("inbox/b.txt", "####\n")
