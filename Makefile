@@ -12,6 +12,8 @@
 #   (dist and deb also test the packages, and compare them byte for byte with packages of a second build in another folder)
 #   make lib             makes out/lib, which can be moved anywhere: the library for C with its header, sokoaudit.pc and a Python module;
 #                        compares it with the program
+#   make page            makes sokoaudit.html, the proved library in a page for browsers
+#   make windows arm64   make out/windows and out/arm64: the program and the library for Windows, and for Linux on ARM64
 PREFIX = /usr/local
 DESTDIR =
 prefix = $(DESTDIR)$(PREFIX)
@@ -40,6 +42,10 @@ dist deb: all
 	@packaging/library out/lib
 	@packaging/$@ $(built) out out/lib
 	@tests/run packages $(built)
+page: all
+	@packaging/page sokoaudit.html
+windows arm64: all
+	@packaging/native $@ $(built)/sokoaudit out/$@
 lib: all
 	@packaging/library out/lib
 	@tests/run library $(built)/sokoaudit out/lib
@@ -56,4 +62,4 @@ prove-$(1): $(patsubst %,prove-%,$(call below,$(1)))
 endef
 $(foreach it,$(names),$(eval $(call rule,$(it))))
 
-.PHONY: all check fuzz pyz install install-tools uninstall dist deb lib $(names:%=prove-%)
+.PHONY: page windows arm64 all check fuzz pyz install install-tools uninstall dist deb lib $(names:%=prove-%)
