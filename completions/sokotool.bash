@@ -11,6 +11,7 @@ _sokotool() {
     COMPREPLY=()
     case $COMP_CWORD:$command:$before in
         1:* | 2:help:*) mapfile -t COMPREPLY < <(compgen -W "$commands" -- "$word") ;;
+        check:--best) mapfile -t COMPREPLY < <(compgen -W "moves pushes both" -- "$word") ;;
         *:--best) mapfile -t COMPREPLY < <(compgen -W "moves pushes" -- "$word") ;;
         *:--to) mapfile -t COMPREPLY < <(compgen -W "slc sok xsb rle" -- "$word") ;;
         *:--seconds | *:--search | *:--encoding | *:--jobs | *:--memory | *:--solver) ;;

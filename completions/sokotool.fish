@@ -16,6 +16,7 @@ end
 complete -c sokotool -n "__fish_seen_subcommand_from $commands[1..-2]" -F
 complete -c sokotool -n "__fish_seen_subcommand_from help" -a "$commands"
 complete -c sokotool -n "__fish_seen_subcommand_from check convert" -l best -x -a 'moves pushes' -d 'Which solution is kept'
+complete -c sokotool -n "__fish_seen_subcommand_from check" -l best -x -a both -d 'The best by moves and by pushes'
 complete -c sokotool -n "__fish_seen_subcommand_from convert" -l replace -d 'Replace files, and keep the old ones'
 complete -c sokotool -n "__fish_seen_subcommand_from check convert" -l encoding -x -d 'Encoding of files that are not UTF-8'
 complete -c sokotool -n "__fish_seen_subcommand_from convert" -l split -d 'Write several collections'

@@ -1,13 +1,13 @@
 """A collection while it is built: the text of its levels, their solutions, and messages."""
 import sys
-from typing import List, NamedTuple, Optional, Sequence, Tuple
+from typing import Any, Dict, List, NamedTuple, Optional, Sequence, Tuple
 
 from . import answers, game, levels, texts
 from .formats import coding
 
 MOST_MESSAGES = 1000
 MOST_NAMED = 5
-MOVES, PUSHES = "moves", "pushes"
+MOVES, PUSHES, BOTH = "moves", "pushes", "both"
 
 
 class Attempt(NamedTuple):
@@ -38,8 +38,9 @@ class Collection:
 
     `faults` counts what was reported as left out or wrong. Of these, `unsolved` counts the
     solutions that are kept although they leave boxes off the goals, and `torn` the levels that seem
-    to lack rows. With `split`, a collection that is too large becomes several: `count` has the
-    levels of the last one, and `total` all levels.
+    to lack rows. If both of the best are kept, `others` has the solutions with fewer pushes by the
+    numbers of their levels. With `split`, a collection that is too large becomes several: `count`
+    has the levels of the last one, and `total` all levels.
     """
 
     advice = "; --split writes several collections"
@@ -49,6 +50,7 @@ class Collection:
         self.full: List[Tuple[bytes, bytes]] = []
         self.text = bytearray()
         self.records: List[bytes] = []
+        self.others: Dict[int, bytes] = {}
         self.count = self.total = 0
         self.solutions = self.faults = self.unsolved = self.torn = 0
         self.file = self.published = ""
@@ -207,6 +209,7 @@ class Collection:
         failing = [it for it in self._tries if it.attempt.why is not None]
         playing = [it for it in failing if it.attempt.plays]
         kept = self._choose(solving) if solving else playing[0] if playing else None
+        other = best_of(solving, self.best)[1] if solving and self.best else None
         for it in failing:
             self.fault(it.line, f"the solution of level {self.count} {it.attempt.why}", it.file)
             self.unsolved += it is kept
@@ -214,6 +217,9 @@ class Collection:
             self.records.append(answers.solution(self.count, kept.attempt.letters))
             self.solutions += 1
             self._letters += len(kept.attempt.letters)
+        if other:
+            self.others[self.count] = answers.solution(self.count, other.attempt.letters)
+            self._letters += len(other.attempt.letters)
         self.level = self._board = None
         self._tries, self._spares = [], []
 
@@ -221,7 +227,8 @@ class Collection:
         """Returns the solution to keep: the best one, or the first one, with a report of the
         others."""
         if self.best:
-            return min(solving, key=lambda it: cost(it.attempt, self.best))
+            kept: Try = best_of(solving, self.best)[0]
+            return kept
         kept, seen = solving[0], {solving[0].attempt.letters}
         for it in solving[1:]:
             if it.attempt.letters not in seen:
@@ -273,6 +280,15 @@ def cost(attempt: Attempt, best: str) -> Tuple[int, int]:
     """Returns the moves and pushes of a solution, those first that are to be few."""
     counts = (attempt.moves, attempt.pushes)
     return counts if best == MOVES else (counts[1], counts[0])
+
+
+def best_of(several: Sequence[Any], best: str) -> Tuple[Any, Optional[Any]]:
+    """Returns the best of several solutions, which have attempts. If both are asked for, that is
+    the one by moves, and the other one by pushes is returned too if it has fewer."""
+    kept = min(several, key=lambda it: cost(it.attempt, MOVES if best == BOTH else best))
+    other = min(several, key=lambda it: cost(it.attempt, PUSHES))
+    is_other = best == BOTH and other.attempt.pushes < kept.attempt.pushes
+    return kept, other if is_other else None
 
 
 def another(number: int, attempt: Attempt, kept: Attempt) -> str:

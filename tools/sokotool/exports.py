@@ -39,6 +39,11 @@ class Export(NamedTuple):
         """Its name without the end."""
         return os.path.splitext(self.name)[0]
 
+    @property
+    def levels_name(self) -> str:
+        """The name of the levels that answers of this name are for."""
+        return (self.stem[:-6] if self.stem.endswith(".other") else self.stem) + ".xsb"
+
 
 def listed(names: Sequence[str], is_own: IsOut = lambda _: False) -> List[Export]:
     """Returns the exports to read: a folder stands for its regular files in order, without hidden
@@ -64,8 +69,8 @@ def levels_of(export: Export, every: Sequence[Export]) -> Optional[Export]:
     lie beside it."""
     beside = [it for it in every if it.name.endswith(".xsb")
               and os.path.dirname(it.name) == os.path.dirname(export.name)]
-    same = [it for it in beside if it.stem == export.stem]
-    name = export.stem + ".xsb"
+    name = export.levels_name
+    same = [it for it in beside if it.name == name]
     if not same and os.path.isfile(name):
         same = [Export(name, lambda: texts.read(name))]
     found = same or beside

@@ -19,9 +19,9 @@ from .progress import Progress
 # The page of a collection within the limits is shorter.
 MOST_BYTES = 1_000_000_000
 XSB, ANSWERS, REPORT, PAGE = ".xsb", ".answers", ".report", ".html"
-KEPT_XSB, KEPT_ANSWERS, MEMORY = ".kept.xsb", ".kept.answers", ".memory"
+OTHER, KEPT_XSB, KEPT_ANSWERS, MEMORY = ".other.answers", ".kept.xsb", ".kept.answers", ".memory"
 # the files that are kept as NAME.xsb~ and so on when one of them changes
-ENDS = (XSB, ANSWERS, REPORT, PAGE, KEPT_XSB, KEPT_ANSWERS)
+ENDS = (XSB, ANSWERS, OTHER, REPORT, PAGE, KEPT_XSB, KEPT_ANSWERS)
 JOURNAL = ".unfinished"
 EVERY = (*ENDS, MEMORY, JOURNAL)
 _PAGE = b"<title>sokoaudit report</title>"

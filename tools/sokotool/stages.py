@@ -8,16 +8,18 @@ from . import (answers, auditor, blocks, boards, by_hand, carrying, changes, kep
                own_files, report, taking, texts)
 from .audits import Audits
 from .outcomes import Outcomes
-from .own_files import ANSWERS, KEPT_ANSWERS, KEPT_XSB, REPORT, XSB, noted
+from .own_files import ANSWERS, KEPT_ANSWERS, KEPT_XSB, OTHER, REPORT, XSB, noted
 from .picks import Picks
 from .progress import Progress
 
 
 class Exports(NamedTuple):
-    """The levels and solutions of the exports, and what was left out: places and reasons."""
+    """The levels and solutions of the exports, the solutions with fewer pushes if both of the best
+    are kept, and what was left out: places and reasons."""
 
     text: bytes
     answers: bytes
+    others: bytes
     problems: List[Tuple[str, str]]
 
 
@@ -161,11 +163,14 @@ def take(given: Given, done: Read, made: Merge) -> taking.Taken:
     of the level that each names."""
     taken = taking.Taken(Picks(made.now.levels, given.options.best), made.now)
     places = {at: number for number, at in enumerate(made.merged.exports, 1)}
-    taken.add_own(done.files.answers(ANSWERS, done.most), done.former, done.mine.state,
-                  set(done.memory.computed))
+    own, other = (done.files.answers(end, done.most) for end in (ANSWERS, OTHER))
+    own.records.extend(other.records)
+    own.rest.extend(other.rest)
+    taken.add_own(own, done.former, done.mine.state, set(done.memory.computed))
     taken.add_stored(done.stored)
     taken.add_exported([record.numbered(places[record.level - 1])
-                        for record in answers.read(given.exports.answers).records])
+                        for text in (given.exports.answers, given.exports.others)
+                        for record in answers.read(text).records])
     for name, more in given.more:
         taken.add_file(name, more, done.former)
     return taken

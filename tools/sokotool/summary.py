@@ -21,7 +21,8 @@ _OUTCOMES = {LATE: "stopped", FULL: "gave up with full tables", MEMORY: "gave up
 class Done(NamedTuple):
     """The result of a check: the name of the collection, its state now and before, what was left
     out or is wrong, whether the reference checked it, the numbers of the levels that the keeper
-    edited, what is kept elsewhere, and how levels without an answer were searched before."""
+    edited, what is kept elsewhere, how levels without an answer were searched before, and the
+    numbers of the levels that have another solution with fewer pushes."""
 
     name: str
     now: changes.State
@@ -31,6 +32,7 @@ class Done(NamedTuple):
     edited: List[int]
     kept: List[str]
     searched: List[str]
+    others: List[int]
 
 
 def lines(done: Done) -> Iterator[str]:
@@ -53,6 +55,9 @@ def lines(done: Done) -> Iterator[str]:
             yield f"edited by hand: {_levels(done.edited)} {changes.ranges(done.edited)}"
         elif not found:
             yield "nothing changed since the last time"
+    if done.others:
+        yield (f"with fewer pushes in {done.name}.other.answers: {_levels(done.others)} "
+               f"{changes.ranges(done.others)}")
     if done.kept:
         yield f"kept in {done.name}.kept.xsb: " + ", ".join(done.kept)
     yield from _some("twins: ", [

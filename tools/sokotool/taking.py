@@ -28,7 +28,7 @@ class Taken:
         self._stored: List[Own] = []
         self._loose: Dict[int, List[bytes]] = {}
         self._rest: List[bytes] = []
-        self._exported: Dict[int, bytes] = {}
+        self._exported: Dict[int, List[bytes]] = {}
         self._computed: Set[bytes] = set()
 
     # ---- candidates
@@ -72,7 +72,8 @@ class Taken:
 
     def add_exported(self, records: Sequence[answers.Record]) -> None:
         """Adds the records of the exports, by the numbers of the levels."""
-        self._exported = {record.level: record.text for record in records}
+        for record in records:
+            self._exported.setdefault(record.level, []).append(record.text)
         self._by_board(records, self.now, True)
 
     def add_computed(self, number: int, record: bytes) -> None:
@@ -150,8 +151,8 @@ class Taken:
 
     def computed(self) -> List[str]:
         """Returns the digests of the chosen records that were computed."""
-        return [texts.digest(pick.text) for pick in self.picks.chosen.values()
-                if pick.text in self._computed]
+        chosen = [*self.picks.chosen.values(), *self.picks.others.values()]
+        return [texts.digest(pick.text) for pick in chosen if pick.text in self._computed]
 
     def left(self, stored: kept.Kept) -> List[kept.Entry]:
         """Returns what was stored before and has no place yet, and the own records that have none
@@ -177,8 +178,9 @@ class Taken:
 
     def _is_spare(self, own: Own) -> bool:
         """Returns whether a record was computed, or is in the exports."""
-        return any(text in self._computed or number in self._exported
-                   and picks.covers(self._exported[number], text) for number, text in own.targets)
+        return any(text in self._computed
+                   or any(picks.covers(it, text) for it in self._exported.get(number, ()))
+                   for number, text in own.targets)
 
 
 def _in_case(record: answers.Record, states: Sequence[changes.State]) -> answers.Record:

@@ -20,8 +20,8 @@ from typing import Any, List, NamedTuple, Optional, Sequence, Tuple
 
 from .. import (answers, auditor, boards, exports, kept, memory, output, own_files, searching,
                 solvers, stages, summary, system, taking, texts)
-from ..collection import MOVES, PUSHES, Collection
-from ..own_files import ANSWERS, KEPT_ANSWERS, KEPT_XSB, MEMORY, PAGE, REPORT, XSB
+from ..collection import BOTH, MOVES, PUSHES, Collection
+from ..own_files import ANSWERS, KEPT_ANSWERS, KEPT_XSB, MEMORY, OTHER, PAGE, REPORT, XSB, noted
 from ..progress import Progress
 from ..stages import Exports, Found, Given
 from . import convert, page
@@ -42,8 +42,9 @@ def arguments(parser: argparse.ArgumentParser) -> None:
                         help="an export; - is standard input")
     parser.add_argument("--answers", metavar="FILE", nargs="+", action="extend", default=[],
                         help="more answers, by the numbers that levels have or had in NAME.xsb")
-    parser.add_argument("--best", choices=(MOVES, PUSHES), default=MOVES,
-                        help="which of several solutions is kept (default moves)")
+    parser.add_argument("--best", choices=(MOVES, PUSHES, BOTH),
+                        help="which of several solutions is kept (default moves; both if "
+                        "NAME.other.answers is there: it has those with fewer pushes)")
     parser.add_argument("--seconds", metavar="S", type=float, default=SECONDS,
                         help="search each level that is left for up to S seconds "
                         f"(default {SECONDS}, 0 for no search)")
@@ -103,6 +104,8 @@ def gathered(options: argparse.Namespace) -> Given:
     convert.check_name(options.name)
     if options.solver:
         solvers.words_of(options.solver)
+    if not options.best:
+        options.best = BOTH if os.path.exists(options.name + OTHER) else MOVES
     shown, program = Progress("check"), auditor.find()
     if options.solver and not system.ENDS_CHILDREN:
         shown.keep("this system ends the solver alone: what it starts may go on")
@@ -124,7 +127,8 @@ def converted(options: argparse.Namespace, shown: Progress) -> Exports:
         raise texts.Stop("\n  ".join(["these files have no level",
                                       *map("".join, collection.problems)]))
     (_, text), (_, exported) = collection.files(options.name)
-    return Exports(text, exported, collection.problems)
+    others = answers.text([record for _, record in sorted(collection.others.items())])
+    return Exports(text, exported, others, collection.problems)
 
 
 # ---- the files of NAME
@@ -168,9 +172,11 @@ def write(given: Given, found: Found, done: Done) -> None:
         blocks=merge.merged.blocks, is_ordered=merge.merged.is_ordered, computed=taken.computed())
     listed = [merge.text, audited.answers, audited.report]
     kept_text, kept_answers = left.files()
+    other = noted(given.program, taken.picks.other_answers())
     with Unbroken():
         read.files.write({KEPT_XSB: kept_text, KEPT_ANSWERS: kept_answers, XSB: listed[0],
                           ANSWERS: listed[1], REPORT: listed[2],
+                          OTHER: other if given.options.best == BOTH else None,
                           PAGE: page_of(given.options.name, listed, given.program),
                           MEMORY: memory.text(remembered)})
     found.has_backups = read.files.has_backups
@@ -213,7 +219,7 @@ def report(given: Given, found: Found, done: Done) -> int:
             given.options.name, merge.now._replace(lines=lines), found.before, problems,
             given.program.is_reference, edited, left.reasons(merge.now.forms),
             summary.searched(audited.unanswered(merge.now), read.memory.outcomes,
-                             found.outcomes))):
+                             found.outcomes), list(taken.picks.others))):
         print(said)
     return int(bool(problems) or not all(line.is_answered for line in lines))
 

@@ -1,6 +1,7 @@
-"""Prints a collection, NAME.xsb with the solutions in NAME.answers, in a form that other programs
-read: slc for readers of XML, sok for JSoko and YASC, xsb with all but boards in comments, rle with
-each board run-length coded in one line.
+"""Prints a collection in a form that other programs read: NAME.xsb with the solutions in
+NAME.answers and in NAME.other.answers, if that is there. The forms are slc for readers of XML, sok
+for JSoko and YASC, xsb with all but boards in comments, rle with each board run-length coded in one
+line.
 
 Titles and texts are kept. A solution is printed if it solves its level. Certificates stay in
 NAME.answers, since no other program has a form for them.
@@ -13,9 +14,10 @@ import sys
 from typing import Dict, Iterator, List, NamedTuple
 
 from .. import answers, game, levels, output, texts
-from ..collection import Silent
+from ..collection import BOTH, Silent
 from ..formats import plain, slc, written
 from ..formats.written import Solution
+from ..own_files import ANSWERS, OTHER
 
 
 # how many levels may have come in between when a text is read again
@@ -30,13 +32,15 @@ def arguments(parser: argparse.ArgumentParser) -> None:
 
 def run(options: argparse.Namespace) -> int:
     """Prints the collection, and reports how much of it there is."""
-    for name in (options.name + ".xsb", options.name + ".answers"):
+    for name in (options.name + end for end in (".xsb", ANSWERS, OTHER)):
         if options.output is not None and texts.same_file(options.output, name):
             raise texts.Stop(f"would write over {texts.shown(name)}")
     data = texts.read(options.name + ".xsb")
     found = levels.read_within(data, options.name + ".xsb")
-    solutions, certificates, faults = solutions_of(options.name + ".answers", found)
-    content = written.content_of(data, found, solutions)
+    solutions, certificates, faults = solutions_of(options.name + ANSWERS, found)
+    others = solutions_of(options.name + OTHER, found)
+    faults += others.faults
+    content = written.content_of(data, found, solutions, others.solutions)
     text = "".join(line + "\n" for line in written.FORMS[options.to](content)).encode()
     faults += differences_of(content, text)
     for line in faults:
@@ -44,7 +48,8 @@ def run(options: argparse.Namespace) -> int:
     output.put(text)
     left = f", {texts.count(certificates, 'certificate')} not exported" if certificates else ""
     print(f"export: {texts.count(len(found), 'level')}, "
-          f"{texts.count(len(solutions), 'solution')}{left}", file=sys.stderr)
+          f"{texts.count(len(solutions) + len(others.solutions), 'solution')}{left}",
+          file=sys.stderr)
     return int(bool(faults))
 
 
@@ -81,9 +86,9 @@ def solutions_of(name: str, found: List[levels.Level]) -> Found:
 
 # ---- there and back
 
-def read_back(text: bytes) -> List[written.Entry]:
-    """Returns the levels of an exported text as convert reads them."""
-    collection = Silent()
+def read_back(text: bytes, best: str) -> List[written.Entry]:
+    """Returns the levels of an exported text as convert or check reads them."""
+    collection = Silent(best)
     collection.file = "-"
     decoded = text.decode()
     if slc.is_slc(decoded):
@@ -93,14 +98,16 @@ def read_back(text: bytes) -> List[written.Entry]:
     collection.end_level()
     (_, data), (_, solved) = collection.files("")
     found = levels.read(data)
-    solutions = {record.level: Solution(record.letters.decode())
-                 for record in answers.read(solved).records}
-    return written.content_of(data, found, solutions).entries
+    solutions, others = ({record.level: Solution(record.letters.decode())
+                          for record in answers.read(text).records}
+                         for text in (solved, answers.text([*collection.others.values()])))
+    return written.content_of(data, found, solutions, others).entries
 
 
 def differences_of(content: written.Content, text: bytes) -> Iterator[str]:
     """Yields what of a collection an exported text would not give back, in words."""
-    found, at = read_back(text), 0
+    best = BOTH if any(entry.other for entry in content.entries) else ""
+    found, at = read_back(text, best), 0
     for number, entry in enumerate(content.entries, 1):
         near = [index for index in range(at, min(len(found), at + NEAR))
                 if found[index].rows == entry.rows]
@@ -110,7 +117,7 @@ def differences_of(content: written.Content, text: bytes) -> Iterator[str]:
         back, at = found[near[0]], near[0] + 1
         if entry.title.split() != back.title.split():
             yield f"level {number}: its title is not the same when it is read again"
-        if entry.letters != back.letters:
+        if {entry.letters, entry.other} != {back.letters, back.other}:
             yield f"level {number}: its solution is not the same when it is read again"
     if len(found) > len(content.entries):
         yield f"there are {texts.count(len(found), 'level')} when it is read again"

@@ -9,7 +9,7 @@ import re
 from typing import Dict, List, NamedTuple, Optional, Sequence, Tuple
 
 from .. import answers, boards, carrying, game, levels, texts
-from ..collection import Attempt, Collection, another, cost
+from ..collection import Attempt, Collection, another, best_of
 from . import headings
 from .entries import DRESS, Entry, entries, key_of, names
 
@@ -251,6 +251,8 @@ class Lists:
         texts_of = {record.level: b"".join(line + b"\n" for line in record.above + record.raw)
                     for record in records}
         own = {record.level: record.letters for record in records}
+        others = {record.level: record.letters for record in answers.read(
+            answers.text(self.collection.others.values()), rising=False).records}
         for target in self._targets:
             several = self._found.get(target[:2], [])
             if target.part != part:
@@ -259,8 +261,8 @@ class Lists:
                 texts_of.setdefault(target.number, self._certificates[target[:2]])
             if not several:
                 continue
-            before = [Found("", 0, self.collection.attempt_on(target.board, own[it].decode()), [])
-                      for it in [target.number] if it in own]
+            before = [Found("", 0, self.collection.attempt_on(target.board, it.decode()), [])
+                      for it in [own.get(target.number), others.get(target.number)] if it]
             kept = self._best(target.number, [it for it in before if not it.attempt.why] + several)
             self.collection.solutions += not before
             if kept.line:
@@ -269,9 +271,12 @@ class Lists:
 
     def _best(self, number: int, several: Sequence[Found]) -> Found:
         """Returns the best solution, or the first one, with a report of the others."""
-        best = self.collection.best
-        if best:
-            return min(several, key=lambda it: cost(it.attempt, best))
+        if self.collection.best:
+            kept, other = best_of(several, self.collection.best)
+            self.collection.others.pop(number, None)
+            if other:
+                self.collection.others[number] = _record(number, other)
+            return kept  # type: ignore[no-any-return]
         seen = {several[0].attempt.letters}
         for it in several[1:]:
             if it.attempt.letters not in seen:

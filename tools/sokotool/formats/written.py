@@ -33,12 +33,20 @@ class Solution(NamedTuple):
 
 class Entry(NamedTuple):
     """A level with its title, its rows with spaces for floor, the lines of text below it, and the
-    letters of its solution, or none."""
+    letters of its solution, or none; and those of another one with fewer pushes, or none."""
 
     title: str
     rows: List[str]
     text: List[str]
     letters: str
+    other: str
+
+    def solutions(self) -> List[Tuple[str, str]]:
+        """Returns the solutions with their headings."""
+        if not self.other:
+            return [("Solution", self.letters)] if self.letters else []
+        both = ("Solution/Moves", self.letters), ("Solution/Pushes", self.other)
+        return [(head, solved) for head, solved in both if solved]
 
 
 class Content(NamedTuple):
@@ -48,9 +56,10 @@ class Content(NamedTuple):
     entries: List[Entry]
 
 
-def content_of(data: bytes, found: Sequence[levels.Level], solutions: Dict[int, Solution]
-               ) -> Content:
-    """Returns what is in the levels `found` of a text, with solutions by the numbers of levels.
+def content_of(data: bytes, found: Sequence[levels.Level], solutions: Dict[int, Solution],
+               others: Dict[int, Solution]) -> Content:
+    """Returns what is in the levels `found` of a text, with solutions by the numbers of levels, and
+    others with fewer pushes.
 
     Lines with titles are left out of the texts, since each level has its title, and comments on a
     solution become text of its level.
@@ -65,9 +74,11 @@ def content_of(data: bytes, found: Sequence[levels.Level], solutions: Dict[int, 
     entries = []
     for level, text in zip(found, gaps[1:]):
         solved, notes = solutions.get(level.number, Solution(""))
+        other, more = others.get(level.number, Solution(""))
         known = {*text}
         entries.append(Entry(level.title, [plain(row) for row in level.rows], [
-            note for note in map(_noted, notes) if note not in known] + text, solved))
+            note for note in map(_noted, [*notes, *more]) if note not in known] + text, solved,
+            other))
     return Content(gaps[0], entries)
 
 
@@ -123,8 +134,8 @@ def _sok(content: Content, drawn: Callable[[Entry], List[str]]) -> Iterator[str]
             yield "Title: " + entry.title
         keys = _keys(entry.text)
         yield from entry.text[:keys]
-        if entry.letters:
-            yield from ["", "Solution", *_cut(entry.letters)]
+        for head, solved in entry.solutions():
+            yield from ["", head, *_cut(solved)]
         if entry.text[keys:]:
             yield from ["", *entry.text[keys:]]
 
@@ -158,8 +169,8 @@ def xsb(content: Content) -> Iterator[str]:
         yield from ["", *(["; " + entry.title] if entry.title and is_read else []), *entry.rows]
         if entry.title and not is_read:
             yield "Title: " + entry.title
-        if entry.letters:
-            yield from ["; Solution", *("; " + line for line in _cut(entry.letters))]
+        for head, solved in entry.solutions():
+            yield from ["; " + head, *("; " + line for line in _cut(solved))]
         if entry.text:
             yield from ["", *map(_comment, entry.text)]
 
@@ -185,8 +196,8 @@ def slc(content: Content) -> Iterator[str]:
         yield (f'    <Level Id={quoteattr(_clean(entry.title))} Width="{size[0]}" '
                f'Height="{size[1]}"{by}>')
         yield from (f"      <L>{escape(row)}</L>" for row in entry.rows)
-        if entry.letters:
-            yield f"      <Solution>{entry.letters}</Solution>"
+        for _, solved in entry.solutions():
+            yield f"      <Solution>{solved}</Solution>"
         yield from map(_remark, filter(None, text))
         yield "    </Level>"
     yield "  </LevelCollection>"
