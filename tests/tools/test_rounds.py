@@ -1,6 +1,5 @@
 """The rounds of a search: their order, what is left for the next run, and when results come."""
 import os
-import signal
 import subprocess
 import sys
 import time
@@ -115,7 +114,7 @@ class Killed(Case):
                 if os.path.exists("mine.report") and b"1 missing" in self.read("mine.report"):
                     break
             time.sleep(1.5)
-            os.kill(run.pid, signal.SIGKILL)
+            run.kill()
         self.assertIn(b"level 2 solved", self.read("mine.report"))
         self.assertIn(b"level 2\nsolution\n", self.read("mine.answers"))
         self.assertEqual(self.read("mine.memory").count(b'"find"'), 2)

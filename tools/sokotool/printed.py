@@ -9,7 +9,8 @@ from .levels import Level
 # how many texts of letters are replayed, and how many letters in all
 MOST_TRIED, MOST_LETTERS = 10_000, 4_000_000
 _COLOURS = re.compile(rb"\x1b\[[0-9;]*[A-Za-z]")
-_CERTIFIES = re.compile(rb"(pattern|zone) \d+,\d+( .*)?")
+# a line of a certificate, or one that begins or ends its body
+_CERTIFIES = re.compile(rb"(?m)^[ \t]*((?:pattern|zone) \d+,\d+[^\r\n]*|unsolvable|end)[ \t\r]*$")
 
 
 def solution_in(level: Level, parts: Sequence[bytes]) -> Tuple[Optional[bytes], List[str]]:
@@ -55,10 +56,11 @@ def certificates_in(parts: Sequence[bytes]) -> Iterator[List[bytes]]:
     one; other lines between its lines don't count."""
     for part in parts:
         body: List[bytes] = []
-        for line in [*_COLOURS.sub(b"", part).splitlines(), b"end"]:
-            line = line.strip()
-            if _CERTIFIES.fullmatch(line):
-                body.append(line)
-            elif body and line in (b"unsolvable", b"end"):
+        for found in _CERTIFIES.finditer(_COLOURS.sub(b"", part)):
+            if found[1] not in (b"unsolvable", b"end"):
+                body.append(found[1].rstrip())
+            elif body:
                 yield body
                 body = []
+        if body:
+            yield body
