@@ -287,6 +287,7 @@ class Time(Check):
         self.assertEqual(kept.due(forms, "find", 10), [*forms[4:], forms[1], forms[0]])
         self.assertEqual(kept.due(forms, "find", 11), [*forms[4:], forms[1], forms[0], forms[3]])
         self.assertEqual(kept.due(forms, "other", 1), forms)
+        kept.keep(forms[0], "find", "late", 2)
         self.assertEqual(outcomes.Outcomes(kept.kept).of(forms[0], "find"), ("late", 9))
 
     def test_name_that_cannot_be_written_is_noticed_first(self):

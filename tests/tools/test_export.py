@@ -2,11 +2,13 @@
 import glob
 import os
 import random
+import re
 import unittest
 from typing import Dict, List, NamedTuple, Tuple
 from xml.dom import minidom
 
 from sokotool import answers, game, levels
+from sokotool.commands import export
 from sokotool.formats import written
 from tests.tools.helping import ONE, SAMPLES, Case
 
@@ -189,6 +191,18 @@ class Export(Case):
         self.assertEqual((result.status, result.err.splitlines()), (1, [
             "export: level 2 is not the same when it is read again",
             "export: 3 levels, 0 solutions"]))
+
+    def test_a_title_or_solution_that_would_not_come_back(self):
+        data = f"{ONE}Title: First\n".encode()
+        content = written.content_of(data, levels.read(data), {1: export.Solution("R")})
+        for form in written.FORMS:
+            text = "".join(line + "\n" for line in written.FORMS[form](content))
+            for old, new, wanted in (("First", "Last", ["title"]), ("R", "Rl", ["solution"]),
+                                     ("R", "R", [])):
+                changed = re.sub(rf"\b{old}\b", new, text).encode()
+                self.assertEqual(
+                    [f"level 1: its {it} is not the same when it is read again" for it in wanted],
+                    list(export.differences_of(content, changed)), (form, old))
 
     def test_files(self):
         self.assertEqual(self.tool("export", "mine", "--to", "sok").err,

@@ -6,7 +6,7 @@ import signal
 import sys
 import time
 import unittest.mock
-from typing import List
+from typing import Callable, List
 
 from sokotool import levels, solvers, texts
 from sokotool.search import refute
@@ -195,6 +195,28 @@ print("rRR" if "$ ." in text else "rR")
         self.assertTrue(all(it.seconds < 20 for it in runs.rest()))
         self.assertEqual([(it.what, it.record) for it in runs.rest()],
                          [(solvers.SOLVED, RECORD), (solvers.LATE, b""), (solvers.LATE, b"")])
+
+    @unittest.skipIf(LACKING, "the system ends no process with the one that started it")
+    def test_a_solver_ends_with_its_parent(self):
+        name = os.path.abspath("pid")
+        child = os.fork()
+        if not child:
+            try:
+                self.solved(f"open({name!r}, 'w').write(str(os.getpid()))\ntime.sleep(99)\n")
+            finally:
+                os._exit(1)
+        self.assertTrue(comes(lambda: os.path.exists(name) and self.read(name)))
+        os.kill(child, signal.SIGKILL)
+        os.waitpid(child, 0)
+        self.assertTrue(comes(lambda: not is_alive(int(self.read(name)))))
+
+
+def comes(is_so: Callable[[], object]) -> bool:
+    """Whether something becomes so within 20 seconds."""
+    end = time.monotonic() + 20
+    while not is_so() and time.monotonic() < end:
+        time.sleep(.05)
+    return bool(is_so())
 
 
 def is_alive(pid: int) -> bool:
