@@ -9,14 +9,15 @@ ghost use Rattle.closure.specs.Closed.{Closed};
 ghost use Rattle.patterns.specs.{Arena.lines_in, Arena.list_in, Run.state_after, Run.AllLead};
 ghost use Rattle.patterns.specs.{Run.IsFirstAstray, Groups.boxes_of, Groups.list_of, Sides.cells_in};
 ghost use Rattle.closure.specs.FirstFault.{IsFirstPatternFault};
-ghost use Rattle.patterns.specs.Tables.{AreTables};
+ghost use Rattle.patterns.specs.Tables.{AreFilled, AreTables};
 
 use crate::fault::CheckFault;
 use crate::region::Finder;
 use board::Board;
 use cellset::{Cell, CellSet, Dir, MembersOf, Shape};
 use patterns::{
-    Arena, PushScratch, Tables, are_in, find_trap, is_any_covering, note_found, note_hinted,
+    Arena, FilledTables, PushScratch, Tables, are_in, find_trap, is_any_covering, note_found,
+    note_hinted,
 };
 use reach::{Push, Pushes, Rows};
 use std::alloc::{AllocError, Global};
@@ -39,27 +40,42 @@ pub(crate) fn check_lawful<S: CellSet>(
     if are_trapped && trap.meets(board.boxes()) {
         return Ok(());
     }
-    let mut tables = Tables::build(alloc, board, arena, trap)?;
-    let checked = check_tables(alloc, &mut tables);
-    drop(tables);
-    checked
+    let tables = Tables::build(alloc, board, arena, trap)?;
+    check_tables(alloc, tables)
 }
 
 // Checks a list by its tables. Most lists need no lookup, since the trap and hints cover all.
-fn check_tables<S: CellSet>(alloc: Global, tables: &mut Tables<S>) -> Result<(), CheckFault>
-    requires tables { AreTables tables.old }
-    ensures ok { OnOk result (Closed tables.old.board.now (list_of tables.old.groups)) }
+fn check_tables<S: CellSet>(alloc: Global, tables: Tables<S>) -> Result<(), CheckFault>
+    requires tables { AreTables tables }
+    ensures ok { OnOk result (Closed tables.entry.board.now (list_of tables.entry.groups)) }
     ensures exact { IfErr result (λ fault. fault ≢ CheckFault.Memory
-        → IsFirstPatternFault tables.old.board.now (lines_in tables.old.groups.arena) fault) }
+        → IsFirstPatternFault tables.entry.board.now (lines_in tables.entry.groups.arena) fault) }
 {
     let mut covered = vec![in alloc; false; tables.groups.spans.len()]?;
-    note_hinted(tables, &mut covered);
-    if is_start_found(tables) && are_all(&covered) {
+    note_hinted(&tables, &mut covered);
+    if is_start_found(&tables) && are_all(&covered) {
         return Ok(());
     }
-    tables.fill(alloc)?;
-    let mut scratch = PushScratch::new(alloc, tables)?;
-    let checked = check_covering(alloc, tables, &mut covered, &mut scratch);
+    let filled = tables.fill(alloc)?;
+    let checked = check_filled(alloc, &filled, &mut covered);
+    drop(filled);
+    checked
+}
+
+// Checks a list by lookups, for the groups that aren't noted as covered.
+fn check_filled<S: CellSet>(
+    alloc: Global,
+    filled: &FilledTables<S>,
+    covered: &mut Vec<bool>,
+) -> Result<(), CheckFault>
+    requires filled { AreFilled filled.now }
+    requires covered { AreNoted filled.now.tables.board.now filled.now.tables.groups covered.old.items }
+    ensures ok { OnOk result (Closed filled.now.tables.board.now (list_of filled.now.tables.groups)) }
+    ensures exact { IfErr result (λ fault. fault ≢ CheckFault.Memory
+        → IsFirstPatternFault filled.now.tables.board.now (lines_in filled.now.tables.groups.arena) fault) }
+{
+    let mut scratch = PushScratch::new(alloc, filled)?;
+    let checked = check_covering(alloc, filled, covered, &mut scratch);
     drop(scratch);
     checked
 }
@@ -97,23 +113,23 @@ fn are_all(covered: &[bool]) -> bool
 // Checks that the list covers the start, and what each push out of its patterns leads to if their group isn't noted as covered.
 fn check_covering<S: CellSet>(
     alloc: Global,
-    tables: &Tables<S>,
+    filled: &FilledTables<S>,
     covered: &mut Vec<bool>,
     scratch: &mut PushScratch<S>,
 ) -> Result<(), CheckFault>
-    requires covered { AreNoted tables.now.board.now tables.now.groups covered.old.items }
-    requires ready { IsReady S.extent tables.now scratch.old }
-    ensures ok { OnOk result (Closed tables.now.board.now (list_of tables.now.groups)) }
+    requires covered { AreNoted filled.now.tables.board.now filled.now.tables.groups covered.old.items }
+    requires ready { IsReady S.extent filled.now scratch.old }
+    ensures ok { OnOk result (Closed filled.now.tables.board.now (list_of filled.now.tables.groups)) }
     ensures exact { IfErr result (λ fault. fault ≢ CheckFault.Memory
-        → IsFirstPatternFault tables.now.board.now (lines_in tables.now.groups.arena) fault) }
+        → IsFirstPatternFault filled.now.tables.board.now (lines_in filled.now.tables.groups.arena) fault) }
 {
-    let board = tables.board;
-    if !is_any_covering(tables, board.player(), board.boxes(), &mut scratch.lookup) {
+    let board = filled.tables.board;
+    if !is_any_covering(filled, board.player(), board.boxes(), &mut scratch.lookup) {
         return Err(CheckFault::Start);
     }
-    note_found(tables, scratch, covered);
+    note_found(filled, scratch, covered);
     let mut trial = Trial::new(alloc, board.shape())?;
-    let checked = check_pushes(tables, covered, scratch, &mut trial);
+    let checked = check_pushes(filled, covered, scratch, &mut trial);
     drop(trial);
     checked
 }
@@ -141,30 +157,30 @@ impl<S: CellSet> Model for Trial<S> {
 
 // Returns the first push out of a pattern whose result isn't covered as an error.
 fn check_pushes<S: CellSet>(
-    tables: &Tables<S>,
+    filled: &FilledTables<S>,
     covered: &[bool],
     scratch: &mut PushScratch<S>,
     trial: &mut Trial<S>,
 ) -> Result<(), CheckFault>
-    requires start { IsCovered tables.now.board.now (list_of tables.now.groups) (start tables.now.board.now) }
-    requires ready { IsReady S.extent tables.now scratch.old }
-    requires trial { trial.old ≡ tables.now.board.now.shape }
-    requires covered { AreNoted tables.now.board.now tables.now.groups covered.now }
-    ensures ok { OnOk result ((pattern : PatternSet) → Contains (list_of tables.now.groups) pattern
-        → CoversPushesOf tables.now.board.now (list_of tables.now.groups) pattern) }
+    requires start { IsCovered filled.now.tables.board.now (list_of filled.now.tables.groups) (start filled.now.tables.board.now) }
+    requires ready { IsReady S.extent filled.now scratch.old }
+    requires trial { trial.old ≡ filled.now.tables.board.now.shape }
+    requires covered { AreNoted filled.now.tables.board.now filled.now.tables.groups covered.now }
+    ensures ok { OnOk result ((pattern : PatternSet) → Contains (list_of filled.now.tables.groups) pattern
+        → CoversPushesOf filled.now.tables.board.now (list_of filled.now.tables.groups) pattern) }
     ensures exact { IfErr result (λ fault. fault ≢ CheckFault.Memory
-        → IsFirstPatternFault tables.now.board.now (lines_in tables.now.groups.arena) fault) }
+        → IsFirstPatternFault filled.now.tables.board.now (lines_in filled.now.tables.groups.arena) fault) }
 {
-    let mut loaded = tables.groups.spans.len();
-    for line in 0..tables.groups.arena.lines.len() {
-        let group = tables.groups.of[line] as usize;
+    let mut loaded = filled.tables.groups.spans.len();
+    for line in 0..filled.tables.groups.arena.lines.len() {
+        let group = filled.tables.groups.of[line] as usize;
         if covered[group] {
             continue;
         }
-        load_group(tables, group, &mut loaded, scratch);
-        if let Some(push) = trial.first_push(tables, line, scratch) {
+        load_group(filled, group, &mut loaded, scratch);
+        if let Some(push) = trial.first_push(filled, line, scratch) {
             return Err(CheckFault::Push {
-                line: tables.groups.arena.lines[line].number,
+                line: filled.tables.groups.arena.lines[line].number,
                 player: push.player,
                 dir: push.dir,
             });
@@ -175,20 +191,20 @@ fn check_pushes<S: CellSet>(
 
 // Loads the boxes of a group, unless they are loaded.
 fn load_group<S: CellSet>(
-    tables: &Tables<S>,
+    filled: &FilledTables<S>,
     group: usize,
     loaded: &mut usize,
     scratch: &mut PushScratch<S>,
 )
-    requires group { group < length tables.now.groups.spans.items }
-    requires ready { IsReady S.extent tables.now scratch.old }
-    requires loaded { loaded.old < length tables.now.groups.spans.items → IsLoaded S.members tables.now (cells_in (boxes_of tables.now.groups loaded.old)) scratch.old }
-    ensures ready { IsReady S.extent tables.now scratch.new }
+    requires group { group < length filled.now.tables.groups.spans.items }
+    requires ready { IsReady S.extent filled.now scratch.old }
+    requires loaded { loaded.old < length filled.now.tables.groups.spans.items → IsLoaded S.members filled.now (cells_in (boxes_of filled.now.tables.groups loaded.old)) scratch.old }
+    ensures ready { IsReady S.extent filled.now scratch.new }
     ensures same { loaded.new ≡ group }
-    ensures loaded { IsLoaded S.members tables.now (cells_in (boxes_of tables.now.groups group)) scratch.new }
+    ensures loaded { IsLoaded S.members filled.now (cells_in (boxes_of filled.now.tables.groups group)) scratch.new }
 {
     if *loaded != group {
-        scratch.load(tables, tables.groups.boxes(group));
+        scratch.load(filled, filled.tables.groups.boxes(group));
         *loaded = group;
     }
 }
@@ -216,26 +232,30 @@ impl<S: CellSet> Trial<S> {
     // Returns the first push out of the pattern of a line whose result isn't covered.
     fn first_push(
         &mut self,
-        tables: &Tables<S>,
+        filled: &FilledTables<S>,
         line: usize,
         scratch: &mut PushScratch<S>,
     ) -> Option<Push>
-        requires shape { self.old ≡ tables.now.board.now.shape }
-        requires line { line < length tables.now.groups.arena.lines.items }
-        requires ready { IsReady S.extent tables.now scratch.old }
-        requires loaded { IsLoaded S.members tables.now (cells_in (boxes_at tables.now.groups.arena line)) scratch.old }
-        ensures shape { self.new ≡ tables.now.board.now.shape }
-        ensures ready { IsReady S.extent tables.now scratch.new }
-        ensures loaded { IsLoaded S.members tables.now (cells_in (boxes_at tables.now.groups.arena line)) scratch.new }
+        requires shape { self.old ≡ filled.now.tables.board.now.shape }
+        requires line { line < length filled.now.tables.groups.arena.lines.items }
+        requires ready { IsReady S.extent filled.now scratch.old }
+        requires loaded { IsLoaded S.members filled.now (cells_in (boxes_at filled.now.tables.groups.arena line)) scratch.old }
+        ensures shape { self.new ≡ filled.now.tables.board.now.shape }
+        ensures ready { IsReady S.extent filled.now scratch.new }
+        ensures loaded { IsLoaded S.members filled.now (cells_in (boxes_at filled.now.tables.groups.arena line)) scratch.new }
         ensures exact { MatchOption result
-            (CoversPushesOf tables.now.board.now (list_of tables.now.groups) (pattern_at (list_of tables.now.groups) line))
-            (IsFirstUncovered tables.now.board.now (list_of tables.now.groups) (pattern_at (list_of tables.now.groups) line)) }
+            (CoversPushesOf filled.now.tables.board.now (list_of filled.now.tables.groups) (pattern_at (list_of filled.now.tables.groups) line))
+            (IsFirstUncovered filled.now.tables.board.now (list_of filled.now.tables.groups) (pattern_at (list_of filled.now.tables.groups) line)) }
     {
-        let pattern = tables.groups.arena.pattern(line);
-        self.finder
-            .find(tables.board, pattern, &mut self.boxes, &mut self.region);
+        let pattern = filled.tables.groups.arena.pattern(line);
+        self.finder.find(
+            filled.tables.board,
+            pattern,
+            &mut self.boxes,
+            &mut self.region,
+        );
         find_players(&self.boxes, &self.region, &mut self.players);
-        first_uncovered(tables, pattern.boxes, &self.boxes, &self.players, scratch)
+        first_uncovered(filled, pattern.boxes, &self.boxes, &self.players, scratch)
     }
 }
 
@@ -276,29 +296,29 @@ fn add_player<S: CellSet>(region: &S, from: Cell, dir: Dir, players: &mut S)
 
 // Returns the first push of the boxes out of the region whose result isn't covered. The boxes are loaded, and given as a set too.
 fn first_uncovered<S: CellSet>(
-    tables: &Tables<S>,
+    filled: &FilledTables<S>,
     loaded: &[Cell],
     boxes: &S,
     region: &S,
     scratch: &mut PushScratch<S>,
 ) -> Option<Push>
-    requires boxes { S.extent boxes.now ≡ tables.now.board.now.shape }
-    requires region { S.extent region.now ≡ tables.now.board.now.shape }
+    requires boxes { S.extent boxes.now ≡ filled.now.tables.board.now.shape }
+    requires region { S.extent region.now ≡ filled.now.tables.board.now.shape }
     requires same { S.members boxes.now ≡ cells_in loaded.now }
-    requires floor { (c : GridCell) → Has (cells_in loaded.now) c → IsFloor tables.now.board.now c }
-    requires room { (c : GridCell) → Has (S.members region.now) c → Has tables.now.board.now.room c }
-    requires ready { IsReady S.extent tables.now scratch.old }
-    requires loaded { IsLoaded S.members tables.now (cells_in loaded.now) scratch.old }
-    ensures ready { IsReady S.extent tables.now scratch.new }
-    ensures loaded { IsLoaded S.members tables.now (cells_in loaded.now) scratch.new }
+    requires floor { (c : GridCell) → Has (cells_in loaded.now) c → IsFloor filled.now.tables.board.now c }
+    requires room { (c : GridCell) → Has (S.members region.now) c → Has filled.now.tables.board.now.room c }
+    requires ready { IsReady S.extent filled.now scratch.old }
+    requires loaded { IsLoaded S.members filled.now (cells_in loaded.now) scratch.old }
+    ensures ready { IsReady S.extent filled.now scratch.new }
+    ensures loaded { IsLoaded S.members filled.now (cells_in loaded.now) scratch.new }
     ensures exact { MatchOption result
-        (AllLead tables.now.board.now.shape tables.now.board.now.walls (cells_in loaded.now)
-        (Has (S.members region.now)) (IsCovered tables.now.board.now (list_of tables.now.groups)))
-        (IsFirstAstray tables.now.board.now.shape tables.now.board.now.walls (cells_in loaded.now)
-        (Has (S.members region.now)) (IsCovered tables.now.board.now (list_of tables.now.groups))) }
+        (AllLead filled.now.tables.board.now.shape filled.now.tables.board.now.walls (cells_in loaded.now)
+        (Has (S.members region.now)) (IsCovered filled.now.tables.board.now (list_of filled.now.tables.groups)))
+        (IsFirstAstray filled.now.tables.board.now.shape filled.now.tables.board.now.walls (cells_in loaded.now)
+        (Has (S.members region.now)) (IsCovered filled.now.tables.board.now (list_of filled.now.tables.groups))) }
 {
-    for push in Pushes::new(boxes.shape(), tables.board.walls(), boxes, region) {
-        if !scratch.covers(tables, loaded, push) {
+    for push in Pushes::new(boxes.shape(), filled.tables.board.walls(), boxes, region) {
+        if !scratch.covers(filled, loaded, push) {
             return Some(push);
         }
     }

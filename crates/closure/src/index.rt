@@ -8,7 +8,7 @@ use crate::coverage::Coverage;
 use answers::Pattern;
 use board::Board;
 use cellset::{Cell, CellSet};
-use patterns::{Scratch, Tables, arena_of, is_any_covering};
+use patterns::{FilledTables, Scratch, Tables, arena_of, is_any_covering};
 use reach::Rows;
 use std::alloc::{AllocError, Global};
 use std::marker::Model;
@@ -16,7 +16,7 @@ use std::marker::Model;
 /// A list of patterns, with the tables for quick lookups.
 #[derive(Drop)]
 pub struct Index<'a, S: CellSet> {
-    tables: Tables<'a, S>,
+    filled: FilledTables<'a, S>,
     scratch: Scratch,
 }
 
@@ -29,9 +29,9 @@ impl<'a, S: CellSet> Model for Index<'a, S> {
 
     ghost coded = { coded_listed };
 
-    ghost view = { λ index. record { level = index.tables.board.now; lines = lines_in index.tables.groups.arena } };
+    ghost view = { λ index. record { level = index.filled.tables.board.now; lines = lines_in index.filled.tables.groups.arena } };
 
-    ghost invariant = { λ index. AreFilled index.tables × IsRoomy index.tables index.scratch };
+    ghost invariant = { λ index. AreFilled index.filled × IsRoomy index.filled index.scratch };
 }
 
 impl<'a, S: CellSet> Index<'a, S> {
@@ -50,10 +50,10 @@ impl<'a, S: CellSet> Index<'a, S> {
     {
         let arena = arena_of(alloc, board.shape(), patterns)?;
         let trap = Rows::new(alloc, board.shape())?;
-        let mut tables = Tables::build(alloc, board, arena, trap)?;
-        tables.fill(alloc)?;
-        let scratch = Scratch::new(alloc, &tables)?;
-        Ok(Index { tables, scratch })
+        let tables = Tables::build(alloc, board, arena, trap)?;
+        let filled = tables.fill(alloc)?;
+        let scratch = Scratch::new(alloc, &filled)?;
+        Ok(Index { filled, scratch })
     }
 }
 
@@ -65,6 +65,6 @@ impl<S: CellSet> Coverage<S> for Index<'_, S> {
     ghost covered = { λ index s. IsListedCovered index s };
 
     fn covers(&mut self, player: Cell, boxes: &S) -> bool {
-        is_any_covering(&self.tables, player, boxes, &mut self.scratch)
+        is_any_covering(&self.filled, player, boxes, &mut self.scratch)
     }
 }

@@ -6,7 +6,7 @@ use Rattle.reach.specs.declared.pushes.Push.{Push}
 use Rattle.board.specs.Game.{Level, IsFloor}
 use Rattle.patterns.specs.Pattern.{Pattern, InPatternRegion, IsCovered, PushesOut, after_push, CoversPushesOf}
 use Rattle.patterns.specs.{Sides.IsAround, Sides.cell_no, declared.pushes.PushedBox.PushedBox, declared.push_lookups.PushScratch.PushScratch}
-use Rattle.patterns.specs.{declared.tables.Tables.Tables, declared.groups.Groups.Groups, Groups.boxes_of, Groups.list_of, Groups.position_at}
+use Rattle.patterns.specs.{declared.tables.FilledTables.FilledTables, declared.groups.Groups.Groups, Groups.boxes_of, Groups.list_of, Groups.position_at}
 use Rattle.patterns.specs.{Piece.IsPiece, Piece.IsPieceSpace, Tables.AreFilled, Tables.IsRoomy}
 
 -- a push has just moved a box by one step in its direction
@@ -60,13 +60,13 @@ pub record IsPushedBox (level : Level) (groups : Groups) (pushed : PushedBox) : 
   pub sides : IsAround (InPatternRegion level (position_at level groups pushed.group)) (pushed_cell pushed) pushed.sides
 
 -- the tables are filled for lookups, and the memory is for them
-pub record IsReady {S : Type 0} (extent : S → Extent) (tables : Tables S) (scratch : PushScratch S) : Type 0 where
-  pub filled : AreFilled tables
-  pub roomy : IsRoomy tables scratch.lookup
-  pub state : extent scratch.state ≡ tables.board.now.shape
-  pub piece : IsPieceSpace extent tables scratch.piece
+pub record IsReady {S : Type 0} (extent : S → Extent) (full : FilledTables S) (scratch : PushScratch S) : Type 0 where
+  pub filled : AreFilled full
+  pub roomy : IsRoomy full scratch.lookup
+  pub state : extent scratch.state ≡ full.tables.board.now.shape
+  pub piece : IsPieceSpace extent full scratch.piece
 
 -- the memory is for pushes of these boxes
-pub record IsLoaded {S : Type 0} (members : S → Cells) (tables : Tables S) (boxes : Cells) (scratch : PushScratch S) : Type 0 where
+pub record IsLoaded {S : Type 0} (members : S → Cells) (filled : FilledTables S) (boxes : Cells) (scratch : PushScratch S) : Type 0 where
   pub state : members scratch.state ≡ boxes
-  pub piece : IsPiece members tables boxes scratch.piece
+  pub piece : IsPiece members filled boxes scratch.piece

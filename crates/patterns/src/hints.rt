@@ -25,7 +25,7 @@ impl Slot {
 
 const FREE: Slot = Slot { mark: 0, group: 0 };
 
-// Twice as many slots as patterns.
+// Twice as many slots as lines.
 #[derive(Drop)]
 pub(crate) struct Hints {
     slots: Vec<Slot>,
@@ -74,9 +74,9 @@ fn mark_of(hash: usize) -> u16 {
 }
 
 impl Hints {
-    // Returns an empty table for this number of patterns.
-    pub(crate) fn new(alloc: Global, groups: usize) -> Result<Hints, AllocError> {
-        let slots = vec![in alloc; FREE; groups.saturating_mul(2)]?;
+    // Returns an empty table for this number of lines.
+    pub(crate) fn new(alloc: Global, lines: usize) -> Result<Hints, AllocError> {
+        let slots = vec![in alloc; FREE; lines.saturating_mul(2)]?;
         Ok(Hints { slots })
     }
 

@@ -12,7 +12,7 @@
 //!   `sides`). That makes the tables (`tables`).
 //! - **Pushes by hints** (`pushes`): if a push leads to the trap, it is covered. Otherwise a hash finds the group of just the boxes after the
 //!   push, and one side of the pushed box decides.
-//! - **Lookups** (`lookup`) need more tables. A breadth-first search builds a spanning tree of the room (`tree`), and each group goes into the
+//! - **Lookups** (`lookup`) need filled tables. A breadth-first search builds a spanning tree of the room (`tree`), and each group goes into the
 //!   bucket of one of its boxes, the one that the fewest lines have. A lookup goes through the buckets of the state's boxes.
 //! - **Pushes by lookups** (`push_lookups`): the group that covered the last state is asked first. Then one look through the groups finds
 //!   which boxes can be pushed by all players of one piece of the room less the boxes (`piece`). The groups whose boxes are among the state's
@@ -56,6 +56,6 @@ pub use push_lookups::{PushScratch, note_found};
 pub use pushes::note_hinted;
 pub use sides::Sides;
 pub use subsets::Subsets;
-pub use tables::{Buckets, Tables};
+pub use tables::{Buckets, FilledTables, Tables};
 pub use trap::find_trap;
 pub use tree::{Hit, Node, Tree};

@@ -11,7 +11,7 @@ ghost use Rattle.patterns.specs.{Groups.boxes_of, Groups.list_of, Groups.positio
 ghost use Rattle.patterns.specs.Tables.{AreFilled, GroupCovers, IsReadyFor, IsRoomy};
 
 use crate::cells::{are_in, is_among, number_of};
-use crate::tables::Tables;
+use crate::tables::FilledTables;
 use crate::tree::{Hit, index_of};
 use cellset::{Cell, CellSet, MembersOf};
 use reach::Push;
@@ -36,10 +36,10 @@ pub struct Scratch {
 
 impl Scratch {
     /// Returns scratch memory with capacity for the hits of any path.
-    pub fn new<S: CellSet>(alloc: Global, tables: &Tables<S>) -> Result<Scratch, AllocError>
-        ensures { IfOk result (IsRoomy tables.now) }
+    pub fn new<S: CellSet>(alloc: Global, filled: &FilledTables<S>) -> Result<Scratch, AllocError>
+        ensures { IfOk result (IsRoomy filled.now) }
     {
-        let hits = Vec::with_capacity(alloc, tables.tree.nodes.len())?;
+        let hits = Vec::with_capacity(alloc, filled.tree.nodes.len())?;
         Ok(Scratch {
             hits,
             walked: false,
@@ -49,88 +49,88 @@ impl Scratch {
 }
 
 // Returns whether the player is in the region of a group. `hits` has the boxes on the player's path to the root.
-fn is_inside<S: CellSet>(tables: &Tables<S>, group: usize, player: Cell, hits: &[Hit]) -> bool
-    requires tables { AreFilled tables.now }
-    requires group { group < length tables.now.groups.spans.items }
-    requires outside { Lacks (cells_in (boxes_of tables.now.groups group)) player }
-    requires hits { AreHits tables.now.board.now (cells_in (boxes_of tables.now.groups group)) player tables.now.board.now.player hits.now }
-    ensures { IsTrue result ↔ InPatternRegion tables.now.board.now (position_at tables.now.board.now tables.now.groups group) player }
+fn is_inside<S: CellSet>(filled: &FilledTables<S>, group: usize, player: Cell, hits: &[Hit]) -> bool
+    requires filled { AreFilled filled.now }
+    requires group { group < length filled.now.tables.groups.spans.items }
+    requires outside { Lacks (cells_in (boxes_of filled.now.tables.groups group)) player }
+    requires hits { AreHits filled.now.tables.board.now (cells_in (boxes_of filled.now.tables.groups group)) player filled.now.tables.board.now.player hits.now }
+    ensures { IsTrue result ↔ InPatternRegion filled.now.tables.board.now (position_at filled.now.tables.board.now filled.now.tables.groups group) player }
 {
-    let boxes = tables.groups.boxes(group);
+    let boxes = filled.tables.groups.boxes(group);
     for found in hits {
         if let Some(number) = number_of(boxes, found.cell) {
-            return tables.sides_of(group, number).has(found.side);
+            return filled.tables.sides_of(group, number).has(found.side);
         }
     }
-    tables.has_root(group)
+    filled.tables.has_root(group)
 }
 
 // Returns whether a group covers the state. Its boxes come first, since they decide most often and cost least.
 fn is_covering<S: CellSet>(
-    tables: &Tables<S>,
+    filled: &FilledTables<S>,
     group: usize,
     query: &Query<S>,
     scratch: &mut Scratch,
 ) -> bool
-    requires tables { AreFilled tables.now }
-    requires group { group < length tables.now.groups.spans.items }
-    requires player { Has tables.now.board.now.room query.now.player }
-    requires extent { S.extent query.now.boxes.now ≡ tables.now.board.now.shape }
-    requires scratch { IsReadyFor tables.now (S.members query.now.boxes.now) query.now.player scratch.old }
-    ensures scratch { IsReadyFor tables.now (S.members query.now.boxes.now) query.now.player scratch.new }
-    ensures exact { IsTrue result ↔ Covers tables.now.board.now (position_at tables.now.board.now tables.now.groups group) (record { player = query.now.player; boxes = S.members query.now.boxes.now }) }
+    requires filled { AreFilled filled.now }
+    requires group { group < length filled.now.tables.groups.spans.items }
+    requires player { Has filled.now.tables.board.now.room query.now.player }
+    requires extent { S.extent query.now.boxes.now ≡ filled.now.tables.board.now.shape }
+    requires scratch { IsReadyFor filled.now (S.members query.now.boxes.now) query.now.player scratch.old }
+    ensures scratch { IsReadyFor filled.now (S.members query.now.boxes.now) query.now.player scratch.new }
+    ensures exact { IsTrue result ↔ Covers filled.now.tables.board.now (position_at filled.now.tables.board.now filled.now.tables.groups group) (record { player = query.now.player; boxes = S.members query.now.boxes.now }) }
 {
-    are_in(tables.groups.boxes(group), query.boxes)
-        && is_subset_covering(tables, group, query, scratch)
+    are_in(filled.tables.groups.boxes(group), query.boxes)
+        && is_subset_covering(filled, group, query, scratch)
 }
 
 // Returns whether a group covers the state, which has its boxes.
 pub(crate) fn is_subset_covering<S: CellSet>(
-    tables: &Tables<S>,
+    filled: &FilledTables<S>,
     group: usize,
     query: &Query<S>,
     scratch: &mut Scratch,
 ) -> bool
-    requires tables { AreFilled tables.now }
-    requires group { IsSubset tables.now.groups (S.members query.now.boxes.now) group }
-    requires player { Has tables.now.board.now.room query.now.player }
-    requires extent { S.extent query.now.boxes.now ≡ tables.now.board.now.shape }
-    requires scratch { IsReadyFor tables.now (S.members query.now.boxes.now) query.now.player scratch.old }
-    ensures scratch { IsReadyFor tables.now (S.members query.now.boxes.now) query.now.player scratch.new }
-    ensures exact { IsTrue result ↔ Covers tables.now.board.now (position_at tables.now.board.now tables.now.groups group) (record { player = query.now.player; boxes = S.members query.now.boxes.now }) }
+    requires filled { AreFilled filled.now }
+    requires group { IsSubset filled.now.tables.groups (S.members query.now.boxes.now) group }
+    requires player { Has filled.now.tables.board.now.room query.now.player }
+    requires extent { S.extent query.now.boxes.now ≡ filled.now.tables.board.now.shape }
+    requires scratch { IsReadyFor filled.now (S.members query.now.boxes.now) query.now.player scratch.old }
+    ensures scratch { IsReadyFor filled.now (S.members query.now.boxes.now) query.now.player scratch.new }
+    ensures exact { IsTrue result ↔ Covers filled.now.tables.board.now (position_at filled.now.tables.board.now filled.now.tables.groups group) (record { player = query.now.player; boxes = S.members query.now.boxes.now }) }
 {
     // For the proof: the board is well formed.
-    let _shape = tables.board.shape();
-    if is_among(tables.groups.boxes(group), query.boxes, query.player) {
+    let _shape = filled.tables.board.shape();
+    if is_among(filled.tables.groups.boxes(group), query.boxes, query.player) {
         return false;
     }
-    if tables.is_whole(group) {
+    if filled.tables.is_whole(group) {
         return true;
     }
-    walk_to_root(tables, query, scratch);
-    is_inside(tables, group, query.player, &scratch.hits)
+    walk_to_root(filled, query, scratch);
+    is_inside(filled, group, query.player, &scratch.hits)
 }
 
 // Walks the player's path to the root and lists the boxes on it in order, unless it was walked. Allocates nothing.
-fn walk_to_root<S: CellSet>(tables: &Tables<S>, query: &Query<S>, scratch: &mut Scratch)
-    requires tables { AreFilled tables.now }
-    requires player { Has tables.now.board.now.room query.now.player }
-    requires extent { S.extent query.now.boxes.now ≡ tables.now.board.now.shape }
-    requires scratch { IsReadyFor tables.now (S.members query.now.boxes.now) query.now.player scratch.old }
-    ensures scratch { IsReadyFor tables.now (S.members query.now.boxes.now) query.now.player scratch.new }
+fn walk_to_root<S: CellSet>(filled: &FilledTables<S>, query: &Query<S>, scratch: &mut Scratch)
+    requires filled { AreFilled filled.now }
+    requires player { Has filled.now.tables.board.now.room query.now.player }
+    requires extent { S.extent query.now.boxes.now ≡ filled.now.tables.board.now.shape }
+    requires scratch { IsReadyFor filled.now (S.members query.now.boxes.now) query.now.player scratch.old }
+    ensures scratch { IsReadyFor filled.now (S.members query.now.boxes.now) query.now.player scratch.new }
     ensures walked { IsTrue scratch.new.walked }
 {
     if scratch.walked {
         return;
     }
     // For the proof: the board is well formed.
-    let _shape = tables.board.shape();
+    let _shape = filled.tables.board.shape();
     scratch.hits.clear();
-    let mut at = tables.tree.numbers[index_of(query.player)];
+    let mut at = filled.tree.numbers[index_of(query.player)];
     while at > 0 {
-        let node = tables.tree.nodes[at];
+        let node = filled.tree.nodes[at];
         at = node.parent;
-        let cell = tables.tree.nodes[at].cell;
+        let cell = filled.tree.nodes[at].cell;
         if query.boxes.contains(cell) {
             scratch.hits.push_reserved(Hit {
                 cell,
@@ -144,30 +144,30 @@ fn walk_to_root<S: CellSet>(tables: &Tables<S>, query: &Query<S>, scratch: &mut 
 /// Returns whether some group covers the state. Allocates nothing.
 #[tactic(auto, using(crate::proofs::Lists::length_more))]
 pub fn is_any_covering<S: CellSet>(
-    tables: &Tables<S>,
+    filled: &FilledTables<S>,
     player: Cell,
     boxes: &S,
     scratch: &mut Scratch,
 ) -> bool
-    requires tables { AreFilled tables.now }
-    requires player { IsOn tables.now.board.now.shape player }
-    requires boxes { S.extent boxes.now ≡ tables.now.board.now.shape }
-    requires roomy { IsRoomy tables.now scratch.old }
-    ensures roomy { IsRoomy tables.now scratch.new }
-    ensures exact { IsTrue result ↔ IsCovered tables.now.board.now (list_of tables.now.groups)
+    requires filled { AreFilled filled.now }
+    requires player { IsOn filled.now.tables.board.now.shape player }
+    requires boxes { S.extent boxes.now ≡ filled.now.tables.board.now.shape }
+    requires roomy { IsRoomy filled.now scratch.old }
+    ensures roomy { IsRoomy filled.now scratch.new }
+    ensures exact { IsTrue result ↔ IsCovered filled.now.tables.board.now (list_of filled.now.tables.groups)
         (record { player = player; boxes = S.members boxes.now }) }
 {
     // For the proof: the board is well formed.
-    let _shape = tables.board.shape();
-    if !tables.board.room().contains(player) {
+    let _shape = filled.tables.board.shape();
+    if !filled.tables.board.room().contains(player) {
         return false;
     }
     let query = Query { player, boxes };
     scratch.walked = false;
-    if is_last_covering(tables, &query, scratch) {
+    if is_last_covering(filled, &query, scratch) {
         return true;
     }
-    match find_covering(tables, &query, scratch) {
+    match find_covering(filled, &query, scratch) {
         Some(group) => {
             scratch.last = group;
             true
@@ -179,25 +179,25 @@ pub fn is_any_covering<S: CellSet>(
 // Returns whether the result of the push is covered. The boxes stay as they are.
 pub(crate) fn is_covered_after<S: CellSet>(
     push: Push,
-    tables: &Tables<S>,
+    filled: &FilledTables<S>,
     lookup: &mut Scratch,
     boxes: &mut S,
 ) -> bool
-    requires tables { AreFilled tables.now }
-    requires lookup { IsRoomy tables.now lookup.old }
-    requires boxes { S.extent boxes.old ≡ tables.now.board.now.shape }
-    requires from_on { IsOn tables.now.board.now.shape push.from }
-    requires to_on { IsOn tables.now.board.now.shape push.to }
+    requires filled { AreFilled filled.now }
+    requires lookup { IsRoomy filled.now lookup.old }
+    requires boxes { S.extent boxes.old ≡ filled.now.tables.board.now.shape }
+    requires from_on { IsOn filled.now.tables.board.now.shape push.from }
+    requires to_on { IsOn filled.now.tables.board.now.shape push.to }
     requires from_box { Has (S.members boxes.old) push.from }
     requires to_free { Lacks (S.members boxes.old) push.to }
-    ensures extent { S.extent boxes.new ≡ tables.now.board.now.shape }
+    ensures extent { S.extent boxes.new ≡ filled.now.tables.board.now.shape }
     ensures same { S.members boxes.new ≡ S.members boxes.old }
-    ensures lookup { IsRoomy tables.now lookup.new }
-    ensures covered { IsTrue result ↔ IsCovered tables.now.board.now (list_of tables.now.groups) (state_after (S.members boxes.old) push) }
+    ensures lookup { IsRoomy filled.now lookup.new }
+    ensures covered { IsTrue result ↔ IsCovered filled.now.tables.board.now (list_of filled.now.tables.groups) (state_after (S.members boxes.old) push) }
 {
     boxes.remove(push.from);
     boxes.insert(push.to);
-    let covered = is_any_covering(tables, push.from, boxes, lookup);
+    let covered = is_any_covering(filled, push.from, boxes, lookup);
     boxes.remove(push.to);
     boxes.insert(push.from);
     covered
@@ -206,18 +206,18 @@ pub(crate) fn is_covered_after<S: CellSet>(
 // Returns true only if the group that covered the last state covers the result of the push. The state stays as it is.
 pub(crate) fn is_last_after<S: CellSet>(
     push: Push,
-    tables: &Tables<S>,
+    filled: &FilledTables<S>,
     lookup: &mut Scratch,
     state: &mut S,
 ) -> bool
-    requires tables { AreFilled tables.now }
-    requires lookup { IsRoomy tables.now lookup.old }
-    requires extent { S.extent state.old ≡ tables.now.board.now.shape }
-    requires push { IsPushOf tables.now.board.now (S.members state.old) push }
-    ensures extent { S.extent state.new ≡ tables.now.board.now.shape }
+    requires filled { AreFilled filled.now }
+    requires lookup { IsRoomy filled.now lookup.old }
+    requires extent { S.extent state.old ≡ filled.now.tables.board.now.shape }
+    requires push { IsPushOf filled.now.tables.board.now (S.members state.old) push }
+    ensures extent { S.extent state.new ≡ filled.now.tables.board.now.shape }
     ensures same { S.members state.new ≡ S.members state.old }
-    ensures lookup { IsRoomy tables.now lookup.new }
-    ensures covered { IsTrue result → IsCovered tables.now.board.now (list_of tables.now.groups) (state_after (S.members state.old) push) }
+    ensures lookup { IsRoomy filled.now lookup.new }
+    ensures covered { IsTrue result → IsCovered filled.now.tables.board.now (list_of filled.now.tables.groups) (state_after (S.members state.old) push) }
 {
     state.remove(push.from);
     state.insert(push.to);
@@ -226,45 +226,49 @@ pub(crate) fn is_last_after<S: CellSet>(
         player: push.from,
         boxes: state,
     };
-    let covered = is_last_covering(tables, &query, lookup);
+    let covered = is_last_covering(filled, &query, lookup);
     state.remove(push.to);
     state.insert(push.from);
     covered
 }
 
 // Returns whether the group that covered the last state covers this one.
-fn is_last_covering<S: CellSet>(tables: &Tables<S>, query: &Query<S>, scratch: &mut Scratch) -> bool
-    requires tables { AreFilled tables.now }
-    requires player { Has tables.now.board.now.room query.now.player }
-    requires extent { S.extent query.now.boxes.now ≡ tables.now.board.now.shape }
-    requires scratch { IsReadyFor tables.now (S.members query.now.boxes.now) query.now.player scratch.old }
-    ensures scratch { IsReadyFor tables.now (S.members query.now.boxes.now) query.now.player scratch.new }
-    ensures covered { IsTrue result → IsCovered tables.now.board.now (list_of tables.now.groups) (record { player = query.now.player; boxes = S.members query.now.boxes.now }) }
+fn is_last_covering<S: CellSet>(
+    filled: &FilledTables<S>,
+    query: &Query<S>,
+    scratch: &mut Scratch,
+) -> bool
+    requires filled { AreFilled filled.now }
+    requires player { Has filled.now.tables.board.now.room query.now.player }
+    requires extent { S.extent query.now.boxes.now ≡ filled.now.tables.board.now.shape }
+    requires scratch { IsReadyFor filled.now (S.members query.now.boxes.now) query.now.player scratch.old }
+    ensures scratch { IsReadyFor filled.now (S.members query.now.boxes.now) query.now.player scratch.new }
+    ensures covered { IsTrue result → IsCovered filled.now.tables.board.now (list_of filled.now.tables.groups) (record { player = query.now.player; boxes = S.members query.now.boxes.now }) }
 {
     let last = scratch.last;
-    if last >= tables.groups.spans.len() {
+    if last >= filled.tables.groups.spans.len() {
         return false;
     }
-    is_covering(tables, last, query, scratch)
+    is_covering(filled, last, query, scratch)
 }
 
 // Returns a group that covers the state.
 fn find_covering<S: CellSet>(
-    tables: &Tables<S>,
+    filled: &FilledTables<S>,
     query: &Query<S>,
     scratch: &mut Scratch,
 ) -> Option<usize>
-    requires tables { AreFilled tables.now }
-    requires player { Has tables.now.board.now.room query.now.player }
-    requires extent { S.extent query.now.boxes.now ≡ tables.now.board.now.shape }
-    requires scratch { IsReadyFor tables.now (S.members query.now.boxes.now) query.now.player scratch.old }
-    ensures scratch { IsReadyFor tables.now (S.members query.now.boxes.now) query.now.player scratch.new }
+    requires filled { AreFilled filled.now }
+    requires player { Has filled.now.tables.board.now.room query.now.player }
+    requires extent { S.extent query.now.boxes.now ≡ filled.now.tables.board.now.shape }
+    requires scratch { IsReadyFor filled.now (S.members query.now.boxes.now) query.now.player scratch.old }
+    ensures scratch { IsReadyFor filled.now (S.members query.now.boxes.now) query.now.player scratch.new }
     ensures found { MatchOption result
-        ((g : ℕ) → GroupCovers tables.now.board.now tables.now.groups g (record { player = query.now.player; boxes = S.members query.now.boxes.now }) → ⊥)
-        (λ g. GroupCovers tables.now.board.now tables.now.groups g (record { player = query.now.player; boxes = S.members query.now.boxes.now })) }
+        ((g : ℕ) → GroupCovers filled.now.tables.board.now filled.now.tables.groups g (record { player = query.now.player; boxes = S.members query.now.boxes.now }) → ⊥)
+        (λ g. GroupCovers filled.now.tables.board.now filled.now.tables.groups g (record { player = query.now.player; boxes = S.members query.now.boxes.now })) }
 {
     for cell in MembersOf::new(query.boxes) {
-        if let Some(group) = find_in_bucket(tables, cell, query, scratch) {
+        if let Some(group) = find_in_bucket(filled, cell, query, scratch) {
             return Some(group);
         }
     }
@@ -274,28 +278,28 @@ fn find_covering<S: CellSet>(
 // Returns a group of the cell's bucket that covers the state.
 #[tactic(auto, using(crate::proofs::Lists::length_more))]
 fn find_in_bucket<S: CellSet>(
-    tables: &Tables<S>,
+    filled: &FilledTables<S>,
     cell: Cell,
     query: &Query<S>,
     scratch: &mut Scratch,
 ) -> Option<usize>
-    requires tables { AreFilled tables.now }
-    requires cell { IsOn tables.now.board.now.shape cell }
-    requires player { Has tables.now.board.now.room query.now.player }
-    requires extent { S.extent query.now.boxes.now ≡ tables.now.board.now.shape }
-    requires scratch { IsReadyFor tables.now (S.members query.now.boxes.now) query.now.player scratch.old }
-    ensures scratch { IsReadyFor tables.now (S.members query.now.boxes.now) query.now.player scratch.new }
+    requires filled { AreFilled filled.now }
+    requires cell { IsOn filled.now.tables.board.now.shape cell }
+    requires player { Has filled.now.tables.board.now.room query.now.player }
+    requires extent { S.extent query.now.boxes.now ≡ filled.now.tables.board.now.shape }
+    requires scratch { IsReadyFor filled.now (S.members query.now.boxes.now) query.now.player scratch.old }
+    ensures scratch { IsReadyFor filled.now (S.members query.now.boxes.now) query.now.player scratch.new }
     ensures found { MatchOption result
-        ((g : ℕ) → slice_index tables.now.buckets.keys.items g ≡ index_of cell → GroupCovers tables.now.board.now tables.now.groups g (record { player = query.now.player; boxes = S.members query.now.boxes.now }) → ⊥)
-        (λ g. GroupCovers tables.now.board.now tables.now.groups g (record { player = query.now.player; boxes = S.members query.now.boxes.now })) }
+        ((g : ℕ) → slice_index filled.now.buckets.keys.items g ≡ index_of cell → GroupCovers filled.now.tables.board.now filled.now.tables.groups g (record { player = query.now.player; boxes = S.members query.now.boxes.now }) → ⊥)
+        (λ g. GroupCovers filled.now.tables.board.now filled.now.tables.groups g (record { player = query.now.player; boxes = S.members query.now.boxes.now })) }
 {
-    let mut at = tables.buckets.chains.first[index_of(cell)] as usize;
+    let mut at = filled.buckets.chains.first[index_of(cell)] as usize;
     while at > 0 {
         let group = at - 1;
-        if is_covering(tables, group, query, scratch) {
+        if is_covering(filled, group, query, scratch) {
             return Some(group);
         }
-        at = tables.buckets.chains.next[group] as usize;
+        at = filled.buckets.chains.next[group] as usize;
     }
     None
 }

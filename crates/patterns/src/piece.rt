@@ -15,7 +15,7 @@ ghost use Rattle.patterns.specs.Tables.{AreFilled};
 use crate::cells::{is_same, number_of};
 use crate::lookup::{Query, Scratch, is_subset_covering};
 use crate::subsets::Subsets;
-use crate::tables::Tables;
+use crate::tables::FilledTables;
 use cellset::{Cell, CellSet};
 use reach::{Flooder, Push};
 use std::alloc::{AllocError, Global};
@@ -36,18 +36,18 @@ pub struct Piece<S: CellSet> {
 
 impl<S: CellSet> Piece<S> {
     // Returns a piece without cells.
-    pub(crate) fn new(alloc: Global, tables: &Tables<S>) -> Result<Piece<S>, AllocError>
-        ensures { IfOk result (IsPieceSpace S.extent tables.now) }
+    pub(crate) fn new(alloc: Global, filled: &FilledTables<S>) -> Result<Piece<S>, AllocError>
+        ensures { IfOk result (IsPieceSpace S.extent filled.now) }
     {
-        let shape = tables.board.shape();
+        let shape = filled.tables.board.shape();
         let cells = S::new(alloc, shape)?;
         let loose = S::new(alloc, shape)?;
         let seeds = S::new(alloc, shape)?;
-        let lookup = Scratch::new(alloc, tables)?;
-        let subsets = Subsets::new(alloc, tables)?;
+        let lookup = Scratch::new(alloc, filled)?;
+        let subsets = Subsets::new(alloc, filled)?;
         let flooder = Flooder::new(alloc, shape)?;
         Ok(Piece {
-            player: tables.board.player(),
+            player: filled.tables.board.player(),
             cells,
             flooded: true,
             loose,
@@ -60,15 +60,15 @@ impl<S: CellSet> Piece<S> {
 
     // Makes it the piece of a player, for the boxes of the subsets. Only the player's cell is known then, and no flood finds more if
     // `flooded` is true.
-    pub(crate) fn begin(&mut self, tables: &Tables<S>, player: Cell, flooded: bool)
-        requires space { IsPieceSpace S.extent tables.now self.old }
-        requires player { Has tables.now.board.now.room player }
-        ensures space { IsPieceSpace S.extent tables.now self.new }
-        ensures piece { (boxes : Cells) → AreSubsets tables.now.groups boxes self.old.subsets → IsPiece S.members tables.now boxes self.new }
+    pub(crate) fn begin(&mut self, filled: &FilledTables<S>, player: Cell, flooded: bool)
+        requires space { IsPieceSpace S.extent filled.now self.old }
+        requires player { Has filled.now.tables.board.now.room player }
+        ensures space { IsPieceSpace S.extent filled.now self.new }
+        ensures piece { (boxes : Cells) → AreSubsets filled.now.tables.groups boxes self.old.subsets → IsPiece S.members filled.now boxes self.new }
         ensures found { Has (S.members self.new.cells) player }
     {
         // For the proof: the board is well formed.
-        let _shape = tables.board.shape();
+        let _shape = filled.tables.board.shape();
         self.player = player;
         self.cells.clear();
         self.cells.insert(player);
@@ -81,39 +81,39 @@ impl<S: CellSet> Piece<S> {
     // Returns true only if a group covers the result of a push of these boxes. The groups that it asks lack the pushed box.
     pub(crate) fn covers(
         &mut self,
-        tables: &Tables<S>,
+        filled: &FilledTables<S>,
         boxes: &[Cell],
         state: &S,
         push: Push,
     ) -> bool
-        requires tables { AreFilled tables.now }
-        requires space { IsPieceSpace S.extent tables.now self.old }
-        requires extent { S.extent state.now ≡ tables.now.board.now.shape }
-        requires boxes { (c : GridCell) → Has (cells_in boxes.now) c → IsOn tables.now.board.now.shape c }
-        requires piece { IsPiece S.members tables.now (S.members state.now) self.old }
-        requires push { IsPushOf tables.now.board.now (S.members state.now) push }
-        ensures space { IsPieceSpace S.extent tables.now self.new }
-        ensures piece { IsPiece S.members tables.now (S.members state.now) self.new }
-        ensures covered { IsTrue result → IsCovered tables.now.board.now (list_of tables.now.groups) (state_after (S.members state.now) push) }
+        requires filled { AreFilled filled.now }
+        requires space { IsPieceSpace S.extent filled.now self.old }
+        requires extent { S.extent state.now ≡ filled.now.tables.board.now.shape }
+        requires boxes { (c : GridCell) → Has (cells_in boxes.now) c → IsOn filled.now.tables.board.now.shape c }
+        requires piece { IsPiece S.members filled.now (S.members state.now) self.old }
+        requires push { IsPushOf filled.now.tables.board.now (S.members state.now) push }
+        ensures space { IsPieceSpace S.extent filled.now self.new }
+        ensures piece { IsPiece S.members filled.now (S.members state.now) self.new }
+        ensures covered { IsTrue result → IsCovered filled.now.tables.board.now (list_of filled.now.tables.groups) (state_after (S.members state.now) push) }
     {
-        self.enter(tables, state, push.player);
-        self.look(tables, boxes, state, push.from);
+        self.enter(filled, state, push.player);
+        self.look(filled, boxes, state, push.from);
         self.loose.contains(push.from)
     }
 
     // Makes it the piece of a player, unless it is.
-    fn enter(&mut self, tables: &Tables<S>, state: &S, player: Cell)
-        requires tables { AreFilled tables.now }
-        requires space { IsPieceSpace S.extent tables.now self.old }
-        requires extent { S.extent state.now ≡ tables.now.board.now.shape }
-        requires piece { IsPiece S.members tables.now (S.members state.now) self.old }
-        requires player { Has tables.now.board.now.room player }
-        ensures space { IsPieceSpace S.extent tables.now self.new }
-        ensures piece { IsPiece S.members tables.now (S.members state.now) self.new }
+    fn enter(&mut self, filled: &FilledTables<S>, state: &S, player: Cell)
+        requires filled { AreFilled filled.now }
+        requires space { IsPieceSpace S.extent filled.now self.old }
+        requires extent { S.extent state.now ≡ filled.now.tables.board.now.shape }
+        requires piece { IsPiece S.members filled.now (S.members state.now) self.old }
+        requires player { Has filled.now.tables.board.now.room player }
+        ensures space { IsPieceSpace S.extent filled.now self.new }
+        ensures piece { IsPiece S.members filled.now (S.members state.now) self.new }
         ensures found { Has (S.members self.new.cells) player }
     {
         // For the proof: the board is well formed.
-        let _shape = tables.board.shape();
+        let _shape = filled.tables.board.shape();
         if self.cells.contains(player) {
             return;
         }
@@ -121,44 +121,48 @@ impl<S: CellSet> Piece<S> {
             self.flooded = true;
             self.seeds.clear();
             self.seeds.insert(self.player);
-            self.flooder
-                .flood_into(tables.board.walls(), state, &self.seeds, &mut self.cells);
+            self.flooder.flood_into(
+                filled.tables.board.walls(),
+                state,
+                &self.seeds,
+                &mut self.cells,
+            );
             if self.cells.contains(player) {
                 return;
             }
         }
-        self.begin(tables, player, false);
+        self.begin(filled, player, false);
     }
 
     // Goes on with the look until the box is loose or no group is left.
-    fn look(&mut self, tables: &Tables<S>, boxes: &[Cell], state: &S, from: Cell)
-        requires tables { AreFilled tables.now }
-        requires space { IsPieceSpace S.extent tables.now self.old }
-        requires extent { S.extent state.now ≡ tables.now.board.now.shape }
-        requires boxes { (c : GridCell) → Has (cells_in boxes.now) c → IsOn tables.now.board.now.shape c }
-        requires piece { IsPiece S.members tables.now (S.members state.now) self.old }
-        requires from { IsOn tables.now.board.now.shape from }
-        ensures space { IsPieceSpace S.extent tables.now self.new }
-        ensures piece { IsPiece S.members tables.now (S.members state.now) self.new }
+    fn look(&mut self, filled: &FilledTables<S>, boxes: &[Cell], state: &S, from: Cell)
+        requires filled { AreFilled filled.now }
+        requires space { IsPieceSpace S.extent filled.now self.old }
+        requires extent { S.extent state.now ≡ filled.now.tables.board.now.shape }
+        requires boxes { (c : GridCell) → Has (cells_in boxes.now) c → IsOn filled.now.tables.board.now.shape c }
+        requires piece { IsPiece S.members filled.now (S.members state.now) self.old }
+        requires from { IsOn filled.now.tables.board.now.shape from }
+        ensures space { IsPieceSpace S.extent filled.now self.new }
+        ensures piece { IsPiece S.members filled.now (S.members state.now) self.new }
         ensures same { self.new.cells ≡ self.old.cells }
     {
         // No more groups can follow than there are.
-        for _ in 0..tables.groups.spans.len() {
+        for _ in 0..filled.tables.groups.spans.len() {
             if self.loose.contains(from) {
                 return;
             }
-            let Some(group) = self.subsets.next(tables, boxes, state) else {
+            let Some(group) = self.subsets.next(filled, boxes, state) else {
                 return;
             };
             let query = Query {
                 player: self.player,
                 boxes: state,
             };
-            if !is_subset_covering(tables, group, &query, &mut self.lookup) {
+            if !is_subset_covering(filled, group, &query, &mut self.lookup) {
                 continue;
             }
             self.lookup.last = group;
-            loosen(boxes, tables.groups.boxes(group), &mut self.loose);
+            loosen(boxes, filled.tables.groups.boxes(group), &mut self.loose);
         }
     }
 }

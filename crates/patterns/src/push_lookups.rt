@@ -14,7 +14,7 @@ use crate::hints::{hash_of, hash_without};
 use crate::lookup::{Scratch, is_covered_after, is_last_after};
 use crate::piece::Piece;
 use crate::pushes::{PushedBox, is_hinted, push_of};
-use crate::tables::Tables;
+use crate::tables::FilledTables;
 use crate::tree::index_of;
 use cellset::{Cell, CellSet, Dir};
 use reach::Push;
@@ -30,13 +30,13 @@ pub struct PushScratch<S: CellSet> {
 
 impl<S: CellSet> PushScratch<S> {
     /// Returns memory for lookups in these tables.
-    pub fn new(alloc: Global, tables: &Tables<S>) -> Result<PushScratch<S>, AllocError>
-        requires { AreFilled tables.now }
-        ensures { IfOk result (IsReady S.extent tables.now) }
+    pub fn new(alloc: Global, filled: &FilledTables<S>) -> Result<PushScratch<S>, AllocError>
+        requires { AreFilled filled.now }
+        ensures { IfOk result (IsReady S.extent filled.now) }
     {
-        let state = S::new(alloc, tables.board.shape())?;
-        let lookup = Scratch::new(alloc, tables)?;
-        let piece = Piece::new(alloc, tables)?;
+        let state = S::new(alloc, filled.tables.board.shape())?;
+        let lookup = Scratch::new(alloc, filled)?;
+        let piece = Piece::new(alloc, filled)?;
         Ok(PushScratch {
             state,
             piece,
@@ -45,77 +45,77 @@ impl<S: CellSet> PushScratch<S> {
     }
 
     /// Takes these boxes for the ones that are pushed.
-    pub fn load(&mut self, tables: &Tables<S>, boxes: &[Cell])
-        requires boxes { (c : GridCell) → Has (cells_in boxes.now) c → IsOn tables.now.board.now.shape c }
-        requires ready { IsReady S.extent tables.now self.old }
-        ensures ready { IsReady S.extent tables.now self.new }
-        ensures loaded { IsLoaded S.members tables.now (cells_in boxes.now) self.new }
+    pub fn load(&mut self, filled: &FilledTables<S>, boxes: &[Cell])
+        requires boxes { (c : GridCell) → Has (cells_in boxes.now) c → IsOn filled.now.tables.board.now.shape c }
+        requires ready { IsReady S.extent filled.now self.old }
+        ensures ready { IsReady S.extent filled.now self.new }
+        ensures loaded { IsLoaded S.members filled.now (cells_in boxes.now) self.new }
     {
         // For the proof: the board is well formed.
-        let _shape = tables.board.shape();
+        let _shape = filled.tables.board.shape();
         load(boxes, &mut self.state);
-        self.piece.subsets.clear(tables);
-        self.piece.begin(tables, tables.board.player(), true);
+        self.piece.subsets.clear(filled);
+        self.piece.begin(filled, filled.tables.board.player(), true);
     }
 
     /// Returns whether some group covers the result of a push of these boxes.
-    pub fn covers(&mut self, tables: &Tables<S>, boxes: &[Cell], push: Push) -> bool
-        requires boxes { (c : GridCell) → Has (cells_in boxes.now) c → IsOn tables.now.board.now.shape c }
-        requires push { IsPushOf tables.now.board.now (cells_in boxes.now) push }
+    pub fn covers(&mut self, filled: &FilledTables<S>, boxes: &[Cell], push: Push) -> bool
+        requires boxes { (c : GridCell) → Has (cells_in boxes.now) c → IsOn filled.now.tables.board.now.shape c }
+        requires push { IsPushOf filled.now.tables.board.now (cells_in boxes.now) push }
         requires back { IsStepBack push }
-        requires ready { IsReady S.extent tables.now self.old }
-        requires loaded { IsLoaded S.members tables.now (cells_in boxes.now) self.old }
-        ensures ready { IsReady S.extent tables.now self.new }
-        ensures loaded { IsLoaded S.members tables.now (cells_in boxes.now) self.new }
-        ensures exact { IsTrue result ↔ IsCovered tables.now.board.now (list_of tables.now.groups) (state_after (cells_in boxes.now) push) }
+        requires ready { IsReady S.extent filled.now self.old }
+        requires loaded { IsLoaded S.members filled.now (cells_in boxes.now) self.old }
+        ensures ready { IsReady S.extent filled.now self.new }
+        ensures loaded { IsLoaded S.members filled.now (cells_in boxes.now) self.new }
+        ensures exact { IsTrue result ↔ IsCovered filled.now.tables.board.now (list_of filled.now.tables.groups) (state_after (cells_in boxes.now) push) }
     {
-        if is_last_after(push, tables, &mut self.lookup, &mut self.state) {
+        if is_last_after(push, filled, &mut self.lookup, &mut self.state) {
             return true;
         }
-        if self.piece.covers(tables, boxes, &self.state, push) {
+        if self.piece.covers(filled, boxes, &self.state, push) {
             self.lookup.last = self.piece.lookup.last;
             return true;
         }
-        is_ahead(tables, &self.state, push)
-            || is_covered_after(push, tables, &mut self.lookup, &mut self.state)
+        is_ahead(filled, &self.state, push)
+            || is_covered_after(push, filled, &mut self.lookup, &mut self.state)
     }
 }
 
 /// Notes further groups whose pushes the list covers.
 pub fn note_found<S: CellSet>(
-    tables: &Tables<S>,
+    filled: &FilledTables<S>,
     scratch: &mut PushScratch<S>,
     covered: &mut Vec<bool>,
 )
-    requires ready { IsReady S.extent tables.now scratch.old }
-    requires covered { AreNoted tables.now.board.now tables.now.groups covered.old.items }
-    ensures ready { IsReady S.extent tables.now scratch.new }
-    ensures covered { AreNoted tables.now.board.now tables.now.groups covered.new.items }
+    requires ready { IsReady S.extent filled.now scratch.old }
+    requires covered { AreNoted filled.now.tables.board.now filled.now.tables.groups covered.old.items }
+    ensures ready { IsReady S.extent filled.now scratch.new }
+    ensures covered { AreNoted filled.now.tables.board.now filled.now.tables.groups covered.new.items }
 {
-    for group in 0..tables.groups.spans.len() {
+    for group in 0..filled.tables.groups.spans.len() {
         if covered[group] {
             continue;
         }
-        covered[group] = are_pushes_found(tables, group, scratch);
+        covered[group] = are_pushes_found(filled, group, scratch);
     }
 }
 
 // Returns true only if the list covers each push out of a group.
 fn are_pushes_found<S: CellSet>(
-    tables: &Tables<S>,
+    filled: &FilledTables<S>,
     group: usize,
     scratch: &mut PushScratch<S>,
 ) -> bool
-    requires group { group < length tables.now.groups.spans.items }
-    requires ready { IsReady S.extent tables.now scratch.old }
-    ensures ready { IsReady S.extent tables.now scratch.new }
-    ensures covered { IsTrue result → CoversPushesOf tables.now.board.now (list_of tables.now.groups) (position_at tables.now.board.now tables.now.groups group) }
+    requires group { group < length filled.now.tables.groups.spans.items }
+    requires ready { IsReady S.extent filled.now scratch.old }
+    ensures ready { IsReady S.extent filled.now scratch.new }
+    ensures covered { IsTrue result → CoversPushesOf filled.now.tables.board.now (list_of filled.now.tables.groups) (position_at filled.now.tables.board.now filled.now.tables.groups group) }
 {
-    let boxes = tables.groups.boxes(group);
-    scratch.load(tables, boxes);
+    let boxes = filled.tables.groups.boxes(group);
+    scratch.load(filled, boxes);
     let hash = hash_of(boxes);
     for number in 0..boxes.len() {
-        let sides = tables.sides_of(group, number);
+        let sides = filled.tables.sides_of(group, number);
         let pushed = PushedBox {
             group,
             boxes,
@@ -123,7 +123,7 @@ fn are_pushes_found<S: CellSet>(
             number,
             sides,
         };
-        if !is_found_each_way(tables, &pushed, scratch) {
+        if !is_found_each_way(filled, &pushed, scratch) {
             return false;
         }
     }
@@ -132,74 +132,77 @@ fn are_pushes_found<S: CellSet>(
 
 // Returns true only if the list covers each push of a box out of its group.
 fn is_found_each_way<S: CellSet>(
-    tables: &Tables<S>,
+    filled: &FilledTables<S>,
     pushed: &PushedBox,
     scratch: &mut PushScratch<S>,
 ) -> bool
-    requires pushed { IsPushedBox tables.now.board.now tables.now.groups pushed.now }
-    requires ready { IsReady S.extent tables.now scratch.old }
-    requires loaded { IsLoaded S.members tables.now (cells_in pushed.now.boxes.now) scratch.old }
-    ensures ready { IsReady S.extent tables.now scratch.new }
-    ensures loaded { IsLoaded S.members tables.now (cells_in pushed.now.boxes.now) scratch.new }
-    ensures covered { IsTrue result → CoversFrom tables.now.board.now (list_of tables.now.groups) (position_at tables.now.board.now tables.now.groups pushed.now.group) (pushed_cell pushed.now) }
+    requires pushed { IsPushedBox filled.now.tables.board.now filled.now.tables.groups pushed.now }
+    requires ready { IsReady S.extent filled.now scratch.old }
+    requires loaded { IsLoaded S.members filled.now (cells_in pushed.now.boxes.now) scratch.old }
+    ensures ready { IsReady S.extent filled.now scratch.new }
+    ensures loaded { IsLoaded S.members filled.now (cells_in pushed.now.boxes.now) scratch.new }
+    ensures covered { IsTrue result → CoversFrom filled.now.tables.board.now (list_of filled.now.tables.groups) (position_at filled.now.tables.board.now filled.now.tables.groups pushed.now.group) (pushed_cell pushed.now) }
 {
-    is_found_toward(tables, pushed, Dir::L, scratch)
-        && is_found_toward(tables, pushed, Dir::U, scratch)
-        && is_found_toward(tables, pushed, Dir::R, scratch)
-        && is_found_toward(tables, pushed, Dir::D, scratch)
+    is_found_toward(filled, pushed, Dir::L, scratch)
+        && is_found_toward(filled, pushed, Dir::U, scratch)
+        && is_found_toward(filled, pushed, Dir::R, scratch)
+        && is_found_toward(filled, pushed, Dir::D, scratch)
 }
 
 // Returns true only if the list covers the push of a box in a direction, or the push doesn't go out of its group.
 fn is_found_toward<S: CellSet>(
-    tables: &Tables<S>,
+    filled: &FilledTables<S>,
     pushed: &PushedBox,
     dir: Dir,
     scratch: &mut PushScratch<S>,
 ) -> bool
-    requires pushed { IsPushedBox tables.now.board.now tables.now.groups pushed.now }
-    requires ready { IsReady S.extent tables.now scratch.old }
-    requires loaded { IsLoaded S.members tables.now (cells_in pushed.now.boxes.now) scratch.old }
-    ensures ready { IsReady S.extent tables.now scratch.new }
-    ensures loaded { IsLoaded S.members tables.now (cells_in pushed.now.boxes.now) scratch.new }
-    ensures covered { IsTrue result → CoversToward tables.now.board.now (list_of tables.now.groups) (position_at tables.now.board.now tables.now.groups pushed.now.group) (pushed_cell pushed.now) dir }
+    requires pushed { IsPushedBox filled.now.tables.board.now filled.now.tables.groups pushed.now }
+    requires ready { IsReady S.extent filled.now scratch.old }
+    requires loaded { IsLoaded S.members filled.now (cells_in pushed.now.boxes.now) scratch.old }
+    ensures ready { IsReady S.extent filled.now scratch.new }
+    ensures loaded { IsLoaded S.members filled.now (cells_in pushed.now.boxes.now) scratch.new }
+    ensures covered { IsTrue result → CoversToward filled.now.tables.board.now (list_of filled.now.tables.groups) (position_at filled.now.tables.board.now filled.now.tables.groups pushed.now.group) (pushed_cell pushed.now) dir }
 {
-    let Some(push) = push_of(tables, pushed, dir) else {
+    let Some(push) = push_of(&filled.tables, pushed, dir) else {
         return true;
     };
-    is_hinted(tables, pushed, push) || scratch.covers(tables, pushed.boxes, push)
+    is_hinted(&filled.tables, pushed, push) || scratch.covers(filled, pushed.boxes, push)
 }
 
 // Returns true only if a group in the bucket of the cell ahead covers the result of a push.
-fn is_ahead<S: CellSet>(tables: &Tables<S>, state: &S, push: Push) -> bool
-    requires tables { AreFilled tables.now }
-    requires extent { S.extent state.now ≡ tables.now.board.now.shape }
-    requires to_on { IsOn tables.now.board.now.shape push.to }
+fn is_ahead<S: CellSet>(filled: &FilledTables<S>, state: &S, push: Push) -> bool
+    requires filled { AreFilled filled.now }
+    requires extent { S.extent state.now ≡ filled.now.tables.board.now.shape }
+    requires to_on { IsOn filled.now.tables.board.now.shape push.to }
     requires back { IsStepBack push }
-    ensures { IsTrue result → IsCovered tables.now.board.now (list_of tables.now.groups) (state_after (S.members state.now) push) }
+    ensures { IsTrue result → IsCovered filled.now.tables.board.now (list_of filled.now.tables.groups) (state_after (S.members state.now) push) }
 {
-    let mut at = tables.buckets.chains.first[index_of(push.to)] as usize;
+    let mut at = filled.buckets.chains.first[index_of(push.to)] as usize;
     while at > 0 {
         let group = at - 1;
-        if covers_ahead(tables, group, state, push) {
+        if covers_ahead(filled, group, state, push) {
             return true;
         }
-        at = tables.buckets.chains.next[group] as usize;
+        at = filled.buckets.chains.next[group] as usize;
     }
     false
 }
 
 // Returns true only if a group with a box on the cell ahead covers the result of a push.
-fn covers_ahead<S: CellSet>(tables: &Tables<S>, group: usize, state: &S, push: Push) -> bool
-    requires tables { AreFilled tables.now }
-    requires group { group < length tables.now.groups.spans.items }
-    requires extent { S.extent state.now ≡ tables.now.board.now.shape }
+fn covers_ahead<S: CellSet>(filled: &FilledTables<S>, group: usize, state: &S, push: Push) -> bool
+    requires filled { AreFilled filled.now }
+    requires group { group < length filled.now.tables.groups.spans.items }
+    requires extent { S.extent state.now ≡ filled.now.tables.board.now.shape }
     requires back { IsStepBack push }
-    ensures { IsTrue result → IsCovered tables.now.board.now (list_of tables.now.groups) (state_after (S.members state.now) push) }
+    ensures { IsTrue result → IsCovered filled.now.tables.board.now (list_of filled.now.tables.groups) (state_after (S.members state.now) push) }
 {
-    let Some(number) = number_ahead(tables.groups.boxes(group), state, push) else {
+    let Some(number) = number_ahead(filled.tables.groups.boxes(group), state, push) else {
         return false;
     };
-    tables.sides_of(group, number).has(push.dir.opposite())
+    filled
+        .tables
+        .sides_of(group, number)
+        .has(push.dir.opposite())
 }
 
 // Returns the number of the pushed box among `after`, if the others are boxes that stay.

@@ -9,7 +9,7 @@ ghost use Rattle.cellset.specs.{Cell.IsOn, CellSet.Cells, CellSet.Has, declared.
 ghost use Rattle.patterns.specs.{Sides.cells_in, Subsets.AreSubsets, Subsets.IsSubset, Tables.AreFilled};
 
 use crate::cells::are_in;
-use crate::tables::Tables;
+use crate::tables::FilledTables;
 use crate::tree::index_of;
 use cellset::{Cell, CellSet};
 use std::alloc::{AllocError, Global};
@@ -28,9 +28,9 @@ impl Subsets {
     // Returns subsets of no boxes, with capacity for all groups.
     pub(crate) fn new<S: CellSet>(
         alloc: Global,
-        tables: &Tables<S>,
+        filled: &FilledTables<S>,
     ) -> Result<Subsets, AllocError> {
-        let found = Vec::with_capacity(alloc, tables.groups.spans.len())?;
+        let found = Vec::with_capacity(alloc, filled.tables.groups.spans.len())?;
         Ok(Subsets {
             found,
             given: 0,
@@ -40,8 +40,8 @@ impl Subsets {
     }
 
     // Begins a search among other boxes.
-    pub(crate) fn clear<S: CellSet>(&mut self, tables: &Tables<S>)
-        ensures { (boxes : Cells) → AreSubsets tables.now.groups boxes self.new }
+    pub(crate) fn clear<S: CellSet>(&mut self, filled: &FilledTables<S>)
+        ensures { (boxes : Cells) → AreSubsets filled.now.tables.groups boxes self.new }
     {
         self.found.clear();
         self.begun = 0;
@@ -59,23 +59,23 @@ impl Subsets {
     // Returns the next group whose boxes are among these boxes, and fewer. `state` has these boxes too.
     pub(crate) fn next<S: CellSet>(
         &mut self,
-        tables: &Tables<S>,
+        filled: &FilledTables<S>,
         boxes: &[Cell],
         state: &S,
     ) -> Option<usize>
-        requires tables { AreFilled tables.now }
-        requires extent { S.extent state.now ≡ tables.now.board.now.shape }
-        requires boxes { (c : GridCell) → Has (cells_in boxes.now) c → IsOn tables.now.board.now.shape c }
-        requires subsets { AreSubsets tables.now.groups (S.members state.now) self.old }
-        ensures subsets { AreSubsets tables.now.groups (S.members state.now) self.new }
-        ensures found { IfSome result (IsSubset tables.now.groups (S.members state.now)) }
+        requires filled { AreFilled filled.now }
+        requires extent { S.extent state.now ≡ filled.now.tables.board.now.shape }
+        requires boxes { (c : GridCell) → Has (cells_in boxes.now) c → IsOn filled.now.tables.board.now.shape c }
+        requires subsets { AreSubsets filled.now.tables.groups (S.members state.now) self.old }
+        ensures subsets { AreSubsets filled.now.tables.groups (S.members state.now) self.new }
+        ensures found { IfSome result (IsSubset filled.now.tables.groups (S.members state.now)) }
     {
         if self.given < self.found.len() {
             let group = self.found[self.given];
             self.given += 1;
             return Some(group);
         }
-        let group = self.search(tables, boxes, state)?;
+        let group = self.search(filled, boxes, state)?;
         // There is room for all groups, and the search finds none twice. The test spares the proof of that.
         if self.found.len() < self.found.capacity() {
             self.found.push_reserved(group);
@@ -85,21 +85,26 @@ impl Subsets {
     }
 
     // Goes on with the search.
-    fn search<S: CellSet>(&mut self, tables: &Tables<S>, boxes: &[Cell], state: &S) -> Option<usize>
-        requires tables { AreFilled tables.now }
-        requires extent { S.extent state.now ≡ tables.now.board.now.shape }
-        requires boxes { (c : GridCell) → Has (cells_in boxes.now) c → IsOn tables.now.board.now.shape c }
-        requires subsets { AreSubsets tables.now.groups (S.members state.now) self.old }
-        ensures subsets { AreSubsets tables.now.groups (S.members state.now) self.new }
-        ensures found { IfSome result (IsSubset tables.now.groups (S.members state.now)) }
+    fn search<S: CellSet>(
+        &mut self,
+        filled: &FilledTables<S>,
+        boxes: &[Cell],
+        state: &S,
+    ) -> Option<usize>
+        requires filled { AreFilled filled.now }
+        requires extent { S.extent state.now ≡ filled.now.tables.board.now.shape }
+        requires boxes { (c : GridCell) → Has (cells_in boxes.now) c → IsOn filled.now.tables.board.now.shape c }
+        requires subsets { AreSubsets filled.now.tables.groups (S.members state.now) self.old }
+        ensures subsets { AreSubsets filled.now.tables.groups (S.members state.now) self.new }
+        ensures found { IfSome result (IsSubset filled.now.tables.groups (S.members state.now)) }
     {
-        if let Some(group) = self.search_bucket(tables, boxes, state) {
+        if let Some(group) = self.search_bucket(filled, boxes, state) {
             return Some(group);
         }
         while self.begun < boxes.len() {
-            self.link = tables.buckets.chains.first[index_of(boxes[self.begun])] as usize;
+            self.link = filled.buckets.chains.first[index_of(boxes[self.begun])] as usize;
             self.begun += 1;
-            if let Some(group) = self.search_bucket(tables, boxes, state) {
+            if let Some(group) = self.search_bucket(filled, boxes, state) {
                 return Some(group);
             }
         }
@@ -109,21 +114,21 @@ impl Subsets {
     // Goes on with the search in the present bucket.
     fn search_bucket<S: CellSet>(
         &mut self,
-        tables: &Tables<S>,
+        filled: &FilledTables<S>,
         boxes: &[Cell],
         state: &S,
     ) -> Option<usize>
-        requires tables { AreFilled tables.now }
-        requires extent { S.extent state.now ≡ tables.now.board.now.shape }
-        requires subsets { AreSubsets tables.now.groups (S.members state.now) self.old }
-        ensures subsets { AreSubsets tables.now.groups (S.members state.now) self.new }
+        requires filled { AreFilled filled.now }
+        requires extent { S.extent state.now ≡ filled.now.tables.board.now.shape }
+        requires subsets { AreSubsets filled.now.tables.groups (S.members state.now) self.old }
+        ensures subsets { AreSubsets filled.now.tables.groups (S.members state.now) self.new }
         ensures same { self.new.begun ≡ self.old.begun }
-        ensures found { IfSome result (IsSubset tables.now.groups (S.members state.now)) }
+        ensures found { IfSome result (IsSubset filled.now.tables.groups (S.members state.now)) }
     {
         while self.link > 0 {
             let group = self.link - 1;
-            self.link = tables.buckets.chains.next[group] as usize;
-            let kept = tables.groups.boxes(group);
+            self.link = filled.buckets.chains.next[group] as usize;
+            let kept = filled.tables.groups.boxes(group);
             // A group that covers the player and has as many boxes lacks none.
             if kept.len() < boxes.len() && are_in(kept, state) {
                 return Some(group);

@@ -26,22 +26,7 @@ pub struct Buckets {
     pub chains: Chains,
 }
 
-impl Buckets {
-    // Returns no buckets.
-    fn new(alloc: Global) -> Buckets {
-        Buckets {
-            keys: Vec::new(alloc),
-            chains: Chains {
-                first: Vec::new(alloc),
-                next: Vec::new(alloc),
-            },
-        }
-    }
-}
-
 /// A list of patterns on a board: its trap, its groups, and the regions of the groups without a box on the trap.
-///
-/// Only lookups need the rest: the room's spanning tree, the buckets, and the regions of all groups. It is filled in before the first one.
 #[derive(Drop)]
 pub struct Tables<'a, S: CellSet> {
     pub board: &'a Board<S>,
@@ -50,12 +35,19 @@ pub struct Tables<'a, S: CellSet> {
     pub trapless: bool,
     pub groups: Groups,
     pub regions: Regions,
+}
+
+/// The tables that lookups need: those of a list whose trap has no cells, so that they have the regions of all groups, the spanning tree of
+/// the room, and the buckets.
+#[derive(Drop)]
+pub struct FilledTables<'a, S: CellSet> {
+    pub tables: Tables<'a, S>,
     pub tree: Tree,
     pub buckets: Buckets,
 }
 
 impl<'a, S: CellSet> Tables<'a, S> {
-    /// Builds the tables of a list of lawful patterns, without what lookups need.
+    /// Builds the tables of a list of lawful patterns.
     pub fn build(
         alloc: Global,
         board: &'a Board<S>,
@@ -78,26 +70,28 @@ impl<'a, S: CellSet> Tables<'a, S> {
             trap,
             groups,
             regions,
-            tree: Tree::new(alloc),
-            buckets: Buckets::new(alloc),
         })
     }
 
-    /// Fills in what lookups need. From then on the trap has no cells.
-    pub fn fill(&mut self, alloc: Global) -> Result<(), AllocError>
-        requires { AreTables self.old }
-        ensures same { OnOk result (self.new.groups ≡ self.old.groups) }
-        ensures level { OnOk result (self.new.board.now ≡ self.old.board.now) }
-        ensures filled { OnOk result (AreFilled self.new) }
+    /// Empties the trap, and adds what lookups need.
+    pub fn fill(mut self, alloc: Global) -> Result<FilledTables<'a, S>, AllocError>
+        requires { AreTables self }
+        ensures same { IfOk result (λ f. f.tables.groups ≡ self.entry.groups) }
+        ensures level { IfOk result (λ f. f.tables.board.now ≡ self.entry.board.now) }
+        ensures filled { IfOk result AreFilled }
     {
-        self.find_trapped(alloc)?;
-        self.tree = grow_tree(alloc, self.board)?;
-        self.buckets = fill_buckets(alloc, self.board, &self.groups)?;
-        Ok(())
+        self.empty_trap(alloc)?;
+        let tree = grow_tree(alloc, self.board)?;
+        let buckets = fill_buckets(alloc, self.board, &self.groups)?;
+        Ok(FilledTables {
+            tables: self,
+            tree,
+            buckets,
+        })
     }
 
-    // Empties the trap, and finds the regions that it left out.
-    fn find_trapped(&mut self, alloc: Global) -> Result<(), AllocError>
+    // Empties the trap, and finds the regions of all groups, because it left some out.
+    fn empty_trap(&mut self, alloc: Global) -> Result<(), AllocError>
         requires { AreTables self.old }
         ensures same { OnOk result (self.new.groups ≡ self.old.groups) }
         ensures level { OnOk result (self.new.board.now ≡ self.old.board.now) }

@@ -79,14 +79,6 @@ fn begin<S: CellSet>(alloc: Global, board: &Board<S>, left: &mut S) -> Result<Tr
 }
 
 impl Tree {
-    // Returns a tree without nodes.
-    pub(crate) fn new(alloc: Global) -> Tree {
-        Tree {
-            numbers: Vec::new(alloc),
-            nodes: Vec::new(alloc),
-        }
-    }
-
     // Adds the neighbours of a node that are left.
     fn join_around<S: CellSet>(
         &mut self,

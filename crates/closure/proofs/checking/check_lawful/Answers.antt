@@ -26,4 +26,4 @@ returns-then-meets-clause-ok g c =
     met.0 met.2 (rw c.boxes.ensures.members at met.1) (c.in_ok-are_trapped.ensures.all c.if-are_trapped.true)
 
 pub returns-clause-exact : goal.returns-clause-exact
-returns-clause-exact g c = rw (c.in_ok-tables.ensures.level, c.in_ok-tables.ensures.same) at c.check_tables-checked.ensures.exact
+returns-clause-exact g c = rw (c.in_ok-tables.ensures.level, c.in_ok-tables.ensures.same) at c.check_tables.ensures.exact

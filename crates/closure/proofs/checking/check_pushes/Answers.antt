@@ -14,9 +14,9 @@ use Rattle.closure.proofs.checking.check_pushes.Goals as goal
 use Rattle.closure.proofs.checking.check_pushes.Goals.{After-index}
 
 -- The group of the line has the boxes of the line.
-own_boxes : (g : _) (c : After-index g) → boxes_of c.args.tables.now.groups c.index.result.now ≡ boxes_at c.args.tables.now.groups.arena c.loop-line.line
+own_boxes : (g : _) (c : After-index g) → boxes_of c.args.filled.now.tables.groups c.index.result.now ≡ boxes_at c.args.filled.now.tables.groups.arena c.loop-line.line
 own_boxes g c =
-    let groups = c.args.tables.now.groups in
+    let groups = c.args.filled.now.tables.groups in
     let grouped = c.requires.ready.filled.are.grouped in
     let of = groups.of.items in
     let line = c.loop-line.line in
@@ -33,9 +33,9 @@ first_push-requires-clause-loaded g c =
 
 pub returns-in-Some-clause-exact : goal.returns-in-Some-clause-exact
 returns-in-Some-clause-exact g c = λ _.
-    let level = c.args.tables.now.board.now in
-    let arena = c.args.tables.now.groups.arena in
-    let patterns = list_of c.args.tables.now.groups in
+    let level = c.args.filled.now.tables.board.now in
+    let arena = c.args.filled.now.tables.groups.arena in
+    let patterns = list_of c.args.filled.now.tables.groups in
     let push = c.in-Some.push in
     let line = c.loop-line.line in
     let here = line_in arena.boxes.items arena.seeds.items in
@@ -55,8 +55,8 @@ returns-in-Some-clause-exact g c = λ _.
 
 pub loop-line-preserved : goal.loop-line-preserved
 loop-line-preserved g c =
-    let level = c.args.tables.now.board.now in
-    let patterns = list_of c.args.tables.now.groups in
+    let level = c.args.filled.now.tables.board.now in
+    let patterns = list_of c.args.filled.now.tables.groups in
     record {
       shape = c.first_push.ensures.shape;
       ready = c.first_push.ensures.ready;
@@ -67,16 +67,16 @@ loop-line-preserved g c =
 
 pub returns-clause-ok : goal.returns-clause-ok
 returns-clause-ok g c =
-    let patterns = list_of c.args.tables.now.groups in
-    let long = list_long c.args.tables.now.groups.arena in
+    let patterns = list_of c.args.filled.now.tables.groups in
+    let long = list_long c.args.filled.now.tables.groups.arena in
     let end = c.loop-line-test.false in
     let len = c.len-line-end.ensures in
-    each_pattern (CoversPushesOf c.args.tables.now.board.now patterns) patterns c.loop-line.line _ (omega arith) c.loop-line.invariant.covered
+    each_pattern (CoversPushesOf c.args.filled.now.tables.board.now patterns) patterns c.loop-line.line _ (omega arith) c.loop-line.invariant.covered
 
 pub loop-line-preserved-then-covered-group : goal.loop-line-preserved-then-covered-group
 loop-line-preserved-then-covered-group g c =
-    let level = c.args.tables.now.board.now in
-    let groups = c.args.tables.now.groups in
+    let level = c.args.filled.now.tables.board.now in
+    let groups = c.args.filled.now.tables.groups in
     let grouped = c.requires.ready.filled.are.grouped in
     let of = groups.of.items in
     let line = c.loop-line.line in

@@ -4,12 +4,12 @@ use Rattle.closure.proofs.checking.check_pushes.Given as goal
 
 abbrev pub invariant-loop-line : goal.invariant-loop-line
 invariant-loop-line g l =
-    let level = l.tables.board.now in
-    let groups = l.tables.groups in
+    let level = l.filled.tables.board.now in
+    let groups = l.filled.tables.groups in
     let patterns = list_of groups in
     record {
       shape : l.trial ≡ level.shape;
-      ready : IsReady g.S.CellSet.extent l.tables l.scratch;
-      loaded : l.loaded < length groups.spans.items → IsLoaded g.S.CellSet.members l.tables (cells_in (boxes_of groups l.loaded)) l.scratch;
+      ready : IsReady g.S.CellSet.extent l.filled l.scratch;
+      loaded : l.loaded < length groups.spans.items → IsLoaded g.S.CellSet.members l.filled (cells_in (boxes_of groups l.loaded)) l.scratch;
       covered : (j : ℕ) → j < l.line → CoversPushesOf level patterns (pattern_at patterns j);
     }

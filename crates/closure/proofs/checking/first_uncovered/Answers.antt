@@ -10,16 +10,16 @@ use Rattle.closure.proofs.checking.first_uncovered.Goals as goal
 use Rattle.closure.proofs.checking.first_uncovered.Goals.{After-into_iter-push-iterator, In-Some}
 
 -- The iterator has the pushes out of the region.
-all_pushes : (g : _) (c : After-into_iter-push-iterator g) → ArePushesOut c.args.tables.now.board.now.shape c.args.tables.now.board.now.walls
+all_pushes : (g : _) (c : After-into_iter-push-iterator g) → ArePushesOut c.args.filled.now.tables.board.now.shape c.args.filled.now.tables.board.now.walls
     (cells_in c.args.loaded.now) (Has (g.S.CellSet.members c.args.region.now)) c.into_iter-push-iterator.result
 all_pushes g c =
-    let level = c.args.tables.now.board.now in
+    let level = c.args.filled.now.tables.board.now in
     subst (ArePushesOut level.shape level.walls (cells_in c.args.loaded.now) (Has (g.S.CellSet.members c.args.region.now)))
     (sym c.into_iter-push-iterator.ensures.into_iter_gives)
     (rw (c.requires.same, c.shape.ensures.value, c.requires.boxes, c.walls.ensures.members) at c.new-push-items.ensures)
 
 -- The next one is a push out.
-next_out : (g : _) (c : In-Some g) → IsPushOut c.args.tables.now.board.now.shape c.args.tables.now.board.now.walls
+next_out : (g : _) (c : In-Some g) → IsPushOut c.args.filled.now.tables.board.now.shape c.args.filled.now.tables.board.now.walls
     (cells_in c.args.loaded.now) (Has (g.S.CellSet.members c.args.region.now)) c.in-Some.push
 next_out g c = next_is_out (all_pushes g (goal.at.In-Some g c).After-into_iter-push-iterator) c.loop-push.yielded c.loop-push.push-iterator
     c.loop-push.yielded_by c.in-Some.push c.next.new.self c.in-Some.ensures.steps
@@ -48,7 +48,7 @@ covers-requires-clause-back g c =
 pub returns-then-not-covers-clause-exact : goal.returns-then-not-covers-clause-exact
 returns-then-not-covers-clause-exact g c =
     let at = goal.at.returns-then-not-covers-clause-exact g c in
-    let covered = IsCovered c.args.tables.now.board.now (list_of c.args.tables.now.groups) in
+    let covered = IsCovered c.args.filled.now.tables.board.now (list_of c.args.filled.now.tables.groups) in
     let push = c.in-Some.push in
     record {
       out = next_out g at.In-Some;
@@ -61,7 +61,7 @@ returns-then-not-covers-clause-exact g c =
 
 pub loop-push-preserved : goal.loop-push-preserved
 loop-push-preserved g c =
-    let covered = IsCovered c.args.tables.now.board.now (list_of c.args.tables.now.groups) in
+    let covered = IsCovered c.args.filled.now.tables.board.now (list_of c.args.filled.now.tables.groups) in
     record {
       ready = c.covers.ensures.ready;
       loaded = c.covers.ensures.loaded;
@@ -71,7 +71,7 @@ loop-push-preserved g c =
 
 pub returns-clause-exact : goal.returns-clause-exact
 returns-clause-exact g c = λ push out.
-    All-contains (λ p. IsCovered c.args.tables.now.board.now (list_of c.args.tables.now.groups) (state_after (cells_in c.args.loaded.now) p))
+    All-contains (λ p. IsCovered c.args.filled.now.tables.board.now (list_of c.args.filled.now.tables.groups) (state_after (cells_in c.args.loaded.now) p))
     c.loop-push.yielded push c.loop-push.invariant.good
     (all_came (all_pushes g (goal.at.returns-clause-exact g c).After-into_iter-push-iterator) c.loop-push.yielded c.loop-push.push-iterator
     c.loop-push.yielded_by c.next.new.self c.in-None.ensures.steps push out)

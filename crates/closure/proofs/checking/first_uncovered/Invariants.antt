@@ -4,7 +4,7 @@ use Rattle.closure.proofs.checking.first_uncovered.Given as goal
 
 abbrev pub invariant-loop-push : goal.invariant-loop-push
 invariant-loop-push g l = record {
-  ready : IsReady g.S.CellSet.extent l.tables l.scratch;
-  loaded : IsLoaded g.S.CellSet.members l.tables (cells_in l.loaded) l.scratch;
-  good : All (λ p. IsCovered l.tables.board.now (list_of l.tables.groups) (state_after (cells_in l.loaded) p)) l.yielded;
+  ready : IsReady g.S.CellSet.extent l.filled l.scratch;
+  loaded : IsLoaded g.S.CellSet.members l.filled (cells_in l.loaded) l.scratch;
+  good : All (λ p. IsCovered l.filled.tables.board.now (list_of l.filled.tables.groups) (state_after (cells_in l.loaded) p)) l.yielded;
 }

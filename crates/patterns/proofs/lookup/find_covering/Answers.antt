@@ -23,7 +23,7 @@ returns-clause-found g c = λ k covers.
     let shape = g.S.CellSet.extent c.args.query.now.boxes.now in
     let boxes = g.S.CellSet.members c.args.query.now.boxes.now in
     let whole = rw c.in-None.ensures.steps.0 at c.loop-cell.invariant.all in
-    let bucket = c.requires.tables.buckets.each k covers.0 in
+    let bucket = c.requires.filled.buckets.each k covers.0 in
     c.loop-cell.invariant.passed bucket.cell k (((all_came shape boxes c.loop-cell.yielded whole).exact bucket.cell).1
     (covers.1.boxes bucket.cell bucket.has)) bucket.key covers
 

@@ -8,7 +8,7 @@ invariant-loop-cell g l = record {
   can_next : (goal.iterator-loop-cell g).can_next l.cell-iterator;
   is_finite : (goal.iterator-loop-cell g).is_finite l.cell-iterator;
   all : AreMembersOf (g.S.CellSet.extent l.query.boxes.now) (g.S.CellSet.members l.query.boxes.now) (l.yielded ++ l.cell-iterator);
-  passed : (c : Cell) (k : ℕ) → Contains l.yielded c → slice_index l.tables.buckets.keys.items k ≡ index_of c
-      → GroupCovers l.tables.board.now l.tables.groups k (record { player = l.query.player; boxes = g.S.CellSet.members l.query.boxes.now }) → ⊥;
-  scratch : IsReadyFor l.tables (g.S.CellSet.members l.query.boxes.now) l.query.player l.scratch;
+  passed : (c : Cell) (k : ℕ) → Contains l.yielded c → slice_index l.filled.buckets.keys.items k ≡ index_of c
+      → GroupCovers l.filled.tables.board.now l.filled.tables.groups k (record { player = l.query.player; boxes = g.S.CellSet.members l.query.boxes.now }) → ⊥;
+  scratch : IsReadyFor l.filled (g.S.CellSet.members l.query.boxes.now) l.query.player l.scratch;
 }

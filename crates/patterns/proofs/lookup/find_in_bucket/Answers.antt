@@ -16,12 +16,12 @@ module _ (keys first next : List ℕ) (count key : ℕ) (chains : AreChains keys
 
 pub loop-at-init : goal.loop-at-init
 loop-at-init g c =
-    let tables = c.args.tables.now in
-    let all = c.requires.tables.buckets in
+    let filled = c.args.filled.now in
+    let all = c.requires.filled.buckets in
     let bottom = c.requires.cell.bottom in
     let at = c.index_of.ensures in
     let long = all.long in
-    let last = begun tables.buckets.keys.items tables.buckets.chains.first.items tables.buckets.chains.next.items _ (index_of c.args.cell) all.chained
+    let last = begun filled.buckets.keys.items filled.buckets.chains.first.items filled.buckets.chains.next.items _ (index_of c.args.cell) all.chained
     c.index.result.now (omega arith) (rw at at c.index.ensures) in
     let within = last.within in
     record {
@@ -35,24 +35,24 @@ loop-at-init g c =
 
 pub loop-at-preserved : goal.loop-at-preserved
 loop-at-preserved g c =
-    let tables = c.args.tables.now in
-    let all = c.requires.tables.buckets in
+    let filled = c.args.filled.now in
+    let all = c.requires.filled.buckets in
     let inv = c.loop-at.invariant in
     let test = c.loop-at-test.true in
     let within = inv.within in
     let long = all.long in
-    let Covers : ℕ → Type 0 = λ j. GroupCovers c.args.tables.now.board.now tables.groups j (record {
+    let Covers : ℕ → Type 0 = λ j. GroupCovers c.args.filled.now.tables.board.now filled.tables.groups j (record {
       player = c.args.query.now.player;
       boxes =
           g.S.CellSet.members c.args.query.now.boxes.now;
     }) in
-    let last = led_on tables.buckets.keys.items tables.buckets.chains.first.items tables.buckets.chains.next.items _ (index_of c.args.cell) all.chained
+    let last = led_on filled.buckets.keys.items filled.buckets.chains.first.items filled.buckets.chains.next.items _ (index_of c.args.cell) all.chained
     c.loop-at.at c.index-in-loop-at.result.now test (omega arith) c.index-in-loop-at.ensures (inv.key test) in
     let before = last.within in
     record {
       within = omega arith;
       key = last.has_key;
-      passed = none_more tables.buckets.keys.items tables.buckets.chains.first.items tables.buckets.chains.next.items _ (index_of c.args.cell) all.chained
+      passed = none_more filled.buckets.keys.items filled.buckets.chains.first.items filled.buckets.chains.next.items _ (index_of c.args.cell) all.chained
           Covers c.loop-at.at c.index-in-loop-at.result.now
           test last (λ covers. false≢true (sym c.if-is_covering.false ∙ c.is_covering.ensures.exact.1 covers.1)) inv.passed;
       scratch = c.is_covering.ensures.scratch;

@@ -4,11 +4,11 @@ use Rattle.patterns.proofs.lookup.find_in_bucket.Given as goal
 
 abbrev pub invariant-loop-at : goal.invariant-loop-at
 invariant-loop-at g l = record {
-  within : l.at ≤ length l.tables.groups.spans.items;
-  key : 0 < l.at → slice_index l.tables.buckets.keys.items (l.at - 1) ≡ index_of l.fn.cell;
-  passed : (k : ℕ) → l.at ≤ k → slice_index l.tables.buckets.keys.items k ≡ index_of l.fn.cell
-      → GroupCovers l.tables.board.now l.tables.groups k (record { player = l.query.player; boxes = g.S.CellSet.members l.query.boxes.now }) → ⊥;
-  scratch : IsReadyFor l.tables (g.S.CellSet.members l.query.boxes.now) l.query.player l.scratch;
+  within : l.at ≤ length l.filled.tables.groups.spans.items;
+  key : 0 < l.at → slice_index l.filled.buckets.keys.items (l.at - 1) ≡ index_of l.fn.cell;
+  passed : (k : ℕ) → l.at ≤ k → slice_index l.filled.buckets.keys.items k ≡ index_of l.fn.cell
+      → GroupCovers l.filled.tables.board.now l.filled.tables.groups k (record { player = l.query.player; boxes = g.S.CellSet.members l.query.boxes.now }) → ⊥;
+  scratch : IsReadyFor l.filled (g.S.CellSet.members l.query.boxes.now) l.query.player l.scratch;
 }
 
 abbrev pub decreases-loop-at : goal.decreases-loop-at

@@ -11,19 +11,19 @@ pub returns-then-not-contains-clause-exact : goal.returns-then-not-contains-clau
 returns-then-not-contains-clause-exact g c = (
   λ h. absurd (false≢true h),
   λ covered.
-      let inside = player_in_room c.args.tables.now c.requires.tables.are _ c.shape-shape.ensures.formed covered in
+      let inside = player_in_room c.args.filled.now.tables c.requires.filled.are _ c.shape-shape.ensures.formed covered in
       absurd (not_both (g.S.CellSet.members c.room.result.now) c.args.player (rw c.room.ensures.members inside) (sym c.if-not-contains.ensures)),
 )
 
 pub returns-in-Some-clause-exact : goal.returns-in-Some-clause-exact
 returns-in-Some-clause-exact g c = (
-  λ _. covered_of_group c.args.tables.now.board.now c.args.tables.now.groups c.requires.tables.are.grouped _ c.in-Some.group c.in-Some.ensures.found.1,
+  λ _. covered_of_group c.args.filled.now.tables.board.now c.args.filled.now.tables.groups c.requires.filled.are.grouped _ c.in-Some.group c.in-Some.ensures.found.1,
   λ _. refl,
 )
 
 pub returns-in-None-clause-exact : goal.returns-in-None-clause-exact
 returns-in-None-clause-exact g c =
-    (λ h. absurd (false≢true h), λ covered. absurd (no_group_covers c.args.tables.now c.requires.tables.are _ c.in-None.ensures.found covered))
+    (λ h. absurd (false≢true h), λ covered. absurd (no_group_covers c.args.filled.now.tables c.requires.filled.are _ c.in-None.ensures.found covered))
 
 pub is_last_covering-requires-clause-scratch : goal.is_last_covering-requires-clause-scratch
 is_last_covering-requires-clause-scratch g c = record { roomy = c.requires.roomy; walked = λ h. absurd (false≢true h) }

@@ -11,8 +11,8 @@ use Rattle.patterns.proofs.lookup.is_inside.Goals as goal
 
 pub returns-in-Some : goal.returns-in-Some
 returns-in-Some g c =
-    let level = c.args.tables.now.board.now in
-    let tables = c.args.tables.now in
+    let level = c.args.filled.now.tables.board.now in
+    let tables = c.args.filled.now.tables in
     let position = position_at level tables.groups c.args.group in
     let boxes = c.boxes-boxes.result.now in
     let number = c.in-Some.number in
@@ -32,15 +32,15 @@ pub returns : goal.returns
 returns g c =
     let is = c.boxes-boxes.ensures in
     let low = c.loop-found-test.false in
-    let told = (c.requires.hits (position_at c.args.tables.now.board.now c.args.tables.now.groups c.args.group) (λ _ h. h) c.requires.outside).passed
+    let told = (c.requires.hits (position_at c.args.filled.now.tables.board.now c.args.filled.now.tables.groups c.args.group) (λ _ h. h) c.requires.outside).passed
     (λ j e lt. rw is at (c.loop-found.invariant j e (omega arith))) in
     through c.has_root.ensures (told.1, told.0)
 
 pub sides_of-requires-clause-off : goal.sides_of-requires-clause-off
-sides_of-requires-clause-off g c = λ q _. rw c.requires.tables.off (empty_lacks q)
+sides_of-requires-clause-off g c = λ q _. rw c.requires.filled.off (empty_lacks q)
 
 pub has_root-requires-clause-off : goal.has_root-requires-clause-off
-has_root-requires-clause-off g c = λ q _. rw c.requires.tables.off (empty_lacks q)
+has_root-requires-clause-off g c = λ q _. rw c.requires.filled.off (empty_lacks q)
 
 pub loop-found-preserved : goal.loop-found-preserved
 loop-found-preserved g c = λ i m.

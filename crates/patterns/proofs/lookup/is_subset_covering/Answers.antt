@@ -8,16 +8,16 @@ use Rattle.patterns.proofs.lookup.is_subset_covering.Goals as goal
 
 pub returns-then-is_among-clause-exact : goal.returns-then-is_among-clause-exact
 returns-then-is_among-clause-exact g c =
-    let position = position_at c.args.tables.now.board.now c.args.tables.now.groups c.args.group in
+    let position = position_at c.args.filled.now.tables.board.now c.args.filled.now.tables.groups c.args.group in
     let player = c.args.query.now.player in (
       λ h. absurd (false≢true h),
       λ covers. absurd (not_both position.boxes player (rw c.boxes.ensures at c.if-is_among.ensures)
-          (region_lacks c.args.tables.now.board.now position player covers.player)),
+          (region_lacks c.args.filled.now.tables.board.now position player covers.player)),
     )
 
 pub is_inside-requires-clause-hits : goal.is_inside-requires-clause-hits
 is_inside-requires-clause-hits g c = λ pattern within lacks.
-    subst (λ l. HitsDecide c.args.tables.now.board.now c.args.query.now.player c.args.tables.now.board.now.player l pattern) (sym c.deref.ensures.value)
+    subst (λ l. HitsDecide c.args.filled.now.tables.board.now c.args.query.now.player c.args.filled.now.tables.board.now.player l pattern) (sym c.deref.ensures.value)
     (c.walk_to_root.ensures.scratch.walked c.walk_to_root.ensures.walked pattern (λ q has. c.requires.group.has q (within q has)) lacks)
 
 pub returns-clause-exact : goal.returns-clause-exact

@@ -11,32 +11,32 @@ use Rattle.patterns.proofs.lookup.walk_to_root.Goals as goal
 
 -- The parent of the present node has a lower number.
 falls : (g : _) (c : After-index g) → c.index-node.result.now.parent < c.loop-at.at
-falls g c = rw c.index-node.ensures (c.requires.tables.tree.nodes.down c.loop-at.at c.index-node.result.now c.loop-at-test.true c.loop-at.invariant.within)
+falls g c = rw c.index-node.ensures (c.requires.filled.tree.nodes.down c.loop-at.at c.index-node.result.now c.loop-at-test.true c.loop-at.invariant.within)
 
 -- The step of the present node leads to the cell of its parent.
-leads : (g : _) (c : After-index g) (d : Node) → neighbor (get_or c.args.tables.now.tree.nodes.items c.loop-at.at c.index-node.result.now).cell
-    (get_or c.args.tables.now.tree.nodes.items c.loop-at.at c.index-node.result.now).dir ≡
-    (get_or c.args.tables.now.tree.nodes.items c.index-node.result.now.parent d).cell
+leads : (g : _) (c : After-index g) (d : Node) → neighbor (get_or c.args.filled.now.tree.nodes.items c.loop-at.at c.index-node.result.now).cell
+    (get_or c.args.filled.now.tree.nodes.items c.loop-at.at c.index-node.result.now).dir ≡
+    (get_or c.args.filled.now.tree.nodes.items c.index-node.result.now.parent d).cell
 leads g c d =
-    let nodes = c.args.tables.now.tree.nodes.items in
+    let nodes = c.args.filled.now.tree.nodes.items in
     let r = c.index-node.result.now in
     let less = falls g c in
     let within = c.loop-at.invariant.within in
-    c.requires.tables.tree.nodes.leads c.loop-at.at r c.loop-at-test.true within ∙ ap (λ x. (get_or nodes x.parent r).cell) (sym c.index-node.ensures) ∙
+    c.requires.filled.tree.nodes.leads c.loop-at.at r c.loop-at-test.true within ∙ ap (λ x. (get_or nodes x.parent r).cell) (sym c.index-node.ensures) ∙
     ap (λ x. x.cell) (at_any nodes r.parent r d (omega arith))
 
 -- The cell that is compared with the boxes is the parent's.
 parent_cell : (g : _) (c : After-index g) (d : Node) → c.index.result.now.cell ≡
-    (get_or c.args.tables.now.tree.nodes.items c.index-node.result.now.parent d).cell
+    (get_or c.args.filled.now.tree.nodes.items c.index-node.result.now.parent d).cell
 parent_cell g c d =
     let less = falls g c in
     let within = c.loop-at.invariant.within in
-    ap (λ x. x.cell) (c.index.ensures ∙ at_any c.args.tables.now.tree.nodes.items c.index-node.result.now.parent c.index.result.now d (omega arith))
+    ap (λ x. x.cell) (c.index.ensures ∙ at_any c.args.filled.now.tree.nodes.items c.index-node.result.now.parent c.index.result.now d (omega arith))
 
 pub loop-at-preserved : goal.loop-at-preserved
 loop-at-preserved g c =
     let at = (goal.at.loop-at-preserved g c).After-index in
-    let nodes = c.requires.tables.tree.nodes in
+    let nodes = c.requires.filled.tree.nodes in
     let inv = c.loop-at.invariant in
     let r = c.index-node.result.now in
     let less = falls g at in
@@ -44,7 +44,7 @@ loop-at-preserved g c =
     let few = inv.few in
     record {
       within = omega arith;
-      hits = λ d. hits_on c.args.tables.now.board.now c.shape-shape.ensures.formed (g.S.CellSet.members c.args.query.now.boxes.now) c.args.query.now.player _ _
+      hits = λ d. hits_on c.args.filled.now.tables.board.now c.shape-shape.ensures.formed (g.S.CellSet.members c.args.query.now.boxes.now) c.args.query.now.player _ _
           _ (leads g at d) (nodes.room c.loop-at.at r within) (nodes.room r.parent d (omega arith)) c.loop-at.scratch.hits.items (inv.hits r)
           (rw (parent_cell g at d) at (sym c.if-contains.ensures));
       roomy = inv.roomy;
@@ -54,7 +54,7 @@ loop-at-preserved g c =
 pub loop-at-preserved-then-contains : goal.loop-at-preserved-then-contains
 loop-at-preserved-then-contains g c =
     let at = (goal.at.loop-at-preserved-then-contains g c).After-index in
-    let nodes = c.requires.tables.tree.nodes in
+    let nodes = c.requires.filled.tree.nodes in
     let inv = c.loop-at.invariant in
     let r = c.index-node.result.now in
     let less = falls g at in
@@ -66,7 +66,7 @@ loop-at-preserved-then-contains g c =
     let capacity = c.push_reserved.ensures.capacity in
     record {
       within = omega arith;
-      hits = λ d. rw c.push_reserved.ensures.items (hits_to c.args.tables.now.board.now c.shape-shape.ensures.formed
+      hits = λ d. rw c.push_reserved.ensures.items (hits_to c.args.filled.now.tables.board.now c.shape-shape.ensures.formed
           (g.S.CellSet.members c.args.query.now.boxes.now) c.args.query.now.player _ _ _ (leads g at d) (nodes.room c.loop-at.at r within)
           (nodes.room r.parent d (omega arith)) c.loop-at.scratch.hits.items (inv.hits r) m (parent_cell g at d)
           (c.opposite.ensures ∙ ap (λ x. opposite x.dir) c.index-node.ensures));
@@ -81,15 +81,15 @@ returns-clause-scratch g c = record {
       let test = c.loop-at-test.false in
       let zero : c.loop-at.at ≡ 0 = omega arith in
       let d : Node = record { cell = c.args.query.now.player; dir = L; parent = 0 } in
-      let end = ap (λ k. (get_or c.args.tables.now.tree.nodes.items k d).cell) zero ∙ c.requires.tables.tree.nodes.begin d in
-      subst (λ q. HitsDecide c.args.tables.now.board.now c.args.query.now.player q c.loop-at.scratch.hits.items pattern) end
+      let end = ap (λ k. (get_or c.args.filled.now.tree.nodes.items k d).cell) zero ∙ c.requires.filled.tree.nodes.begin d in
+      subst (λ q. HitsDecide c.args.filled.now.tables.board.now c.args.query.now.player q c.loop-at.scratch.hits.items pattern) end
       (c.loop-at.invariant.hits d pattern within lacks);
 }
 
 pub index-requires : goal.index-requires
 index-requires g c =
     let within = c.loop-at.invariant.within in
-    let less = rw (← c.index-node.ensures) at (c.requires.tables.tree.nodes.down c.loop-at.at c.index-node.result.now c.loop-at-test.true within) in
+    let less = rw (← c.index-node.ensures) at (c.requires.filled.tree.nodes.down c.loop-at.at c.index-node.result.now c.loop-at-test.true within) in
     omega arith
 
 pub loop-at-smaller : goal.loop-at-smaller

@@ -9,8 +9,8 @@ use Rattle.patterns.proofs.push_lookups.are_pushes_found.Goals as goal
 
 pub returns-clause-covered : goal.returns-clause-covered
 returns-clause-covered g c = λ _.
-    let level = c.args.tables.now.board.now in
-    let groups = c.args.tables.now.groups in
+    let level = c.args.filled.now.tables.board.now in
+    let groups = c.args.filled.now.tables.groups in
     covered_each_box level (list_of groups) (position_at level groups c.args.group) c.boxes-boxes.result.now c.loop-number.number c.loop-number-test.false
     (ap cells_in c.boxes-boxes.ensures) c.loop-number.invariant.covered
 
@@ -18,13 +18,13 @@ pub sides_of-sides-requires-clause-off : goal.sides_of-sides-requires-clause-off
 sides_of-sides-requires-clause-off g c = λ q _. rw c.requires.ready.filled.off (empty_lacks q)
 
 pub load-requires-clause-boxes : goal.load-requires-clause-boxes
-load-requires-clause-boxes g c = boxes_on c.args.tables.now.board.now c.args.tables.now.groups c.requires.ready.filled.are.lawful c.requires.ready.filled.are.grouped
+load-requires-clause-boxes g c = boxes_on c.args.filled.now.tables.board.now c.args.filled.now.tables.groups c.requires.ready.filled.are.lawful c.requires.ready.filled.are.grouped
     c.args.group c.requires.group c.boxes-boxes.result.now c.boxes-boxes.ensures
 
 pub loop-number-preserved : goal.loop-number-preserved
 loop-number-preserved g c =
-    let level = c.args.tables.now.board.now in
-    let groups = c.args.tables.now.groups in
+    let level = c.args.filled.now.tables.board.now in
+    let groups = c.args.filled.now.tables.groups in
     let after = c.is_found_each_way.ensures in
     record {
       ready = after.ready;

@@ -4,8 +4,8 @@ use Rattle.patterns.proofs.push_lookups.are_pushes_found.Given as goal
 
 abbrev pub invariant-loop-number : goal.invariant-loop-number
 invariant-loop-number g l = record {
-  ready : IsReady g.S.CellSet.extent l.tables l.scratch;
-  loaded : IsLoaded g.S.CellSet.members l.tables (cells_in l.boxes) l.scratch;
-  covered : (i : ℕ) → i < l.number → CoversFrom l.tables.board.now (list_of l.tables.groups) (position_at l.tables.board.now l.tables.groups l.group)
+  ready : IsReady g.S.CellSet.extent l.filled l.scratch;
+  loaded : IsLoaded g.S.CellSet.members l.filled (cells_in l.boxes) l.scratch;
+  covered : (i : ℕ) → i < l.number → CoversFrom l.filled.tables.board.now (list_of l.filled.tables.groups) (position_at l.filled.tables.board.now l.filled.tables.groups l.group)
       (cell_no l.boxes i);
 }

@@ -7,9 +7,9 @@ use Rattle.patterns.proofs.push_lookups.is_found_each_way.Goals.{then-is_found_t
 
 pub returns-then-is_found_toward-3-clause-covered : goal.returns-then-is_found_toward-3-clause-covered
 returns-then-is_found_toward-3-clause-covered g c = λ down.
-    let level = c.args.tables.now.board.now in
-    let list = list_of c.args.tables.now.groups in
-    let position = position_at level c.args.tables.now.groups c.args.pushed.now.group in
+    let level = c.args.filled.now.tables.board.now in
+    let list = list_of c.args.filled.now.tables.groups in
+    let position = position_at level c.args.filled.now.tables.groups c.args.pushed.now.group in
     let cell = pushed_cell c.args.pushed.now in
     let Covers : Dir → Type 0 = λ dir. CoversToward level list position cell dir in
     let right : (c.if-is_found_toward.value ≡ true) × Covers R = elim c.if-is_found_toward-2.branch [

@@ -10,14 +10,14 @@ pub is_hinted-requires-clause-off : goal.is_hinted-requires-clause-off
 is_hinted-requires-clause-off g c = λ q _. rw c.requires.ready.filled.off (empty_lacks q)
 
 pub covers-requires-clause-boxes : goal.covers-requires-clause-boxes
-covers-requires-clause-boxes g c = boxes_on c.args.tables.now.board.now c.args.tables.now.groups c.requires.ready.filled.are.lawful c.requires.ready.filled.are.grouped
+covers-requires-clause-boxes g c = boxes_on c.args.filled.now.tables.board.now c.args.filled.now.tables.groups c.requires.ready.filled.are.lawful c.requires.ready.filled.are.grouped
     c.args.pushed.now.group c.requires.pushed.group c.args.pushed.now.boxes.now c.requires.pushed.boxes
 
 pub covers-requires-clause-push : goal.covers-requires-clause-push
 covers-requires-clause-push g c =
     let pushed = c.args.pushed.now in
-    let level = c.args.tables.now.board.now in
-    let groups = c.args.tables.now.groups in
+    let level = c.args.filled.now.tables.board.now in
+    let groups = c.args.filled.now.tables.groups in
     let has = in_list pushed.boxes.now pushed.number no_cell c.requires.pushed.number in
     push_in_box level (cells_in pushed.boxes.now) (pushed_cell pushed) c.args.dir c.in-Some.push has
     (box_floor level groups c.requires.ready.filled.are.lawful c.requires.ready.filled.are.grouped pushed.group c.requires.pushed.group (pushed_cell pushed)
@@ -26,14 +26,14 @@ covers-requires-clause-push g c =
 
 pub returns-then-is_hinted-clause-covered : goal.returns-then-is_hinted-clause-covered
 returns-then-is_hinted-clause-covered g c = λ found.
-    let level = c.args.tables.now.board.now in
-    let groups = c.args.tables.now.groups in
+    let level = c.args.filled.now.tables.board.now in
+    let groups = c.args.filled.now.tables.groups in
     covered_one level (position_at level groups c.args.pushed.now.group) (pushed_cell c.args.pushed.now) c.args.dir (list_of groups) c.in-Some.push
     c.in-Some.ensures.found (rw c.requires.pushed.boxes at (c.is_hinted.ensures found))
 
 pub returns-else-is_hinted-clause-covered : goal.returns-else-is_hinted-clause-covered
 returns-else-is_hinted-clause-covered g c = λ found.
-    let level = c.args.tables.now.board.now in
-    let groups = c.args.tables.now.groups in
+    let level = c.args.filled.now.tables.board.now in
+    let groups = c.args.filled.now.tables.groups in
     covered_one level (position_at level groups c.args.pushed.now.group) (pushed_cell c.args.pushed.now) c.args.dir (list_of groups) c.in-Some.push
     c.in-Some.ensures.found (rw c.requires.pushed.boxes at (c.covers.ensures.exact.0 found))

@@ -10,6 +10,6 @@ loop-group-preserved g c =
     let count = c.len-group-end.ensures in
     record {
       ready = c.are_pushes_found.ensures.ready;
-      covered = noted_more c.args.tables.now.board.now c.args.tables.now.groups c.loop-group.covered.items c.loop-group.invariant.covered c.loop-group.group
+      covered = noted_more c.args.filled.now.tables.board.now c.args.filled.now.tables.groups c.loop-group.covered.items c.loop-group.invariant.covered c.loop-group.group
           c.are_pushes_found.result (omega arith) c.are_pushes_found.ensures.covered;
     }

@@ -3,6 +3,6 @@ use Rattle.patterns.proofs.push_lookups.note_found.Given as goal
 
 abbrev pub invariant-loop-group : goal.invariant-loop-group
 invariant-loop-group g l = record {
-  ready : IsReady g.S.CellSet.extent l.tables l.scratch;
-  covered : AreNoted l.tables.board.now l.tables.groups l.covered.items;
+  ready : IsReady g.S.CellSet.extent l.filled l.scratch;
+  covered : AreNoted l.filled.tables.board.now l.filled.tables.groups l.covered.items;
 }

@@ -41,9 +41,9 @@ module _ (level : Level) (patterns : List Pattern) (pattern : Pattern) (players 
   }
 
 -- The pattern of the line is lawful.
-lawful_line : (g : _) (c : After-pattern-pattern g) → IsLawful c.args.tables.now.board.now (pattern_in c.pattern-pattern.result)
+lawful_line : (g : _) (c : After-pattern-pattern g) → IsLawful c.args.filled.now.tables.board.now (pattern_in c.pattern-pattern.result)
 lawful_line g c =
-    let tables = c.args.tables.now in
+    let tables = c.args.filled.now.tables in
     subst (IsLawful tables.board.now) (sym c.pattern-pattern.ensures.pattern)
     (c.requires.ready.filled.are.lawful _ (listed_at tables.groups.arena c.args.line c.requires.line))
 
@@ -58,13 +58,13 @@ first_uncovered-requires-clause-floor g c =
 pub first_uncovered-requires-clause-room : goal.first_uncovered-requires-clause-room
 first_uncovered-requires-clause-room g c =
     let lawful = lawful_line g (goal.at.first_uncovered-requires-clause-room g c).After-pattern-pattern in
-    λ q has. region_in_room c.args.tables.now.board.now c.requires.ready.filled.are.formed (pattern_in c.pattern-pattern.result) lawful q
+    λ q has. region_in_room c.args.filled.now.tables.board.now c.requires.ready.filled.are.formed (pattern_in c.pattern-pattern.result) lawful q
     ((c.find.ensures.exact q).0 (c.find_players.ensures.inside q has))
 
 pub returns-clause-exact : goal.returns-clause-exact
 returns-clause-exact g c =
-    let level = c.args.tables.now.board.now in
-    let patterns = list_of c.args.tables.now.groups in
+    let level = c.args.filled.now.tables.board.now in
+    let patterns = list_of c.args.filled.now.tables.groups in
     let near = c.find_players.ensures in
     rw (← c.pattern-pattern.ensures.pattern) (run_out level patterns (pattern_in c.pattern-pattern.result) (g.S.CellSet.members c.find_players.new.players)
     (λ q has. (c.find.ensures.exact q).0 (near.inside q has))

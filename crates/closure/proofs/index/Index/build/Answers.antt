@@ -13,5 +13,5 @@ build-requires-clause-trap g c = no_trap _ _ _ (c.in_ok-trap.ensures.0 ∙ c.sha
 
 pub returns-clause-exact : goal.returns-clause-exact
 returns-clause-exact g c =
-    rw (c.in_ok-fill.ensures.level, c.in_ok-fill.ensures.same, c.in_ok-tables.ensures.level, c.in_ok-tables.ensures.same, c.in_ok-arena.ensures)
+    rw (c.in_ok-filled.ensures.level, c.in_ok-filled.ensures.same, c.in_ok-tables.ensures.level, c.in_ok-tables.ensures.same, c.in_ok-arena.ensures)
     (λ s. (λ h. h, λ h. h))

@@ -10,7 +10,7 @@ returns-then-contains-2-clause-piece g c =
     let seeds : g.S.CellSet.members c.insert.new.self ≡ only c.args.self.now.player = rw c.clear.ensures.members at c.insert.ensures.members in
     record {
       room = was.room;
-      cells = λ q has. covered_alike c.args.tables.now.board.now (g.S.CellSet.members c.args.state.now) c.args.self.now.player q
+      cells = λ q has. covered_alike c.args.filled.now.tables.board.now (g.S.CellSet.members c.args.state.now) c.args.self.now.player q
           (rw (seeds, c.walls.ensures.members, c.requires.space.flooder) at ((c.flood_into.ensures.exact q).0 has));
       loose = was.loose;
       subsets = was.subsets;
@@ -19,7 +19,7 @@ returns-then-contains-2-clause-piece g c =
 
 pub returns-clause-piece : goal.returns-clause-piece
 returns-clause-piece g c =
-    let subsets : AreSubsets c.args.tables.now.groups (g.S.CellSet.members c.args.state.now) c.if-not-self.self.subsets = elim c.if-not-self.branch [
+    let subsets : AreSubsets c.args.filled.now.tables.groups (g.S.CellSet.members c.args.state.now) c.if-not-self.self.subsets = elim c.if-not-self.branch [
       | then-not-self+else-contains-2 w ↦ rw w.self-is c.requires.piece.subsets
       | else-not-self w ↦ rw w.self-is c.requires.piece.subsets
     ] in

@@ -5,7 +5,7 @@ use Rattle.patterns.proofs.push_lookups.PushScratch.covers.Goals as goal
 pub is_last_after-requires : goal.is_last_after-requires
 is_last_after-requires g c =
     let old = c.requires in
-    record { tables = old.ready.filled; lookup = old.ready.roomy; extent = old.ready.state; push = rw old.loaded.state c.requires.push }
+    record { filled = old.ready.filled; lookup = old.ready.roomy; extent = old.ready.state; push = rw old.loaded.state c.requires.push }
 
 pub returns-then-is_last_after : goal.returns-then-is_last_after
 returns-then-is_last_after g c =
@@ -22,7 +22,7 @@ covers-requires g c =
     let old = c.requires in
     let same = c.is_last_after.ensures.same ∙ old.loaded.state in
     record {
-      tables = old.ready.filled;
+      filled = old.ready.filled;
       space = old.ready.piece;
       extent = c.is_last_after.ensures.extent;
       boxes = c.requires.boxes;
@@ -43,7 +43,7 @@ returns-then-covers g c =
 pub is_ahead-requires : goal.is_ahead-requires
 is_ahead-requires g c =
     let old = c.requires in
-    record { tables = old.ready.filled; extent = c.is_last_after.ensures.extent; to_on = c.requires.push.to_on; back = c.requires.back }
+    record { filled = old.ready.filled; extent = c.is_last_after.ensures.extent; to_on = c.requires.push.to_on; back = c.requires.back }
 
 pub returns-then-is_ahead : goal.returns-then-is_ahead
 returns-then-is_ahead g c =
@@ -60,7 +60,7 @@ is_covered_after-requires g c =
     let old = c.requires in
     let push = rw (← old.loaded.state, ← c.is_last_after.ensures.same) at c.requires.push in
     record {
-      tables = old.ready.filled;
+      filled = old.ready.filled;
       lookup = c.is_last_after.ensures.lookup;
       boxes = c.is_last_after.ensures.extent;
       from_on = push.floor.0;

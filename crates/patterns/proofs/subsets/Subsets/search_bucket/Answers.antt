@@ -6,12 +6,12 @@ use Rattle.patterns.proofs.subsets.Subsets.search_bucket.Goals as goal
 -- The next link is lower.
 falls : (g : _) (c : After-index g) → c.index.result.now < c.loop-self.self.link
 falls g c =
-    let tables = c.args.tables.now in
-    let all = c.requires.tables.buckets in
+    let filled = c.args.filled.now in
+    let all = c.requires.filled.buckets in
     let long = all.long in
     let link = c.loop-self.invariant.subsets.link in
     let up = c.loop-self-test.true in
-    let last = led_on tables.buckets.keys.items tables.buckets.chains.first.items tables.buckets.chains.next.items _ _ all.chained
+    let last = led_on filled.buckets.keys.items filled.buckets.chains.first.items filled.buckets.chains.next.items _ _ all.chained
     c.loop-self.self.link c.index.result.now up (omega arith) c.index.ensures refl in
     let within = last.within in
     omega arith
@@ -20,7 +20,7 @@ pub are_in-requires : goal.are_in-requires
 are_in-requires g c =
     let link = c.loop-self.invariant.subsets.link in
     let up = c.loop-self-test.true in
-    λ q has. rw c.requires.extent (boxes_on c.args.tables.now.board.now c.args.tables.now.groups c.requires.tables.are.lawful c.requires.tables.are.grouped
+    λ q has. rw c.requires.extent (boxes_on c.args.filled.now.tables.board.now c.args.filled.now.tables.groups c.requires.filled.are.lawful c.requires.filled.are.grouped
     (c.loop-self.self.link - 1) (omega arith) c.boxes-kept.result.now c.boxes-kept.ensures q has)
 
 pub returns-then-are_in-clause-found : goal.returns-then-are_in-clause-found

@@ -4,7 +4,7 @@ use Rattle.patterns.proofs.subsets.Subsets.search_bucket.Given as goal
 
 abbrev pub invariant-loop-self : goal.invariant-loop-self
 invariant-loop-self g l = record {
-  subsets : AreSubsets l.tables.groups (g.S.CellSet.members l.state) l.self;
+  subsets : AreSubsets l.filled.tables.groups (g.S.CellSet.members l.state) l.self;
   same : l.self.begun ≡ l.fn.self.begun;
 }
 

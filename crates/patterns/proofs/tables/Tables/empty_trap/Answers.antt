@@ -1,6 +1,6 @@
 use Rattle.std.proofs.Common.{◌∙◌}
 use Rattle.patterns.{specs.Groups.list_of, proofs.Traps.no_trap}
-use Rattle.patterns.proofs.tables.Tables.find_trapped.Goals as goal
+use Rattle.patterns.proofs.tables.Tables.empty_trap.Goals as goal
 
 pub returns-clause-tables : goal.returns-clause-tables
 returns-clause-tables g c = record {
