@@ -7,14 +7,17 @@ const NAMES = { l: "left", u: "up", r: "right", d: "down" };
 class Board {
     constructor(rows) {
         this.height = rows.length;
-        this.width = Math.max(...rows.map(row => row.length));
-        const at = (x, y) => rows[y][x] ?? " ";
-        const places = test => new Set(Array.from({ length: this.width * this.height }, (_, p) => p)
-            .filter(p => test.includes(at(p % this.width, Math.floor(p / this.width)))));
-        this.walls = places("#");
-        this.goals = places(".*+");
-        this.boxes = places("$*");
-        this.players = [...places("@+")];
+        this.width = rows.reduce((most, row) => Math.max(most, row.length), 0);
+        Object.assign(this, { walls: new Set(), goals: new Set(), boxes: new Set(), players: [] });
+        rows.forEach((row, y) => {
+            for (const { index, 0: character } of row.matchAll(/[^-_ ]/g)) {
+                const place = y * this.width + index;
+                if (character === "#") this.walls.add(place);
+                if (".*+".includes(character)) this.goals.add(place);
+                if ("$*".includes(character)) this.boxes.add(place);
+                if ("@+".includes(character)) this.players.push(place);
+            }
+        });
         this.room = this.region(this.players.slice(0, 1), new Set());
     }
     // the place of a cell, whose column and row count from 1, or -1 off the board
@@ -37,13 +40,15 @@ class Board {
     }
     // the places that are connected to a seed without walls and boxes
     region(seeds, boxes) {
+        const { width, height } = this, most = width * height;
         const free = place => !this.isWall(place) && !boxes.has(place);
         const found = new Set(seeds.filter(free)), work = [...found];
         while (work.length) {
-            const place = work.pop();
-            for (const dir in STEPS) {
-                const near = this.next(place, dir);
-                if (free(near) && !found.has(near)) {
+            const place = work.pop(), x = place % width;
+            const around = [x ? place - 1 : -1, place - width, x < width - 1 ? place + 1 : -1,
+                place + width];
+            for (const near of around) {
+                if (near < most && !found.has(near) && free(near)) {
                     found.add(near);
                     work.push(near);
                 }
@@ -58,7 +63,7 @@ class Board {
 class Play {
     constructor(board, text) {
         this.board = board;
-        this.letters = [...text].filter(letter => !" \t\r\n".includes(letter));
+        this.letters = text.replace(/[ \t\r\n]+/g, "");
         this.boxes = new Set(board.boxes);
         this.player = board.players[0] ?? -1;
         this.at = this.moves = this.pushes = this.changes = 0;

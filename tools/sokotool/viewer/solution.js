@@ -64,7 +64,7 @@ class SolutionView {
         const from = Math.max(0, Math.min(play.at - MOST_LETTERS / 2, this.end - MOST_LETTERS));
         const kind = i =>
             i === refusedAt ? "bad" : i < play.at ? "done" : i === play.at ? "here" : "";
-        const some = play.letters.slice(from, from + MOST_LETTERS).map((letter, i) =>
+        const some = [...play.letters.slice(from, from + MOST_LETTERS)].map((letter, i) =>
             html("span", { class: kind(from + i) }, /[!-~]/.test(letter) ? letter : "\u00b7"));
         this.letters.replaceChildren(from ? "\u2026" : "", ...some,
             from + MOST_LETTERS < this.end ? "\u2026" : "");
