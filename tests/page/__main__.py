@@ -82,11 +82,14 @@ def limits(check: Comparison) -> None:
 
 program, *named = arguments("page PROGRAM [PAGE]")
 cases, _room = Cases("page"), enter_folder()
-if not browser.PROGRAM:
-    cases.skip("sokoaudit.html in a browser", "there is no chromium")
-    cases.finish()
+page = os.path.abspath(named[0] if named else f"{TOP}/sokoaudit.html")
+for is_there, why in ((browser.PROGRAM, "there is no chromium"),
+                      (os.path.exists(page), "there is no such file; 'make page' makes it")):
+    if not is_there:
+        cases.skip("sokoaudit.html in a browser", why)
+        cases.finish()
 tab = Tab()
-tab.page = os.path.abspath(named[0] if named else f"{TOP}/sokoaudit.html")
+tab.page = page
 tab.start()
 tab.size(1280, 900)
 check = Comparison(cases, tab, program)
