@@ -38,11 +38,11 @@ def worst() -> Iterator[Timed]:
     yield passage(side=255, big=100, lines=3000, boxes=150, most=60)
     yield pairs(side=255, lines=2, most=200)
     yield chambers(side=255, big=60, lines=1500, rooms=40, most=90)
-    yield one_way(side=255, levels=10, most=130)
+    yield one_way(side=255, levels=10, most=10)
     yield squares(side=255, levels=100, most=10)
-    yield combs(side=127, most=160)
-    yield winding(side=127, most=75)
-    yield pockets(side=127, most=30)
+    yield combs(side=255, most=30)
+    yield winding(side=255, most=5)
+    yield pockets(side=255, most=5)
 
 
 def spelled(cells: Iterable[Cell]) -> str:

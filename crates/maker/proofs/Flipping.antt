@@ -3,7 +3,7 @@
 -- former goal of this box. That goal comes earlier in the queue, so the loop ends, and the goals of earlier visits still have their boxes.
 use Rattle.std.proofs.Common.{◌≡◌, ◌≢◌, ℕ, ◌+◌, ◌<◌, ◌≤◌, List, length, get_or, set, refl, sym, ◌∙◌, arith}
 use Rattle.std.specs.Prelude.{Option, None, Some}
-use Rattle.std.proofs.lemmas.List.{get_or-set_same, get_or-set_other}
+use Rattle.std.proofs.lemmas.List.{get_or-set_same, get_or-set_other, length-set}
 use Rattle.cellset.specs.Shape.{Extent}
 use Rattle.cellset.specs.Cell.{IsOn}
 use Rattle.cellset.specs.CellSet.{Cells}
@@ -14,7 +14,7 @@ use Rattle.cellset.proofs.ReadingOrder.{index_apart, below_index}
 use Rattle.cellset.proofs.Truth.{either}
 use Rattle.board.specs.Game.{Level}
 use Rattle.maker.specs.Matching.{InReach}
-use Rattle.maker.specs.Search.{Pairs, HasEntries, visit_at, cell_visited, IsTraced, IsSearch, EndsPath, IsMatchingOf, MatchesOneMore}
+use Rattle.maker.specs.Search.{Pairs, HasEntries, visit_at, cell_visited, IsTraced, IsSearch, IsFreeGoal, EndsPath, IsMatchingOf, MatchesOneMore}
 use Rattle.maker.specs.declared.zones.search.Visit.{Visit}
 use Rattle.maker.proofs.Flipped.{IsRematched, IsFreed, freed_start, freed_next, all_matched}
 
@@ -125,3 +125,24 @@ module _ (level : Level) (former : List (Option Cell)) (start : Cell) (visited :
         pairs = all_matched level matched (Pairs level.shape matching) (Pairs level.shape new) (one_match level.shape new) freed.cell start
             (flipping.others matched is) (table_matched level.shape matching freed.cell start (Some start) flipping.on entries refl) near lacks;
       }
+
+-- a goal is given to a box that can be pushed to it, and the box that had it gets a free goal
+pub passed_on : (level : Level) (matching : List (Option Cell)) (start b goal free : Cell) → HasEntries level.shape matching
+    → IsFreeGoal level matching free → InReach level b free → IsOn level.shape goal → Pairs level.shape matching goal b → InReach level start goal
+    → MatchesOneMore level matching start (set (set matching (index level.shape free) (get_or matching (index level.shape goal) None))
+    (index level.shape goal) (Some start))
+passed_on level matching start b goal free entries is_free near on pair near_start matched is box lacks =
+    let entry = get_or matching (index level.shape goal) None in
+    let between = set matching (index level.shape free) entry in
+    let new = set between (index level.shape goal) (Some start) in
+    let unmatched : (x : Cell) → Pairs level.shape matching free x → ⊥ = λ x p. let e = sym is_free.unmatched ∙ p.entry in cc in
+    let freed = freed_start level matched (Pairs level.shape matching) free is.pairs is_free.goal unmatched in
+    let first = table_matched level.shape matching free b entry is_free.on entries pair.entry in
+    let next = freed_next level matched (Pairs level.shape matching) (Pairs level.shape between) (one_match level.shape between) free b freed first near
+    goal (λ e. unmatched b (rw e at pair)) pair in
+    let last = table_matched level.shape between goal start (Some start) on (length-set matching (index level.shape free) entry ∙ entries) refl in
+    record {
+      boxes = λ c h. either (has_insert matched start c h) (λ e. rw e box) (is.boxes c);
+      pairs = all_matched level matched (Pairs level.shape between) (Pairs level.shape new) (one_match level.shape new) goal start next last near_start
+          lacks;
+    }

@@ -8,11 +8,11 @@ use Rattle.reach.specs.Reached.{Reached, PushesTo}
 use Rattle.board.specs.Game.{Level}
 use Rattle.maker.specs.Dead.{IsRoomOf}
 use Rattle.maker.specs.Matching.{InReach}
-use Rattle.maker.specs.Search.{IsFreeGoal}
+use Rattle.maker.specs.Search.{IsFreeGoal, Pairs}
 use Rattle.maker.specs.declared.zones.relay.Relay.{Relay}
 
 -- the relay is sound: its rows are on the grid of the level, `room` is the room, each target is in the reach of each source, and
--- the free goal, if there is one, is on the grid
+-- the goals that it keeps are on the grid
 pub record IsRelay (level : Level) (relay : Relay) : Type 0 where
   pub room : IsRoomOf level relay.room.now
   pub sources_on : relay.sources.extent ≡ level.shape
@@ -20,6 +20,7 @@ pub record IsRelay (level : Level) (relay : Relay) : Type 0 where
   pub reach_on : relay.reach.extent ≡ level.shape
   pub linked : (b c : Cell) → Has relay.sources.members b → Has relay.targets.members c → InReach level b c
   pub free_on : IfSome relay.free (IsOn level.shape)
+  pub given_on : IfSome relay.given (IsOn level.shape)
 
 -- the relays are the same, except perhaps for the reach of the last box
 pub record IsSameRelay (relay new : Relay) : Type 0 where
@@ -28,6 +29,7 @@ pub record IsSameRelay (relay new : Relay) : Type 0 where
   pub targets : new.targets ≡ relay.targets
   pub reach : new.reach.extent ≡ relay.reach.extent
   pub free : new.free ≡ relay.free
+  pub given : new.given ≡ relay.given
 
 -- the goal of the relay, if it has one, is free and in the reach of each source
 abbrev pub HasFreeGoal : Level → List (Option Cell) → Relay → Type 0
@@ -38,3 +40,12 @@ pub record IsReachOf (level : Level) (start : Cell) (reach : Cells) : Type 0 whe
   pub seeds : Cells
   pub only : (c : Cell) → Has seeds c ↔ (c ≡ start)
   pub exact : (c : Cell) → Has reach c ↔ Reached (PushesTo (Has level.room)) (Has seeds) c
+
+-- the goal is in the reach of the last box, and it is matched to a source
+pub record IsGivenGoal (level : Level) (matching : List (Option Cell)) (relay : Relay) (g : Cell) : Type 0 where
+  pub on : IsOn level.shape g
+  pub reached : Has relay.reach.members g
+  pub goal : Has level.goals g
+  pub box : Cell
+  pub pair : Pairs level.shape matching g box
+  pub source : Has relay.sources.members box

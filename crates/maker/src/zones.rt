@@ -12,9 +12,9 @@
 //! as matched boxes, and the set must hold the box of the search and exactly as many matched boxes as goals. The boxes matched to its
 //! goals are then all inside. No alternating path of the search leaves such a set, so the set holds every visited cell.
 //!
-//! Floods by rows of bits do most of the work. A relay gives many boxes a goal at the price of two floods. For any other box a flood
-//! finds all cells in its reach, and a free goal among them is an augmenting path. If there is none, more floods look for a Hall
-//! violator. The search cell by cell runs only if they decide nothing.
+//! Floods by rows of bits do most of the work. A relay gives many boxes a goal at the price of a few floods. For any other box a flood
+//! finds all cells in its reach. A free goal among them is an augmenting path, and so is the goal of a box to which the relay gives
+//! another one. If there is none, more floods look for a Hall violator. The search cell by cell runs only if they decide nothing.
 ghost use Rattle.std.specs.Prelude.{◌≡◌, ℕ, None, IfOk, IfSome, MatchBool, MatchOption, vec_capacity, slice_index_or};
 ghost use Rattle.cellset.specs.CellSet.{Cells, Has};
 ghost use Rattle.maker.specs.Zones.{SomeZoneRefutes, IsLeastZone};
@@ -112,9 +112,17 @@ fn match_box<S: CellSet>(
         matching[shape.index_of(goal)] = Some(start);
         return true;
     }
+    if relay.pass_on(board, matching, start) {
+        return true;
+    }
+    if let Some(goal) = relay.other_goal(board, matching) {
+        matching[shape.index_of(goal)] = Some(start);
+        return true;
+    }
     let Some(found) = find_path(board, matching, relay, search, start) else {
         return false;
     };
+    relay.move_after(board, matching, &search.visited, found.cell);
     flip(board, matching, &search.queue, found, start);
     true
 }

@@ -2,8 +2,11 @@
 //!
 //! A flood by pulls finds the cells from which a box can be pushed to the relay. A flood by pushes finds the cells to which a box can
 //! be pushed from there. So a box on one of the former cells has an augmenting path to any free goal on one of the latter, and needs
-//! no search.
-ghost use Rattle.std.specs.Prelude.{◌≡◌, ◌↔◌, Some, None, true, IfOk, IfSome, MatchOption, slice_index_or};
+//! no search. Nor does a box that can be pushed to the goal of a box on one of the former cells.
+//!
+//! A relay serves most boxes among cells between which boxes can be pushed to and fro. So after a box that it can't serve it moves to a
+//! cell between this box and its goal, and picks one in a row with many such cells.
+ghost use Rattle.std.specs.Prelude.{◌≡◌, ◌↔◌, Some, None, true, IfOk, IfSome, IsTrue, MatchBool, MatchOption, slice_index_or};
 ghost use Rattle.cellset.specs.SortedList.{index};
 ghost use Rattle.std.specs.FinSet as set;
 ghost use Rattle.cellset.specs.Cell.{IsOn};
@@ -11,9 +14,9 @@ ghost use Rattle.cellset.specs.CellSet.{Cells, Has};
 ghost use Rattle.cellset.specs.declared.cell.Cell.{Cell as GridCell};
 ghost use Rattle.reach.specs.Reached.{Reached, PushesTo};
 ghost use Rattle.board.specs.Game.{IsFloor};
-ghost use Rattle.maker.specs.Search.{HasEntries, IsFreeGoal};
+ghost use Rattle.maker.specs.Search.{HasEntries, IsFreeGoal, MatchesOneMore, Pairs};
 ghost use Rattle.maker.specs.Matching.{InReach};
-ghost use Rattle.maker.specs.Relay.{IsRelay, IsSameRelay, HasFreeGoal, IsReachOf};
+ghost use Rattle.maker.specs.Relay.{IsRelay, IsSameRelay, HasFreeGoal, IsReachOf, IsGivenGoal};
 
 use board::Board;
 use cellset::{Cell, CellSet, Shape};
@@ -22,7 +25,8 @@ use reach::step::{ByPull, ByPush, Step};
 use std::alloc::{AllocError, Global};
 
 /// A relay: the cells from which a box can be pushed to it (`sources`), the cells to which a box can be pushed from it (`targets`), and a
-/// free goal among the targets. It moves to the next box when no target is a free goal.
+/// free goal among the targets. It moves to the next box when no target is a free goal, and between a box and its goal when the box is no
+/// source.
 #[derive(Drop)]
 pub struct Relay<'r> {
     room: &'r Rows,
@@ -31,6 +35,8 @@ pub struct Relay<'r> {
     free: Option<Cell>,
     // The reach of the last box that was flooded, until `spread` uses it as a scratch buffer.
     reach: Rows,
+    // The goal that a source gave up last, since the relay moved. The next one is looked for from there on.
+    given: Option<Cell>,
 }
 
 impl<'r> Relay<'r> {
@@ -52,11 +58,12 @@ impl<'r> Relay<'r> {
             targets,
             free: None,
             reach: scratch,
+            given: None,
         })
     }
 
-    /// Returns a free goal to which a box can be pushed from a cell, as if there were no other boxes. If there is none, `store_reach` knows
-    /// every cell to which it can be pushed.
+    /// Returns the free goal of the relay, if a box can be pushed to it from a cell, as if there were no other boxes. If not, `store_reach`
+    /// knows every cell to which it can be pushed.
     pub fn goal_in_reach<S: CellSet>(
         &mut self,
         board: &Board<S>,
@@ -71,6 +78,8 @@ impl<'r> Relay<'r> {
         ensures exact { MatchOption result (IsReachOf board.now cell self.new.reach.members)
             (λ goal. IsFreeGoal board.now matching.now goal × InReach board.now cell goal) }
     {
+        // For the proof: the board is well formed.
+        let _shape = board.shape();
         self.renew(board, matching, cell);
         if self.free.is_none() {
             // The relay has moved to the cell, so the targets are the cell's reach. Another flood would take `make` up to 2 % more.
@@ -81,7 +90,26 @@ impl<'r> Relay<'r> {
             return Some(goal);
         }
         flood::<ByPush>(&mut self.reach, self.room, cell);
-        next_free(board, matching, &self.reach, board.shape().cell(1, 1))
+        let goal = self.goal_reached()?;
+        self.move_toward(board, matching, goal);
+        Some(goal)
+    }
+
+    /// Returns the first free goal in the reach of the last box, and moves toward it.
+    pub fn other_goal<S: CellSet>(
+        &mut self,
+        board: &Board<S>,
+        matching: &[Option<Cell>],
+    ) -> Option<Cell>
+        requires relay { IsRelay board.now self.old }
+        requires entries { HasEntries board.now.shape matching.now }
+        ensures relay { IsRelay board.now self.new }
+        ensures exact { MatchOption result (self.new ≡ self.old)
+            (λ goal. Has self.old.reach.members goal × IsFreeGoal board.now matching.now goal) }
+    {
+        let goal = next_free(board, matching, &self.reach, board.shape().cell(1, 1))?;
+        self.move_toward(board, matching, goal);
+        Some(goal)
     }
 
     // Finds the next free goal among the targets. If there is none, moves the relay to the cell.
@@ -103,13 +131,14 @@ impl<'r> Relay<'r> {
     fn move_to<S: CellSet>(&mut self, board: &Board<S>, matching: &[Option<Cell>], cell: Cell)
         requires relay { IsRelay board.now self.old }
         requires entries { HasEntries board.now.shape matching.now }
-        requires floor { IsFloor board.now cell }
+        requires on { IsOn board.now.shape cell }
         ensures relay { IsRelay board.now self.new }
         ensures free { HasFreeGoal board.now matching.now self.new }
         ensures reach { IsReachOf board.now cell self.new.targets.members }
     {
         flood::<ByPush>(&mut self.targets, self.room, cell);
         self.free = next_free(board, matching, &self.targets, board.shape().cell(1, 1));
+        self.given = None;
         if self.free.is_some() {
             flood::<ByPull>(&mut self.sources, self.room, cell);
         } else {
@@ -118,12 +147,124 @@ impl<'r> Relay<'r> {
         }
     }
 
+    // Moves to a cell of the reach from which a box can be pushed to the goal, or to the goal if there is none.
+    fn move_toward<S: CellSet>(&mut self, board: &Board<S>, matching: &[Option<Cell>], goal: Cell)
+        requires relay { IsRelay board.now self.old }
+        requires entries { HasEntries board.now.shape matching.now }
+        requires on { IsOn board.now.shape goal }
+        ensures relay { IsRelay board.now self.new }
+        ensures free { HasFreeGoal board.now matching.now self.new }
+    {
+        // The targets are a scratch buffer until the relay has moved, so no source may lead to them.
+        self.sources.clear();
+        flood::<ByPull>(&mut self.targets, self.room, goal);
+        let between = common_cell(&self.reach, &self.targets).unwrap_or(goal);
+        self.move_to(board, matching, between);
+    }
+
+    /// Moves to a cell that a search visited on its way to a goal.
+    pub fn move_after<S: CellSet>(
+        &mut self,
+        board: &Board<S>,
+        matching: &[Option<Cell>],
+        visited: &S,
+        goal: Cell,
+    )
+        requires relay { IsRelay board.now self.old }
+        requires entries { HasEntries board.now.shape matching.now }
+        requires visited { S.extent visited.now ≡ board.now.shape }
+        requires on { IsOn board.now.shape goal }
+        ensures relay { IsRelay board.now self.new }
+    {
+        self.reach.load(visited);
+        self.move_toward(board, matching, goal);
+    }
+
+    /// Matches a box whose reach the relay has to the goal of a source, and the source to the free goal. Returns false and changes nothing if
+    /// there is no free goal, or no goal of a source from the last such one on.
+    pub fn pass_on<S: CellSet>(
+        &mut self,
+        board: &Board<S>,
+        matching: &mut [Option<Cell>],
+        start: Cell,
+    ) -> bool
+        requires relay { IsRelay board.now self.old }
+        requires entries { HasEntries board.now.shape matching.old }
+        requires free { HasFreeGoal board.now matching.old self.old }
+        requires reach { IsReachOf board.now start self.old.reach.members }
+        ensures relay { IsRelay board.now self.new }
+        ensures entries { HasEntries board.now.shape matching.new }
+        ensures exact { MatchBool result (MatchesOneMore board.now matching.old start matching.new)
+            ((self.new ≡ self.old) × (matching.new ≡ matching.old)) }
+    {
+        let shape = board.shape();
+        let Some(free) = self.free else {
+            return false;
+        };
+        let Some(goal) = self.goal_to_give(board, matching) else {
+            return false;
+        };
+        matching[shape.index_of(free)] = matching[shape.index_of(goal)];
+        matching[shape.index_of(goal)] = Some(start);
+        self.given = Some(goal);
+        true
+    }
+
+    // Returns the first goal, from the last given one on, that is in the reach of the last box and matched to a source.
+    fn goal_to_give<S: CellSet>(&self, board: &Board<S>, matching: &[Option<Cell>]) -> Option<Cell>
+        requires relay { IsRelay board.now self.now }
+        requires entries { HasEntries board.now.shape matching.now }
+        ensures { IfSome result (λ goal. IsGivenGoal board.now matching.now self.now goal) }
+    {
+        let shape = board.shape();
+        let mut from = match self.given {
+            Some(goal) => Some(goal),
+            None => shape.cell(1, 1),
+        };
+        while let Some(at) = from {
+            let goal = board.goals().next_from(at)?;
+            if self.gives(shape, matching, goal) {
+                return Some(goal);
+            }
+            from = shape.next(goal);
+        }
+        None
+    }
+
+    // Returns whether a goal is in the reach of the last box and matched to a source.
+    fn gives(&self, shape: Shape, matching: &[Option<Cell>], goal: Cell) -> bool
+        requires entries { HasEntries shape matching.now }
+        requires on { IsOn shape goal }
+        ensures { IsTrue result → Has self.now.reach.members goal
+            × ((b : GridCell) × Pairs shape matching.now goal b × Has self.now.sources.members b) }
+    {
+        if !self.reach.has(goal) {
+            return false;
+        }
+        let Some(matched_box) = matching[shape.index_of(goal)] else {
+            return false;
+        };
+        self.sources.has(matched_box)
+    }
+
     /// Returns the free goal, if there is one and a box can be pushed from the cell to the relay.
     pub fn goal_for(&self, cell: Cell) -> Option<Cell>
         ensures { IfSome result (λ goal. (self.now.free ≡ Some goal) × Has self.now.sources.members cell) }
     {
         let goal = self.free?;
         if self.sources.has(cell) {
+            Some(goal)
+        } else {
+            None
+        }
+    }
+
+    // Returns the free goal, if there is one and the last box can be pushed to it.
+    fn goal_reached(&self) -> Option<Cell>
+        ensures { IfSome result (λ goal. (self.now.free ≡ Some goal) × Has self.now.reach.members goal) }
+    {
+        let goal = self.free?;
+        if self.reach.has(goal) {
             Some(goal)
         } else {
             None
@@ -166,6 +307,26 @@ fn flood<T: Step>(rows: &mut Rows, room: &Rows, cell: Cell)
     rows.clear();
     rows.insert(cell);
     rows.grow::<T>(room);
+}
+
+// Returns a cell that both have, in 64 columns of a row with the most of these cells.
+fn common_cell(cells: &Rows, others: &Rows) -> Option<Cell>
+    requires { others.now.extent ≡ cells.now.extent }
+    ensures { IfSome result (IsOn cells.now.extent) }
+{
+    let shape = cells.shape();
+    let mut most = 0;
+    let mut found = None;
+    for row in 1..shape.height() as u16 + 1 {
+        for part in 0..shape.width() / 64 + 1 {
+            let bits = cells.row(row as u8, part) & others.row(row as u8, part);
+            if bits.count_ones() > most {
+                most = bits.count_ones();
+                found = shape.cell(64 * part as u16 + bits.trailing_zeros() as u16, row);
+            }
+        }
+    }
+    found
 }
 
 // Returns the first goal, in reading order from a cell on, that is in the rows and matched to no box.

@@ -27,6 +27,7 @@ returns-then-is_some g c =
         reach_on = relay.reach_on;
         linked = linked;
         free_on = free_on_grid _ _ _ _ c.next_free-self.ensures;
+        given_on = tt;
       };
       free = free_linked _ _ _ _ _ linked c.next_free-self.ensures;
       reach = record { seeds = targets; only = from_targets; exact = rw relay.room.1 at targets_exact };
@@ -42,6 +43,7 @@ returns-else-is_some-clause-relay g c =
       reach_on = relay.reach_on;
       linked = λ b q h _. absurd (has_empty b (rw c.clear.ensures.members at h));
       free_on = free_on_grid _ _ _ _ c.next_free-self.ensures;
+      given_on = tt;
     }
 
 pub returns-else-is_some-clause-reach : goal.returns-else-is_some-clause-reach

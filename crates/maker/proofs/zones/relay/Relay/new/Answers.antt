@@ -10,4 +10,5 @@ returns g c = record {
   reach_on = c.requires;
   linked = λ b q h _. absurd (has_empty b (rw c.in_ok-sources.ensures.1 at h));
   free_on = tt;
+  given_on = tt;
 }
