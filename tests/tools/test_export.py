@@ -194,7 +194,7 @@ class Export(Case):
 
     def test_a_title_or_solution_that_would_not_come_back(self):
         data = f"{ONE}Title: First\n".encode()
-        content = written.content_of(data, levels.read(data), {1: export.Solution("R")})
+        content = written.content_of(data, levels.read(data), {1: export.Solution("R")}, {})
         for form in written.FORMS:
             text = "".join(line + "\n" for line in written.FORMS[form](content))
             for old, new, wanted in (("First", "Last", ["title"]), ("R", "Rl", ["solution"]),
