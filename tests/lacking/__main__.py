@@ -1,7 +1,7 @@
 """tests/run lacking PROGRAM [TEST..]: the tests of sokotool once more, without what Windows lacks
 and without what macOS lacks, side by side. PROGRAM is the sokoaudit that they run. Left out are the
-tests that need a browser, and those that only work on texts in memory. A Python 3.8 is used where
-there is one. Ends in 'N passed, M failed'."""
+tests that need a browser, take long or measure time, and those that only work on texts in memory. A
+Python 3.8 is used where there is one. Ends in 'N passed, M failed'."""
 import glob
 import os
 import re

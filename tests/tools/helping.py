@@ -16,6 +16,7 @@ from tests.runner import TOP, call
 # the system whose lacks this run has: windows, macos or none
 LACKING = os.environ.get("LACKING", "")
 not_on_windows = unittest.skipIf(LACKING == "windows", "Windows has no such thing")
+is_slow = unittest.skipIf(LACKING, "it takes long or measures time, and asks nothing of the system")
 needs_copies = unittest.skipIf(LACKING == "windows", "a search is a new Python there, without what "
                                "this test replaces")
 needs_a_memory_limit = unittest.skipIf(LACKING, "there is no limit of memory")

@@ -10,7 +10,7 @@ import zipfile
 
 from sokotool import answers, levels, main
 
-from .helping import ONE, TOP, Case, needs_a_memory_limit, not_on_windows
+from .helping import ONE, TOP, Case, is_slow, needs_a_memory_limit, not_on_windows
 
 TOOL = os.path.join(TOP, "sokotool")
 OTHER = "######\n#@ $.#\n######\n"
@@ -374,6 +374,7 @@ class Reading(Case):
             for name in glob.glob("out.*"):
                 os.remove(name)
 
+    @is_slow
     def test_short_lines(self):
         """33 MB of short lines take at most 20 s and 1 GB; a twentieth is tried here."""
         for unit in ("a\n", "r\n", "#\n", "r a\n"):

@@ -7,7 +7,7 @@ import time
 import unittest.mock
 
 import solve
-from tests.tools.helping import TOP, Case, needs_copies, not_on_windows
+from tests.tools.helping import TOP, Case, is_slow, needs_copies, not_on_windows
 from sokotool import levels
 from sokotool.game import Board
 from sokotool.search import refute
@@ -155,6 +155,7 @@ class Levels(Case):
                          ["find: level 1: gave up: its tables are full (1 of 1 done, 0 found)",
                           total(1, gave_up=1)])
 
+    @is_slow
     def test_time_is_kept_on_any_board(self):
         """A search ends within a second of its time limit, not counting the time of a run that
         needs no search. The machine may be busy, so the best of three tries counts."""
@@ -252,6 +253,7 @@ class Signs(Case):
 
 
 class Search(Case):
+    @is_slow
     def test_random_levels(self):
         """A list is found, and the audit accepts it, for each level that a plain search of all
         positions finds unsolvable, and for each other one a solution."""

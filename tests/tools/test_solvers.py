@@ -12,7 +12,7 @@ from sokotool import levels, solvers, texts
 from sokotool.search import refute
 from sokotool.search.budget import Budget, Limits
 from tests.tools.exports import ALPHA, BETA, GAMMA
-from tests.tools.helping import LACKING, SAMPLES, TOP, Case, needs_copies, not_on_windows
+from tests.tools.helping import LACKING, SAMPLES, TOP, Case, is_slow, needs_copies, not_on_windows
 from tests.tools.test_check import LOST, Check
 from tests.tools.test_export import Generator
 
@@ -107,6 +107,7 @@ class Solvers(Case):
         self.assertEqual(result.what, solvers.FAILED)
         self.assertIn("cannot be run", result.said[0])
 
+    @is_slow
     def test_a_gigabyte(self):
         """Without end, or with the letters at the end; of letters alone, and in one line."""
         for block in ("b'x' * 65535 + b'\\n'", "b'r' * 65536", "b'l\\n' * 32768"):
@@ -121,13 +122,14 @@ class Solvers(Case):
 
     def test_never_ends(self):
         """Its time is over, also if it ignores SIGTERM; what it found counts."""
+        seconds = 3 if LACKING else .5  # a Python without this and that takes longer to start
         for ignores in ("", "signal.signal(signal.SIGTERM, signal.SIG_IGN)\n"):
             for printed, what in (("", solvers.LATE), ("rRR", solvers.SOLVED)):
                 began = time.monotonic()
                 self.assertEqual(self.outcome(
                     f"{ignores}print('{printed}', flush=True)\nwhile True: time.sleep(9)",
-                    seconds=.5), what)
-                self.assertLess(time.monotonic() - began, 5)
+                    seconds=seconds), what)
+                self.assertLess(time.monotonic() - began, seconds + 4.5)
         self.assertEqual(self.outcome("os.close(1); os.close(2)\nwhile True: time.sleep(9)",
                                       seconds=.5), solvers.LATE)
 
@@ -156,6 +158,7 @@ print("rRR")
             time.sleep(.05)
         self.assertEqual(alive, [])
 
+    @is_slow
     def test_side_by_side(self):
         """Several at once, each level with its own letters, and one that dies loses only itself."""
         script = """
@@ -350,6 +353,7 @@ class Checks(Check):
         said = self.solve("print('rR')").err
         self.assertEqual(said.count("what it starts may go on"), LACKING == "windows")
 
+    @is_slow
     def test_the_example(self):
         """The solver of the examples solves fifty small levels."""
         boards = [Generator(seed).level()[0] for seed in range(50)]

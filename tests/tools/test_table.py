@@ -9,7 +9,7 @@ import unittest.mock
 from sokotool import auditor
 from tests.tools import helping
 from tests.tools.browser import PROGRAM as BROWSER
-from tests.tools.helping import Case, needs_a_memory_limit
+from tests.tools.helping import Case, is_slow, needs_a_memory_limit
 from tests.tools.test_page import data_of
 
 LEVELS = ("Warm-up\n#######\n#@ $ .#\n#######\n\nCorner turn\n######\n#    #\n#@$  #\n#  . #\n"
@@ -161,6 +161,7 @@ class Table(Case):
         self.assertIn("1\t<b>&  \tsolved\t3", rows[1])
         self.assertIn(b"<td>&lt;b&gt;&amp;  </td>", self.read("page.html"))
 
+    @is_slow
     @unittest.skipUnless(BROWSER, "there is no browser (chromium) here")
     def test_page_in_a_browser(self):
         """The table sorts by a click, and closes for an answer."""
