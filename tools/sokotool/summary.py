@@ -48,13 +48,12 @@ def lines(done: Done) -> Iterator[str]:
         f"{line.text}\tline {level.line}\t{level.title}".rstrip()
         for level, line in zip(done.now.levels, done.now.lines) if not line.is_answered])
     yield from done.searched
-    if done.before:
-        found = changes.changes(done.before, done.now)
-        yield from changed(found)
-        if done.edited:
-            yield f"edited by hand: {_levels(done.edited)} {changes.ranges(done.edited)}"
-        elif not found:
-            yield "nothing changed since the last time"
+    found = changes.changes(done.before, done.now) if done.before else []
+    yield from changed(found)
+    if done.edited:
+        yield f"edited by hand: {_levels(done.edited)} {changes.ranges(done.edited)}"
+    elif done.before and not found:
+        yield "nothing changed since the last time"
     if done.others:
         yield (f"with fewer pushes in {done.name}.other.answers: {_levels(done.others)} "
                f"{changes.ranges(done.others)}")

@@ -186,16 +186,19 @@ def write(given: Given, found: Found, done: Done) -> None:
 
 def searched(given: Given, found: Found, done: Done) -> Done:
     """Searches the levels that are left, and brings the files up to date as results come."""
+    known = done.read.memory.outcomes
+
     def take(way: str, results: Sequence[Tuple[boards.Form, Any]]) -> None:
         nonlocal done
         for form, result in results:
-            found.outcomes.keep(form, way, result.what, result.seconds)
+            for outcomes in (known, found.outcomes):
+                outcomes.keep(form, way, result.what, result.seconds)
             if result.record:
                 found.add(form, answers.read(answers.text([result.record])).records[0])
         done = settled(given, found, done)
 
     searching.search(given.shown, searching.ways(given.options, given.program), searching.Wanted(
-        lambda: done.audited.unanswered(done.merge.now), done.read.memory.outcomes, take))
+        lambda: done.audited.unanswered(done.merge.now), known, take))
     return done
 
 
