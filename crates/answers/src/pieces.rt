@@ -80,8 +80,8 @@ fn pieces_of(alloc: Global, lines: &[u8]) -> Result<Vec<&[u8]>, AllocError>
 }
 
 impl<'a> RecordText<'a> {
-    /// Returns the body lines as pieces of the text between their comments, line ends included. Those of a solution have its
-    /// letters.
+    /// Returns the body lines of a solution as pieces of the text between their comments, line ends included, which have its letters.
+    /// Nothing is said of a certificate.
     pub fn letters(&self, alloc: Global) -> Result<Vec<&'a [u8]>, AllocError>
         ensures letters { IfOk result (λ pieces. (lines : List (List ℕ)) → SaysOfLevel self.now (LetterLines lines) → ArePiecesOf lines pieces.items) }
         // For callers: a `u64` can count the bytes of all pieces.

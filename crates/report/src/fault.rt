@@ -104,13 +104,16 @@ impl Words {
 }
 
 impl fmt::Write for Words {
+    ghost use Rattle.std.specs.Prelude.{◌≡◌, ◌++◌, take};
+
+    // The text comes after the words, as far as there is room.
+    ghost write_str_gives = { λ old text new. take new.taken new.bytes ≡ take 64 (take old.taken old.bytes ++ text) };
+
     fn write_str(&mut self, text: &str) -> fmt::Result {
-        for byte in text.bytes() {
-            if self.taken < MOST_WORDS {
-                self.bytes[self.taken] = byte;
-                self.taken += 1;
-            }
-        }
+        let from = self.taken.min(MOST_WORDS);
+        let taken = text.len().min(MOST_WORDS - from);
+        self.bytes[from..from + taken].copy_from_slice(&text.as_bytes()[..taken]);
+        self.taken = from + taken;
         Ok(())
     }
 }

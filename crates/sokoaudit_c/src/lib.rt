@@ -138,7 +138,7 @@ pub extern "C" fn sokoaudit_dead(
 pub extern "C" fn sokoaudit_fault_text(outcome: &Outcome, text: &mut [u8]) -> usize
     // The buffer begins with some words, and the rest of it is unchanged.
     ensures words { (words : List ℕ) × (length words ≤ 64) × (result ≡ length words) × Holds text.old text.new words }
-    ensures none { outcome.now.fault ≡ 0 → result ≡ 0 }
+    ensures none { (outcome.now.fault ≡ 0) ⊎ (16 < outcome.now.fault) → result ≡ 0 }
 {
     let mut words = Words::new();
     if let Some(error) = error_of(outcome) {
