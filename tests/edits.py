@@ -9,7 +9,7 @@ from typing import List
 from tests.runner import Cases, read
 
 # a message that names a record goes on in a second line, where rt doesn't see that a name is gone
-WEAK = re.compile(r"^rt: .*: (BAD EDIT: |refused, as it must be( \(only |: .* record \.Rattle))")
+WEAK = re.compile(r"^rt: .*: (BAD EDIT: |refused, as it must be( \(only |: .* record `Rattle))")
 # what rt prints, shortened, and whether the edit is weak
 REFUSED = "must-fail play/stops.edit: refused, as it must be"
 PLANTED = (
@@ -17,7 +17,7 @@ PLANTED = (
     ("crates/play/must-fail/a/b.edit: BAD EDIT: an edit stands right in must-fail/", True),
     (f"{REFUSED} (only because a proof file names what the edit took away, ..): ..", True),
     (f"{REFUSED} (only by a limit of the prover, which gave no verdict, ..): ..", True),
-    (f"{REFUSED}: ./proofs/run/Answers.antt:9:3: error: `ends`: record .Rattle.play.Run", True),
+    (f"{REFUSED}: ./proofs/run/Answers.antt:9:3: error: `ends`: record `Rattle.play.Run", True),
     (f"{REFUSED}: ./proofs/run/Answers.antt:9:3: error: `search`: no proof of `goal.ends", False),
     (f"{REFUSED}: note: src/run.rt:9:1: it is not proved that what the function ensures", False),
     ("ok; handles allowed: none; must-fail edits: 157 refused, 2 bad; every proof ..", False),
