@@ -108,7 +108,7 @@ def test(cases: Cases, machine: str, program: str) -> None:
 def main() -> None:
     """Runs the part."""
     (program,) = arguments("native PROGRAM")
-    cases, _room = Cases("native"), enter_folder()
+    cases, room = Cases("native"), enter_folder()
     shutil.copytree(f"{TOP}/samples", "samples")
     write("samples/-odd.xsb", LEVEL)
     write("samples/grün.xsb", LEVEL)
@@ -118,6 +118,7 @@ def main() -> None:
     write("samples/unclosed", "sokoban-answers 1\nlevel 1\nsolution\n")
     for machine in MACHINES:
         test(cases, machine, program)
+    room.cleanup()
     cases.finish()
 
 
