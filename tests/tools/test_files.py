@@ -186,7 +186,8 @@ class Whole(Case):
             if not part:
                 whole, files = time.monotonic() - began, set(os.listdir("."))
             if tool.returncode:
-                self.assertEqual(tool.returncode, 130)
+                # Once the command is over, the signal ends the process.
+                self.assertIn(tool.returncode, (130, -signal.SIGINT))
                 # The last one may come when everything is written and reported.
                 self.assertIn(said, ("", "convert: 3000 levels, 0 solutions, 0 left out\n"))
             self.assertEqual(set(os.listdir(".")), files)
