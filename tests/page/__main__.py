@@ -2,19 +2,22 @@
 says with what PROGRAM prints. Ends in 'N passed, M failed'."""
 import os
 import random
+import re
+from typing import List
 
 from bench.measured import Size, cases as bench_cases
 from tests.page import hostile, using
 from tests.page.comparing import HEADER, Comparison
 from tests.page.driving import Tab
 from tests.reference.fuzz import batches
-from tests.runner import TOP, Cases, arguments, encode, enter_folder, read, write
+from tests.runner import TOP, Cases, arguments, encode, enter_folder, read, run, write
 from tests.tables.rows import rows, text
 from tests.tools import browser
 
 SAMPLES = ("first", "every", "deadlocks", "exports")
 TABLES = ("bytes", "certificates", "collections", "limits", "solutions", "words", "zones")
 RANDOM, SEED = 2000, 7
+MADE_OF = re.compile(r"Made of the sources <code>(\w+)</code> by <code>(.*?)</code>")
 
 
 def sample(name: str, folder: str = "samples") -> bytes:
@@ -80,26 +83,54 @@ def limits(check: Comparison) -> None:
     check.audit("10,001 levels", b"#\n\n" * 10001, HEADER, is_shown=False)
 
 
+def pages_of_the_sources() -> List[str]:
+    """Compares the page in the repository with the one that its sources make here. Returns the
+    pages to test: with another toolchain than the page names, both."""
+    kept = f"{TOP}/sokoaudit.html"
+    if not cases.holds("sokoaudit.html is there", os.path.exists(kept)):
+        return []
+    sources, kit = MADE_OF.findall(read(kept))[0]
+    make = f"{TOP}/packaging/page"
+    cases.same("the sources that the page names", f"{sources}\nstatus 0\n",
+               run([make, "--sources"]))
+    if not cases.needs("rt", "the page made anew"):
+        return [kept]
+    said = run([make, "--quick", "made.html"])
+    if said.endswith("status 3\n"):
+        cases.skip("the page made anew", said.splitlines()[0])
+        return [kept]
+    if not cases.holds("the page is made anew", said == "status 0\n", said):
+        return [kept]
+    if run(["rt", "version"]).startswith(f"{kit}\n"):
+        cases.holds("the page made anew has the same bytes", read(kept) == read("made.html"))
+        return [kept]
+    return [kept, os.path.abspath("made.html")]
+
+
+def test(page: str) -> None:
+    """Tests a page in the browser."""
+    tab = Tab()
+    tab.page = page
+    tab.start()
+    tab.size(1280, 900)
+    check = Comparison(cases, tab, program)
+    for part in (samples, hostile.texts, tables, random_cases, bench, limits):
+        tab.fresh()
+        part(check)
+        check.same(f"{part.__name__}: no error of a script", [], tab.errors)
+    for it in using.PARTS:
+        tab.fresh()
+        it(check, tab)
+        check.same(f"{it.__name__}: no error of a script", [], tab.errors)
+    tab.close()
+
+
 program, *named = arguments("page PROGRAM [PAGE]")
 cases, _room = Cases("page"), enter_folder()
-page = os.path.abspath(named[0] if named else f"{TOP}/sokoaudit.html")
-for is_there, why in ((browser.PROGRAM, "there is no chromium"),
-                      (os.path.exists(page), "there is no such file; 'make page' makes it")):
-    if not is_there:
-        cases.skip("sokoaudit.html in a browser", why)
-        cases.finish()
-tab = Tab()
-tab.page = page
-tab.start()
-tab.size(1280, 900)
-check = Comparison(cases, tab, program)
-for part in (samples, hostile.texts, tables, random_cases, bench, limits):
-    tab.fresh()
-    part(check)
-    check.same(f"{part.__name__}: no error of a script", [], tab.errors)
-for it in using.PARTS:
-    tab.fresh()
-    it(check, tab)
-    check.same(f"{it.__name__}: no error of a script", [], tab.errors)
-tab.close()
+pages = [os.path.abspath(it) for it in named] or pages_of_the_sources()
+if not browser.PROGRAM:
+    cases.skip("sokoaudit.html in a browser", "there is no chromium")
+    cases.finish()
+for it in pages:
+    test(it)
 cases.finish()
