@@ -10,7 +10,7 @@ import sys
 import tempfile
 from concurrent.futures import ProcessPoolExecutor
 from pathlib import Path
-from typing import (Any, Callable, Iterator, List, Mapping, NamedTuple, Optional, Sequence,
+from typing import (Any, Callable, Dict, Iterator, List, Mapping, NamedTuple, Optional, Sequence,
                     Tuple)
 
 TOP = os.path.dirname(os.path.dirname(os.path.realpath(__file__)))
@@ -127,14 +127,18 @@ class Cases:
                       "tests it", number)
         return is_soon
 
-    def side_by_side(self, parts: Mapping[str, Sequence[Any]]) -> None:
+    def side_by_side(self, parts: Mapping[str, Sequence[Any]]) -> Dict[str, Any]:
         """Runs parts at once, by their names, each in a process and a folder of its own, and adds
-        their cases. A part is a function, which gets its cases first, and more arguments."""
+        their cases. A part is a function, which gets its cases first, and more arguments. Returns
+        what the functions return."""
+        returned = {}
         with ProcessPoolExecutor(mp_context=multiprocessing.get_context("fork")) as pool:
-            waiting = [pool.submit(_part, f"{self.part}: {name}", *part)
-                       for name, part in parts.items()]
-            for it in waiting:
-                self.add(*it.result())
+            waiting = {name: pool.submit(_part, f"{self.part}: {name}", *part)
+                       for name, part in parts.items()}
+            for name, it in waiting.items():
+                counted, returned[name] = it.result()
+                self.add(*counted)
+        return returned
 
     def finish(self) -> None:
         """Prints how many cases passed, failed and were skipped, and ends the process."""
@@ -142,12 +146,12 @@ class Cases:
         sys.exit(self.failed != 0)
 
 
-def _part(name: str, function: Callable[..., None], *words: Any) -> Tuple[int, int, int]:
+def _part(name: str, function: Callable[..., Any], *words: Any) -> Tuple[Tuple[int, ...], Any]:
     cases = Cases(name)
     with enter_folder():
-        function(cases, *words)
+        returned = function(cases, *words)
     cases.say(str(cases))
-    return cases.passed, cases.failed, cases.skipped
+    return (cases.passed, cases.failed, cases.skipped), returned
 
 
 def decode(data: bytes) -> str:

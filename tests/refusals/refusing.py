@@ -11,6 +11,9 @@ from tests.runner import TOP, Cases, read, run_apart, write
 from tests.tables.rows import text
 
 Came = Tuple[str, str]  # what a run printed, and what it printed on standard error
+Counts = Dict[str, int]  # how many runs ended in which way
+# the types of sets of the calls, and the module of the crate `calls` that makes these
+SETS = {"whole": "whole", "list": "layers", "bits": "layers"}
 
 
 def library(cases: Cases) -> str:
@@ -28,7 +31,7 @@ class Refusals:
     def __init__(self, cases: Cases, program: str, refuse: str,
                  ending: Callable[[Came, Came], str]):
         self.cases, self.program, self.ending = cases, program, ending
-        self.counts: Dict[str, int] = Counter()
+        self.counts: Counts = Counter()
         self.variables = {**os.environ, "LD_PRELOAD": refuse, "REFUSE_COUNT": "refused"}
 
     def row(self, name: str, given: Sequence[str], ample: Came, before: float = inf) -> None:
@@ -55,11 +58,12 @@ class Refusals:
         came = run_apart([self.program, *given], env={**self.variables, **variables})
         return came, [*map(int, read("refused").split())]
 
-    def say_endings(self) -> None:
-        """Says how many runs ended in which way."""
+    def say_endings(self) -> Counts:
+        """Says how many runs ended in which way, and returns it."""
         memory, unmade, ample = (self.counts[it] for it in ("memory", "unmade", "ample"))
         self.cases.say(f"{memory} runs ran out of memory, {unmade} couldn't make their values, "
                        f"{ample} printed what is wanted")
+        return self.counts
 
 
 def program_ending(came: Came, _: Came) -> str:
@@ -68,7 +72,7 @@ def program_ending(came: Came, _: Came) -> str:
     return "memory" if came == ("status 2\n", "out of memory\n") else ""
 
 
-def of_program(cases: Cases, program: str, refuse: str, like: str, *more: str) -> None:
+def of_program(cases: Cases, program: str, refuse: str, like: str, *more: str) -> Counts:
     """The program on each row, and on more words. It runs out of memory, or prints what the program
     'like' prints with ample memory."""
     runs = Refusals(cases, program, refuse, program_ending)
@@ -84,7 +88,7 @@ def of_program(cases: Cases, program: str, refuse: str, like: str, *more: str) -
         for command in commands:
             given = command.split()
             runs.row(f"{command} on {name}", given, run_apart([like, *given]))
-    runs.say_endings()
+    return runs.say_endings()
 
 
 # a result that says that a call ran out of memory; a call over whole texts has then written nothing
@@ -102,25 +106,20 @@ def call_ending(came: Came, ample: Came) -> str:
     return "memory" if MEMORY.fullmatch(said) and borrowed == lent else ""
 
 
-def of_calls(cases: Cases, program: str, refuse: str, sets: str) -> None:
-    """Each call that the crate `calls` makes on these sets, on each row for which its values can be
+def of_call(cases: Cases, program: str, refuse: str, sets: str, call: str) -> Counts:
+    """A call that the crate `calls` makes on these sets, on each row for which its values can be
     made, once for each result. It runs out of memory if an allocation is refused."""
-    runs, wanted = Refusals(cases, program, refuse, call_ending), {}
-    for call, is_frugal in calls_in("whole" if sets == "whole" else "layers").items():
-        done, before = set(), runs.counts["memory"]
-        for name, *texts in CALLED:
-            given = words(sets, call, *texts)
-            ample = run_apart([program, *given])
-            if call_ending(ample, ample) != "unmade" and ample[0] not in done:
-                done.add(ample[0])
-                # the program reads its words, and makes no call of this name
-                _, (_, words_alone) = runs.run(["fuses", "none", *given[2:]])
-                runs.row(f"{call}, {name}", given, ample, words_alone)
-        wanted[call] = runs.counts["memory"] - before
-        cases.holds(f"{call} is made", done)
-        cases.holds(f"{call} runs out of memory exactly if it allocates",
-                    (wanted[call] == 0) == is_frugal, f"{wanted[call]} times")
-    numbers = " ".join(f"{call} {times}" for call, times in wanted.items())
-    cases.say(f"out of memory, by call: {numbers}")
-    cases.holds("the calls are found", len(wanted) >= (4 if sets == "whole" else 25))
-    runs.say_endings()
+    runs, done = Refusals(cases, program, refuse, call_ending), set()
+    for name, *texts in CALLED:
+        given = words(sets, call, *texts)
+        ample = run_apart([program, *given])
+        if call_ending(ample, ample) != "unmade" and ample[0] not in done:
+            done.add(ample[0])
+            # the program reads its words, and makes no call of this name
+            _, (_, words_alone) = runs.run(["fuses", "none", *given[2:]])
+            runs.row(f"{call}, {name}", given, ample, words_alone)
+    cases.holds(f"{call} is made", done)
+    is_frugal = calls_in(SETS[sets])[call]
+    cases.holds(f"{call} runs out of memory exactly if it allocates",
+                (runs.counts["memory"] == 0) == is_frugal, f"{runs.counts['memory']} times")
+    return runs.say_endings()
