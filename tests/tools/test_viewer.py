@@ -9,9 +9,12 @@ SAMPLES = ("every", "first", "exports", "deadlocks")
 SOLVED = re.compile(r"^level (\d+) solved moves (\d+) pushes (\d+) changes (\d+)", re.M)
 LISTED = re.compile(r"^level (\d+) unsolvable patterns (\d+)", re.M)
 # the patterns of the list that is shown which a push leaves uncovered
-OPEN_PUSHES = """view.certificate.patterns.filter(pattern =>
-    view.certificate.pushesOut(pattern).some(push => push.covered < 0))
-    .map(pattern => pattern.line)"""
+OPEN_PUSHES = """view.certificate.patterns.filter(pattern => {
+    const work = view.certificate.pushesOut(pattern);
+    let step = work.next();
+    while (!step.done) step = work.next();
+    return step.value.some(push => push.covered < 0);
+}).map(pattern => pattern.line)"""
 
 
 class Eye(Page):
@@ -172,3 +175,46 @@ class Addresses(Page):
         self.holds(HASH, "#2")
         shared.ask("new Promise(done => setTimeout(done, 400))")
         self.assertEqual((shared.ask(HASH), shared.ask(SAID)), ("#2", ""))
+
+
+class Large(Page):
+    """What is large: the page answers while it works."""
+
+    # the longest time in milliseconds for which the page didn't answer
+    LONGEST = """(async work => {
+        let longest = 0, last = performance.now(), isOver = false;
+        const tick = () => {
+            longest = Math.max(longest, performance.now() - last);
+            last = performance.now();
+            if (!isOver) setTimeout(tick);
+        };
+        setTimeout(tick);
+        work();
+        while (!(%s)) await new Promise(done => setTimeout(done, 20));
+        isOver = true;
+        tick();
+        return longest;
+    })(() => { %s; })"""
+
+    def test_long_list(self):
+        row = "#" + " " * 98 + "#\n"
+        level = "#" * 100 + "\n#@" + " " * 97 + "#\n" + row * 16 + "".join(
+            "#" + " " * 50 + "$" + " " * 46 + ".#\n" + row for _ in range(16)) + "#" * 100 + "\n"
+        boxes = [f"52,{19 + 2 * i}" for i in range(16)]
+        lines = "".join("pattern " + " ".join(box for i, box in enumerate(boxes) if n >> i & 1)
+                        + " @ 2,2\n" for n in range(1, 65536))
+        self.page(level, "level 1\nunsolvable\n" + lines + "end\n",
+                  "level 1 unsolvable patterns 65535\n"
+                  "total 1 solved 0 unsolvable 1 refused 0 missing 0\n")
+        self.open()
+        done = "document.querySelectorAll('.arrow').length === 64"
+        self.assertLess(shared.ask(self.LONGEST % (done, "go(1); view.show(65535)")), 1000)
+        self.assertEqual(self.all(".pushes button")[0], "push 52,18 d: covered by pattern 2")
+
+    def test_large_levels(self):
+        level = ("#" * 255 + "\n#@$." + " " * 250 + "#\n" + ("#" + " $" * 126 + " #\n") * 252
+                 + "#" * 255 + "\n\n")
+        self.page(level * 40)
+        self.open()
+        work = "for (const level of LEVELS) level.board = null; overview(true)"
+        self.assertLess(shared.ask(self.LONGEST % ("!undrawn.size", work)), 1000)

@@ -12,6 +12,8 @@ class PatternsView {
         this.certificate = new Certificate(this.board, this.lines);
         this.refused = this.lines.findIndex(({ line }) => line === refused);
         this.push = this.refused >= 0 && why === "push" ? { at, dir } : null;
+        this.work = new Parts();
+        this.startWork = new Parts();
         this.build();
         this.go(Number(this.at) || this.refused + 1 || 1);
     }
@@ -27,32 +29,49 @@ class PatternsView {
         const input = () => this.number.value && this.show(this.number.value);
         this.number = html("input", { type: "number", min: 1, max: this.lines.length,
             "aria-label": "pattern", oninput: input });
-        const start = this.certificate.covering(this.board.players[0] ?? -1, this.board.boxes);
+        const toStart = html("span");
         const button = (name, label, act) =>
             html("button", { "aria-label": label, onclick: act }, name);
         this.side.append(html("p", { class: "controls" },
             button("previous", "previous pattern", () => this.step(-1)),
             html("label", {}, "pattern ", this.number, ` of ${this.lines.length}`),
             button("next", "next pattern", () => this.step(1)),
-            start < 0 ? "" : button("start position", undefined, () => this.show(start + 1))),
-        this.note, this.moves, html("p", { class: "key" }, LEGEND));
+            toStart), this.note, this.moves, html("p", { class: "key" }, LEGEND));
+        const { board: { players, boxes } } = this;
+        this.startWork.run(this.certificate.covering(players[0] ?? -1, boxes), start => start < 0
+            || toStart.append(button("start position", undefined, () => this.show(start + 1))));
     }
-    // draws a pattern, counted from 1
+    // draws a pattern, counted from 1, and the pushes out of it once they are found
     go(to) {
         this.now = Math.max(1, Math.min(this.lines.length, Number(to) || 1));
-        const pattern = this.certificate.patterns[this.now - 1], { boxes, line } = pattern;
-        const region = this.certificate.regionOf(pattern), cells = many(region.size, "cell");
-        const isOnBoard = ![...boxes].some(box => box < 0);
-        const pushes = isOnBoard ? this.certificate.pushesOut(pattern) : [];
+        const pattern = this.certificate.patterns[this.now - 1];
+        const isOnBoard = ![...pattern.boxes].some(box => box < 0);
+        if (Number(this.number.value) !== this.now) this.number.value = this.now;
+        if (!isOnBoard) {
+            this.work.stop();
+            this.draw(pattern, []);
+            return;
+        }
+        const isDone = this.work.run(this.certificate.pushesOut(pattern), (pushes, isLate) => {
+            this.draw(pattern, pushes);
+            if (isLate) say(this.note.textContent);
+        });
+        if (!isDone) this.draw(pattern, null);
+    }
+    // draws a pattern with the pushes out of it, or null while they aren't known
+    draw(pattern, pushes) {
+        const { boxes, line } = pattern, region = pattern.region();
+        const cells = many(region.size, "cell");
         this.pane.replaceChildren(draw(this.board, { boxes, shade: region,
             others: othersOf(this.board, boxes), where: `player in ${cells}`,
-            arrows: pushes.map(out => this.arrow(out)) }));
-        if (Number(this.number.value) !== this.now) this.number.value = this.now;
-        this.moves.replaceChildren(...pushes.map(out => html("li", { class: this.kind(out) },
-            out.covered < 0 ? this.words(out)
+            arrows: (pushes ?? []).map(out => this.arrow(out)) }));
+        this.moves.replaceChildren(...(pushes ?? []).map(out =>
+            html("li", { class: this.kind(out) }, out.covered < 0 ? this.words(out)
                 : html("button", { onclick: () => this.follow(out) }, this.words(out)))));
+        const outs = pushes ? `${many(pushes.length, "push", "pushes")} out`
+            : "looking for the patterns that cover the pushes";
         this.note.textContent = `Line ${line}. ${many(boxes.size, "box", "boxes")}, ${cells} where `
-            + `the player may be, ${many(pushes.length, "push", "pushes")} out.${this.fault()}`;
+            + `the player may be, ${outs}.${this.fault()}`;
     }
     arrow(out) {
         return { from: out.player, dir: out.dir, kind: this.kind(out), title: this.words(out),
@@ -87,7 +106,10 @@ class PatternsView {
         this.show(out.covered + 1);
         (this.moves.querySelector("button") ?? this.note).focus();
     }
-    stop() {}
+    stop() {
+        this.work.stop();
+        this.startWork.stop();
+    }
 }
 
 // the boxes of the start that a pattern leaves out: the nearest one to each of its boxes that is

@@ -3,12 +3,35 @@
 const SVG = "http://www.w3.org/2000/svg";
 // the limit of cells in the name of a picture
 const MOST_NAMED = 60;
+// how many milliseconds a part of long work takes
+const LONGEST_PART = 50;
 
 function svg(name, attributes, parent) {
     const element = document.createElementNS(SVG, name);
     for (const key in attributes) element.setAttribute(key, attributes[key]);
     parent?.append(element);
     return element;
+}
+
+// Work in parts: a generator runs for some milliseconds at a time, so that the page answers. New
+// work replaces what still runs.
+class Parts {
+    // gives the value of the work to a function, and whether it is late; returns whether it isn't
+    run(work, done) {
+        this.stop();
+        return this.part(work, done, false);
+    }
+    part(work, done, isLate) {
+        const end = performance.now() + LONGEST_PART;
+        let step = work.next();
+        while (!step.done && performance.now() < end) step = work.next();
+        if (step.done) done(step.value, isLate);
+        else this.timer = setTimeout(() => this.part(work, done, true));
+        return step.done;
+    }
+    stop() {
+        clearTimeout(this.timer);
+    }
 }
 
 // an HTML element with its children, texts among them

@@ -124,55 +124,92 @@ class Play {
 
 const cellsOf = text => text.split(" ").map(cell => cell.split(",").map(Number));
 
-// a line 'pattern BOXES @ SEEDS' or 'zone CELLS' as lists of cells; seeds null for the whole room
+// a line 'pattern BOXES @ SEEDS', its cells still in words, or 'zone CELLS' as a list of cells
 function certificateLine([line, text]) {
     const pattern = /^pattern ([0-9, ]+) @ (\*|[0-9, ]+)$/.exec(text);
-    if (pattern) {
-        const seeds = pattern[2] === "*" ? null : cellsOf(pattern[2]);
-        return { line, text, boxes: cellsOf(pattern[1]), seeds };
-    }
+    if (pattern) return { line, text, boxes: pattern[1], seeds: pattern[2] };
     const zone = /^zone ([0-9, ]+)$/.exec(text);
     return zone ? { line, text, zone: cellsOf(zone[1]) } : { line, text };
 }
 
-// A list of patterns on a board: their regions, the pushes out of them, and the patterns that cover
-// the results.
+// A pattern on a board, whose words are read when they are asked for.
+class Pattern {
+    constructor(board, { line, boxes, seeds }) {
+        Object.assign(this, { board, line, words: { boxes, seeds } });
+    }
+    places(words) {
+        return cellsOf(words).map(cell => this.board.place(cell));
+    }
+    get boxes() {
+        return this.foundBoxes ??= new Set(this.places(this.words.boxes));
+    }
+    // where the player may be; it isn't kept, since a long list would take too much memory
+    region() {
+        const { board, boxes, words: { seeds } } = this;
+        return board.region(seeds === "*" ? [...board.room] : this.places(seeds), boxes);
+    }
+    // whether a player that stands on no box of the pattern is in its region
+    has(player) {
+        return this.words.seeds === "*" ? this.board.room.has(player) : this.region().has(player);
+    }
+}
+
+// A list of patterns on a board: the pushes out of them, and the patterns that cover the results.
+// Its generators pause often, since a list may be long.
 class Certificate {
     constructor(board, lines) {
         this.board = board;
-        this.patterns = lines.map(({ line, boxes, seeds }) => {
-            const places = new Set(boxes.map(cell => board.place(cell)));
-            const starts = seeds?.map(cell => board.place(cell)) ?? [...board.room];
-            return { line, boxes: places, seeds: starts };
-        });
+        this.patterns = lines.map(line => new Pattern(board, line));
+        // the numbers of the patterns, by their first boxes
+        this.byBox = new Map();
+        this.read = 0;
     }
-    regionOf(pattern) {
-        pattern.region ??= this.board.region(pattern.seeds, pattern.boxes);
-        return pattern.region;
+    *readAll() {
+        for (; this.read < this.patterns.length; this.read++) {
+            const [box] = this.patterns[this.read].boxes;
+            if (!this.byBox.has(box)) this.byBox.set(box, []);
+            this.byBox.get(box).push(this.read);
+            yield;
+        }
     }
     // the first pattern that covers a state, or -1
-    covering(player, boxes) {
-        return this.patterns.findIndex(pattern => pattern.boxes.size <= boxes.size
-            && [...pattern.boxes].every(box => boxes.has(box))
-            && this.regionOf(pattern).has(player));
+    *covering(player, boxes) {
+        yield* this.readAll();
+        let best = this.patterns.length;
+        for (const box of boxes) {
+            for (const i of this.byBox.get(box) ?? []) {
+                if (i >= best) break;
+                const pattern = this.patterns[i];
+                if (pattern.boxes.size <= boxes.size && isWithin(pattern.boxes, boxes)
+                    && pattern.has(player)) best = i;
+                yield;
+            }
+        }
+        return best < this.patterns.length ? best : -1;
     }
     // the pushes out of a pattern, in order of the player's cell, then in the order lurd
-    pushesOut(pattern) {
-        const found = [];
+    *pushesOut(pattern) {
+        const found = [], region = pattern.region();
         for (const box of pattern.boxes) {
             for (const dir in STEPS) {
                 const player = this.board.next(box, BACK[dir]), to = this.board.next(box, dir);
-                if (player < 0 || !this.regionOf(pattern).has(player)) continue;
+                if (player < 0 || !region.has(player)) continue;
                 if (this.board.isWall(to) || pattern.boxes.has(to)) continue;
                 const boxes = new Set(pattern.boxes);
                 boxes.delete(box);
                 boxes.add(to);
-                found.push({ player, dir, from: box, to, covered: this.covering(box, boxes) });
+                const covered = yield* this.covering(box, boxes);
+                found.push({ player, dir, from: box, to, covered });
             }
         }
         return found.sort((a, b) => a.player - b.player
             || "lurd".indexOf(a.dir) - "lurd".indexOf(b.dir));
     }
+}
+
+function isWithin(some, all) {
+    for (const place of some) if (!all.has(place)) return false;
+    return true;
 }
 
 // where a zone leaks: a cell of it from which a relaxed push leads out

@@ -35,6 +35,7 @@ function route() {
     const [number, at] = routed.slice(1).split(":"), before = shownLevel;
     clearTimeout(settling);
     view.stop();
+    drawing.stop();
     view = STILL;
     say("");
     shownLevel = LEVELS[Number(number) - 1] ?? null;

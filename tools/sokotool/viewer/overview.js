@@ -14,6 +14,8 @@ const boardOf = level => level.board ??= new Board(level.rows);
 
 // the levels that the overview shows, the status that it is limited to, and the level chosen last
 let found = LEVELS, wanted = "", chosen = null;
+// the levels whose cards are in the page and not drawn yet, and the work that draws them
+const undrawn = new Set(), drawing = new Parts();
 
 // ---- cards
 
@@ -53,24 +55,43 @@ function placesInView({ columns, height }) {
 // Puts the cards in view into the page, and draws the new ones, or all. A card that stays isn't
 // moved, since it would lose the focus.
 function overview(all = false) {
-    const place = $("overview"), { columns, width, height } = grid(), palette = colours();
+    const place = $("overview"), { columns, width, height } = grid();
     const places = placesInView({ columns, height }), isShown = new Set(places.map(i => found[i]));
     for (const level of LEVELS) {
         if (level.card && !isShown.has(level)) {
             level.card.remove();
             level.card = null;
+            undrawn.delete(level);
         }
     }
     place.style.height = `${Math.ceil(found.length / columns) * height}px`;
+    if (all) undrawn.clear();
     places.reduceRight((next, i) => {
         const level = found[i], isNew = !level.card, card = level.card ??= makeCard(level);
         if (isNew) place.insertBefore(card, next);
         card.style.width = `${width - CARD.gap}px`;
         card.style.left = `${i % columns * width}px`;
         card.style.top = `${Math.floor(i / columns) * height}px`;
-        if (isNew || all) sketch(card.querySelector("canvas"), boardOf(level), palette);
+        if (isNew || all) undrawn.add(level);
         return card;
     }, $("nothing"));
+    drawing.run(sketches(places.map(i => found[i])), () => {});
+}
+
+// draws the cards that aren't drawn yet, the ones in view first
+function* sketches(levels) {
+    const palette = colours();
+    const isInView = ({ card }) => {
+        const { top, bottom } = card.getBoundingClientRect();
+        return bottom > 0 && top < innerHeight;
+    };
+    const waiting = levels.filter(level => undrawn.has(level));
+    const first = new Set(waiting.filter(isInView));
+    for (const level of new Set([...first, ...waiting])) {
+        sketch(level.card.querySelector("canvas"), boardOf(level), palette);
+        undrawn.delete(level);
+        yield;
+    }
 }
 
 // ---- the levels that are shown
