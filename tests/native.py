@@ -120,10 +120,9 @@ def test(cases: Cases, machine: str, program: str) -> None:
     other = os.path.abspath(f"run-{machine}")
     write(other, f'#!/bin/sh\n{words} {os.path.abspath(machine)}/{name} "$@"\n')
     os.chmod(other, 0o755)
-    if machine == "windows":
-        # Wine's services, which take long to start, stay while a program comes each minute
-        call(["wineserver", "-p60"])
-    call([other, "--version"])
+    # Wine's services, which take long to start, stay while a program comes each minute. They keep
+    # the streams of the first program.
+    call(["sh", "-c", f"{{ wineserver -p60; {other} --version; }} >/dev/null 2>&1"])
     os.chdir("samples")
     compare(cases, machine, other, program)
     os.chdir("..")
