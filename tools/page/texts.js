@@ -101,7 +101,8 @@ class Gap {
         this.name = name ?? this.name;
         if (above) {
             const goesOn = this.wasAbove && line[0] === ";" && this.above.at(-1).line[0] === ";";
-            this.above = [...goesOn ? this.above : [], { line, above }];
+            if (!goesOn) this.above = [];
+            this.above.push({ line, above });
         }
         this.wasAbove = Boolean(above);
         if (isBlank(line)) {
