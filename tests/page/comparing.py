@@ -1,5 +1,5 @@
-"""Compares what the page says with what the program prints: reports, faults, statuses, answers that
-are made, maps of dead squares; and the levels and records that it shows with those of
+"""Compares what the page says with what the program prints (reports, faults, statuses, made
+answers, maps of dead squares), and the levels and records that it shows with the data of
 'sokotool page'."""
 import json
 import re

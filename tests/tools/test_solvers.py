@@ -38,7 +38,7 @@ RECORD = b"level 1\nsolution\nrRR\nend\n"
 
 
 def solver(command: str) -> solvers.Solver:
-    """A solver of which all is told, and whose certificates are refused."""
+    """A solver whose output is all shown, and whose certificates are refused."""
     return solvers.Solver(command, lambda *_: "no", True)
 
 
@@ -279,7 +279,7 @@ class Checks(Check):
     @needs_copies
     def test_a_certificate(self):
         """A certificate in what is printed, or in a file, counts like a solution once the audit has
-        accepted it. What is refused is told."""
+        accepted it. What is refused is reported."""
         with open(os.path.join(SAMPLES, "deadlocks.xsb"), encoding="utf-8") as file:
             self.write("a.txt", "".join(file.readlines()[24:31]))
         listed = "pattern 3,2 5,2 @ 2,2\\npattern 4,2 5,2 @ 2,2\\n"

@@ -1,4 +1,4 @@
-"""The exports that a command reads: files, the files of folders, and those of zip archives. A file
+"""The exports that a command reads: files, and the files in folders and zip archives. A file
 .sokoignore in a folder has names and wildcards of files and folders there that aren't read."""
 import fnmatch
 import os
