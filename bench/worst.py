@@ -33,11 +33,12 @@ def worst() -> Iterator[Timed]:
     yield corridor(side=255, lines=1000, most=3, has_trap=True)
     yield decoys(side=120, boxes=60, big=60, lines=1500, most=6)
     yield decoys(side=120, boxes=60, big=60, lines=1500, most=15, ahead=True)
+    yield halves(side=120, boxes=40, big=150, lines=3000, most=18)
     yield one_for_all(side=255, lines=12000, most=20)
     yield last_fails(side=60, lines=300, decoys=1000, most=5)
-    yield passage(side=255, big=100, lines=3000, boxes=150, most=60)
-    yield pairs(side=255, lines=2, most=200)
-    yield chambers(side=255, big=60, lines=1500, rooms=40, most=90)
+    yield passage(side=255, big=100, lines=3000, boxes=150, most=10)
+    yield pairs(side=255, lines=2, most=150)
+    yield chambers(side=255, big=60, lines=1500, rooms=40, most=25)
     yield one_way(side=255, levels=10, most=10)
     yield squares(side=255, levels=100, most=10)
     yield combs(side=255, most=30)
@@ -129,6 +130,16 @@ def decoys(side: int, boxes: int, big: int, lines: int, most: float, ahead: bool
     name = "lines that match every state and cover none" + ", with the box ahead" * ahead
     return Timed(name, AUDIT, hall.level([*some, hall.plug]), listed(
         [*(line([*it, hall.plug]) for it in heads), *hall.decoys(some, lines)]), most)
+
+
+def halves(side: int, boxes: int, big: int, lines: int, most: float) -> Timed:
+    """Patterns that two halves of their own cover in turn, push by push, among decoys."""
+    hall, every = Hall(side), grid(range(9, side - 4, 4), range(9, side - 4, 4))
+    some, rest = every[:boxes], every[boxes:]
+    heads = [some, *([*part, it] for it in rest[:big] for part in (some, some[::2], some[1::2]))]
+    return Timed("lines that two others cover in turn", AUDIT, hall.level([*some, hall.plug]),
+                 listed([*(line([*it, hall.plug]) for it in heads),
+                         *hall.decoys(some, lines)]), most)
 
 
 def one_for_all(side: int, lines: int, most: float) -> Timed:

@@ -19,14 +19,25 @@ function bytesOf(text) {
     return bytes;
 }
 
-// calls a function with each line of a text, its number, and where it begins and the next one. A CR
-// before an LF belongs to the end of the line
+const isBlank = line => !/[^ \t\n\r\v\f]/.test(line);
+const isBlankByte = byte => byte === 32 || byte >= 9 && byte <= 13;
+
+// calls a function with each line of a text, its number, where it begins and the next one, and 1. A
+// CR before an LF belongs to the end of the line. Blank lines in a row are given as one, with their
+// count, because a text may have millions
 function eachLine(text, does, at = 0) {
-    for (let number = 1; at < text.length; number++) {
-        const found = text.indexOf("\n", at), next = found < 0 ? text.length : found + 1;
-        let end = found < 0 ? next : found;
+    for (let number = 1, count = 1; at < text.length; number += count) {
+        const found = text.indexOf("\n", at);
+        let next = found < 0 ? text.length : found + 1, end = found < 0 ? next : found;
         if (found > at && text.charCodeAt(found - 1) === 13) end--;
-        does(text.slice(at, end), number, at, next);
+        const line = text.slice(at, end);
+        count = 1;
+        if (text.charCodeAt(at) <= 32 && isBlank(line)) {
+            for (let to = next, byte; isBlankByte(byte = text.charCodeAt(to)); to++) {
+                if (byte === 10) count++, next = to + 1;
+            }
+        }
+        does(line, number, at, next, count);
         at = next;
     }
 }
@@ -34,6 +45,7 @@ function eachLine(text, does, at = 0) {
 const many = (number, one) => `${number} ${one}${number === 1 ? "" : "s"}`;
 const few = numbers => numbers.slice(0, 12).join(", ") + (numbers.length > 12 ? ", .." : "");
 
+// the lines of a report or of a level's rows, neither of which has blank lines
 function linesOf(text) {
     const lines = [];
     eachLine(text, line => lines.push(line));
@@ -58,7 +70,6 @@ const SOLUTION = new RegExp(`^\\W*(?:[A-Za-z'\\x80-\\xff]+${SPACE}+){0,2}solutio
 // The flag i would take \xe3 for \xc3 in the bytes of UTF-8.
 const lowered = line => line.replace(/[A-Z]+/g, letters => letters.toLowerCase());
 const stripped = line => line.replace(/^[ \t\n\r\v\f]+|[ \t\n\r\v\f]+$/g, "");
-const isBlank = line => !/[^ \t\n\r\v\f]/.test(line);
 // what a line says after a key, or null
 function after(key, line, low) {
     const match = key.exec(low);
@@ -96,7 +107,7 @@ class Gap {
         Object.assign(this, { isFirst, title: null, name: null, above: [], wasAbove: false,
             last: null, blanks: 0, short: null });
     }
-    add(line, { title, name, above, isShort }) {
+    add(line, count, { title, name, above, isBlank: isNothing, isShort }) {
         this.title = title ?? this.title;
         this.name = name ?? this.name;
         if (above) {
@@ -105,8 +116,8 @@ class Gap {
             this.above.push({ line, above });
         }
         this.wasAbove = Boolean(above);
-        if (isBlank(line)) {
-            this.blanks++;
+        if (isNothing) {
+            this.blanks += count;
             return;
         }
         this.short = isShort ? { line, before: this.last, blanks: this.blanks } : null;
@@ -195,8 +206,8 @@ function sayingOf(line) {
     const isShort = line.length < MOST_TITLE, low = lowered(isShort ? line : "");
     const title = after(TITLE, line, low), name = title === null ? after(NAME, line, low) : null;
     const isPlain = isShort && title === null && name === null, above = isPlain ? titleIn(line) : "";
-    return { title, name, above, isShort: isPlain && !above && !isBlank(line) && ONLY_LETTERS.test(line),
-        isLetters: isLetters(line), rest: headed(line) };
+    return { title, name, above, isBlank: isBlank(line), isLetters: isLetters(line), rest: headed(line),
+        isShort: isPlain && !above && !isBlank(line) && ONLY_LETTERS.test(line) };
 }
 
 // the levels of a text: number, first line, title, span, and the groups of letters below
@@ -204,7 +215,7 @@ function levelsIn(text) {
     const levels = [], gaps = [new Gap(true)], sayings = new Map();
     let wasRow = false, below = new Below();
     const start = text.startsWith("\xef\xbb\xbf") ? 3 : 0;
-    eachLine(text, (line, number, at, end) => {
+    eachLine(text, (line, number, at, end, count) => {
         const row = isRow(line);
         if (row && !wasRow) {
             below = new Below();
@@ -218,7 +229,7 @@ function levelsIn(text) {
                 saying = sayingOf(line);
                 if (sayings.size < MOST_CACHED) sayings.set(line, saying);
             }
-            gaps.at(-1).add(line, saying);
+            gaps.at(-1).add(line, count, saying);
             below.add(line, number, saying);
         }
         wasRow = row;

@@ -3,7 +3,7 @@ use Rattle.std.specs.Prelude.{◌≡◌, ℕ}
 use Rattle.cellset.specs.{Shape.Extent, CellSet.Cells, CellSet.Has, CellSet.Lacks, declared.cell.Cell.Cell}
 use Rattle.board.specs.Game.{Level}
 use Rattle.patterns.specs.{Pattern.Pattern, Pattern.Covers, Sides.cells_in, declared.piece.Piece.Piece, declared.groups.Groups.Groups, Groups.boxes_of}
-use Rattle.patterns.specs.{declared.tables.FilledTables.FilledTables, Tables.GroupCovers, Tables.IsReadyFor, Tables.IsRoomy, Subsets.AreSubsets}
+use Rattle.patterns.specs.{declared.tables.FilledTables.FilledTables, Tables.GroupCovers, Tables.IsReadyFor, Tables.IsRoomy, Subsets.LeadsOn}
 
 -- each pattern that covers these boxes with the one player covers them with the other
 abbrev pub AreCoveredAlike : Level → Cells → Cell → Cell → Type 0
@@ -29,5 +29,5 @@ pub record IsPiece {S : Type 0} (members : S → Cells) (filled : FilledTables S
   pub room : Has filled.tables.board.now.room piece.player
   pub cells : (q : Cell) → Has (members piece.cells) q → AreCoveredAlike filled.tables.board.now boxes piece.player q
   pub loose : (c : Cell) → Has (members piece.loose) c → IsLoose filled.tables.board.now filled.tables.groups boxes piece.player c
-  pub subsets : AreSubsets filled.tables.groups boxes piece.subsets
+  pub subsets : LeadsOn filled.tables.groups piece.subsets
   pub lookup : IsReadyFor filled boxes piece.player piece.lookup

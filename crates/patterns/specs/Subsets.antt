@@ -1,6 +1,5 @@
--- The groups whose boxes are among the boxes of a state, as far as a search has found them.
+-- The groups whose boxes are among the boxes of a state, and how far a search for them has come.
 use Rattle.std.specs.Prelude.{ℕ, ◌<◌, ◌≤◌, length}
-use Rattle.std.specs.List.{All}
 use Rattle.cellset.specs.{CellSet.Cells, CellSet.Has, declared.cell.Cell.Cell}
 use Rattle.patterns.specs.{Sides.cells_in, Groups.boxes_of, declared.groups.Groups.Groups, declared.subsets.Subsets.Subsets}
 
@@ -9,7 +8,6 @@ pub record IsSubset (groups : Groups) (boxes : Cells) (g : ℕ) : Type 0 where
   pub within : g < length groups.spans.items
   pub has : (c : Cell) → Has (cells_in (boxes_of groups g)) c → Has boxes c
 
--- the groups that were found are such groups, and the link leads to a group or to none
-pub record AreSubsets (groups : Groups) (boxes : Cells) (subsets : Subsets) : Type 0 where
-  pub found : All (IsSubset groups boxes) subsets.found.items
-  pub link : subsets.link ≤ length groups.spans.items
+-- the link leads to a group or to none
+abbrev pub LeadsOn : Groups → Subsets → Type 0
+LeadsOn groups subsets = subsets.link ≤ length groups.spans.items

@@ -14,17 +14,17 @@
 //!   push, and one side of the pushed box decides.
 //! - **Lookups** (`lookup`) need filled tables. A breadth-first search builds a spanning tree of the room (`tree`), and each group goes into the
 //!   bucket of one of its boxes, the one that the fewest lines have. A lookup goes through the buckets of the state's boxes.
-//! - **Pushes by lookups** (`push_lookups`): the group that covered the last state is asked first. Then one look through the groups finds
-//!   which boxes can be pushed by all players of one piece of the room less the boxes (`piece`). The groups whose boxes are among the state's
-//!   are found once for all pieces (`subsets`). A push that is still left is looked up by itself, first in the bucket of the cell ahead.
+//! - **Pushes by lookups** (`push_lookups`): the group that covered the last result of a push from the same cell is asked first. Then one
+//!   look through the groups finds which boxes can be pushed by all players of one piece of the room less the boxes (`piece`, `subsets`). A
+//!   push that is still left is looked up by itself, first in the bucket of the cell ahead.
 //!
 //! A group costs a look at its boxes. If they match and the region is parted, the player's path to the root is walked, once for each lookup
 //! or look: at most as many steps as the room has cells. In the worst case a lookup or look goes through each group.
 //!
 //! Suppose that a line without the pushed box covers each result. Then the pushes take groups × lines if the region of each group is one
 //! piece. Otherwise they also take pieces × those lines whose boxes are all there, where a piece counts again if the pushes come back to it.
-//! If only lines with a box on the cell ahead cover the results, they take pushes × lines, or less if these lines are in the bucket of this
-//! cell.
+//! They take far less if the same lines cover the results of many groups. If only lines with a box on the cell ahead cover the results, they
+//! take pushes × lines, or less if these lines are in the bucket of this cell.
 #![tactic(auto)]
 
 mod arena;

@@ -30,8 +30,6 @@ pub struct Scratch {
     /// The boxes on the player's path to the root, if the path was walked.
     pub hits: Vec<Hit>,
     pub walked: bool,
-    /// The group that covered the last state. The next lookup tries it first.
-    pub last: usize,
 }
 
 impl Scratch {
@@ -43,7 +41,6 @@ impl Scratch {
         Ok(Scratch {
             hits,
             walked: false,
-            last: 0,
         })
     }
 }
@@ -164,14 +161,8 @@ pub fn is_any_covering<S: CellSet>(
     }
     let query = Query { player, boxes };
     scratch.walked = false;
-    if is_last_covering(filled, &query, scratch) {
-        return true;
-    }
     match find_covering(filled, &query, scratch) {
-        Some(group) => {
-            scratch.last = group;
-            true
-        }
+        Some(_) => true,
         None => false,
     }
 }
@@ -203,8 +194,9 @@ pub(crate) fn is_covered_after<S: CellSet>(
     covered
 }
 
-// Returns true only if the group that covered the last state covers the result of the push. The state stays as it is.
-pub(crate) fn is_last_after<S: CellSet>(
+// Returns true only if a group covers the result of the push. The state stays as it is.
+pub(crate) fn covers_result<S: CellSet>(
+    group: usize,
     push: Push,
     filled: &FilledTables<S>,
     lookup: &mut Scratch,
@@ -219,6 +211,9 @@ pub(crate) fn is_last_after<S: CellSet>(
     ensures lookup { IsRoomy filled.now lookup.new }
     ensures covered { IsTrue result → IsCovered filled.now.tables.board.now (list_of filled.now.tables.groups) (state_after (S.members state.old) push) }
 {
+    if group >= filled.tables.groups.spans.len() {
+        return false;
+    }
     state.remove(push.from);
     state.insert(push.to);
     lookup.walked = false;
@@ -226,30 +221,10 @@ pub(crate) fn is_last_after<S: CellSet>(
         player: push.from,
         boxes: state,
     };
-    let covered = is_last_covering(filled, &query, lookup);
+    let covered = is_covering(filled, group, &query, lookup);
     state.remove(push.to);
     state.insert(push.from);
     covered
-}
-
-// Returns whether the group that covered the last state covers this one.
-fn is_last_covering<S: CellSet>(
-    filled: &FilledTables<S>,
-    query: &Query<S>,
-    scratch: &mut Scratch,
-) -> bool
-    requires filled { AreFilled filled.now }
-    requires player { Has filled.now.tables.board.now.room query.now.player }
-    requires extent { S.extent query.now.boxes.now ≡ filled.now.tables.board.now.shape }
-    requires scratch { IsReadyFor filled.now (S.members query.now.boxes.now) query.now.player scratch.old }
-    ensures scratch { IsReadyFor filled.now (S.members query.now.boxes.now) query.now.player scratch.new }
-    ensures covered { IsTrue result → IsCovered filled.now.tables.board.now (list_of filled.now.tables.groups) (record { player = query.now.player; boxes = S.members query.now.boxes.now }) }
-{
-    let last = scratch.last;
-    if last >= filled.tables.groups.spans.len() {
-        return false;
-    }
-    is_covering(filled, last, query, scratch)
 }
 
 // Returns a group that covers the state.

@@ -4,11 +4,11 @@
 //! steps from its region to a cell that none of them bars. Walks keep a state covered. So one look through the groups in the buckets of
 //! the boxes serves all pushes from one piece of the room less the boxes.
 //!
-//! This module exists for speed. Without it each push that hints don't settle costs a lookup among all groups. It doesn't help where only
-//! groups with a box on the cell ahead cover the result, and less the more pieces there are.
+//! This module exists for speed. Without it each push that neither hints nor the group asked first settle costs a lookup among all groups.
+//! It doesn't help where only groups with a box on the cell ahead cover the result, and less the more pieces there are.
 ghost use Rattle.std.specs.Prelude.{◌≡◌, ◌⊎◌, ◌<◌, IfOk, IsTrue, length};
 ghost use Rattle.cellset.specs.{Cell.IsOn, CellSet.Cells, CellSet.Has, CellSet.Lacks, declared.cell.Cell.Cell as GridCell};
-ghost use Rattle.patterns.specs.{Pattern.IsCovered, Piece.IsPiece, Piece.IsPieceSpace, Subsets.AreSubsets};
+ghost use Rattle.patterns.specs.{Pattern.IsCovered, Piece.IsPiece, Piece.IsPieceSpace};
 ghost use Rattle.patterns.specs.{Run.state_after, Sides.cells_in, GroupPushes.IsPushOf, Groups.list_of};
 ghost use Rattle.patterns.specs.Tables.{AreFilled};
 
@@ -28,6 +28,8 @@ pub struct Piece<S: CellSet> {
     pub cells: S,
     pub flooded: bool,
     pub loose: S,
+    /// The group that covered the player last.
+    pub found: usize,
     pub subsets: Subsets,
     pub lookup: Scratch,
     pub flooder: Flooder,
@@ -44,28 +46,26 @@ impl<S: CellSet> Piece<S> {
         let loose = S::new(alloc, shape)?;
         let seeds = S::new(alloc, shape)?;
         let lookup = Scratch::new(alloc, filled)?;
-        let subsets = Subsets::new(alloc, filled)?;
         let flooder = Flooder::new(alloc, shape)?;
         Ok(Piece {
             player: filled.tables.board.player(),
             cells,
             flooded: true,
             loose,
-            subsets,
+            found: 0,
+            subsets: Subsets::default(),
             lookup,
             flooder,
             seeds,
         })
     }
 
-    // Makes it the piece of a player, for the boxes of the subsets. Only the player's cell is known then, and no flood finds more if
-    // `flooded` is true.
+    // Makes it the piece of a player. Only the player's cell is known then, and no flood finds more if `flooded` is true.
     pub(crate) fn begin(&mut self, filled: &FilledTables<S>, player: Cell, flooded: bool)
         requires space { IsPieceSpace S.extent filled.now self.old }
         requires player { Has filled.now.tables.board.now.room player }
         ensures space { IsPieceSpace S.extent filled.now self.new }
-        ensures piece { (boxes : Cells) → AreSubsets filled.now.tables.groups boxes self.old.subsets → IsPiece S.members filled.now boxes self.new }
-        ensures found { Has (S.members self.new.cells) player }
+        ensures piece { (boxes : Cells) → IsPiece S.members filled.now boxes self.new }
     {
         // For the proof: the board is well formed.
         let _shape = filled.tables.board.shape();
@@ -74,7 +74,7 @@ impl<S: CellSet> Piece<S> {
         self.cells.insert(player);
         self.flooded = flooded;
         self.loose.clear();
-        self.subsets.restart();
+        self.subsets = Subsets::default();
         self.lookup.walked = false;
     }
 
@@ -98,7 +98,18 @@ impl<S: CellSet> Piece<S> {
     {
         self.enter(filled, state, push.player);
         self.look(filled, boxes, state, push.from);
-        self.loose.contains(push.from)
+        self.is_loose(filled, state, push)
+    }
+
+    // Returns true only if a group covers the result of a push, as far as the look has come.
+    pub(crate) fn is_loose(&self, filled: &FilledTables<S>, state: &S, push: Push) -> bool
+        requires filled { AreFilled filled.now }
+        requires space { IsPieceSpace S.extent filled.now self.now }
+        requires piece { IsPiece S.members filled.now (S.members state.now) self.now }
+        requires push { IsPushOf filled.now.tables.board.now (S.members state.now) push }
+        ensures { IsTrue result → IsCovered filled.now.tables.board.now (list_of filled.now.tables.groups) (state_after (S.members state.now) push) }
+    {
+        self.cells.contains(push.player) && self.loose.contains(push.from)
     }
 
     // Makes it the piece of a player, unless it is.
@@ -110,7 +121,6 @@ impl<S: CellSet> Piece<S> {
         requires player { Has filled.now.tables.board.now.room player }
         ensures space { IsPieceSpace S.extent filled.now self.new }
         ensures piece { IsPiece S.members filled.now (S.members state.now) self.new }
-        ensures found { Has (S.members self.new.cells) player }
     {
         // For the proof: the board is well formed.
         let _shape = filled.tables.board.shape();
@@ -144,7 +154,6 @@ impl<S: CellSet> Piece<S> {
         requires from { IsOn filled.now.tables.board.now.shape from }
         ensures space { IsPieceSpace S.extent filled.now self.new }
         ensures piece { IsPiece S.members filled.now (S.members state.now) self.new }
-        ensures same { self.new.cells ≡ self.old.cells }
     {
         // No more groups can follow than there are.
         for _ in 0..filled.tables.groups.spans.len() {
@@ -161,7 +170,7 @@ impl<S: CellSet> Piece<S> {
             if !is_subset_covering(filled, group, &query, &mut self.lookup) {
                 continue;
             }
-            self.lookup.last = group;
+            self.found = group;
             loosen(boxes, filled.tables.groups.boxes(group), &mut self.loose);
         }
     }

@@ -1,7 +1,7 @@
 //! Lookups of the pushes that hints don't settle.
 //!
-//! The group that covered the last state is asked first, then the groups that lack the pushed box (`piece`), then those in the bucket of
-//! its new cell, and then all groups.
+//! The group that covered the last result of a push from the same cell is asked first. Then come the groups that lack the pushed box
+//! (`piece`), those in the bucket of its new cell, and all groups.
 ghost use Rattle.std.specs.Prelude.{◌≡◌, ◌<◌, ◌↔◌, IsTrue, IfOk, IfSome, length};
 ghost use Rattle.cellset.specs.{Cell.IsOn, CellSet.Has, declared.cell.Cell.Cell as GridCell};
 ghost use Rattle.board.specs.Game.{moved};
@@ -11,7 +11,7 @@ ghost use Rattle.patterns.specs.Tables.{AreFilled};
 
 use crate::cells::{is_same, load};
 use crate::hints::{hash_of, hash_without};
-use crate::lookup::{Scratch, is_covered_after, is_last_after};
+use crate::lookup::{Scratch, covers_result, is_covered_after};
 use crate::piece::Piece;
 use crate::pushes::{PushedBox, is_hinted, push_of};
 use crate::tables::FilledTables;
@@ -26,6 +26,8 @@ pub struct PushScratch<S: CellSet> {
     pub state: S,
     pub piece: Piece<S>,
     pub lookup: Scratch,
+    /// By index of a cell, the group that covered the last result of a push from there.
+    pub covering: Vec<usize>,
 }
 
 impl<S: CellSet> PushScratch<S> {
@@ -37,10 +39,12 @@ impl<S: CellSet> PushScratch<S> {
         let state = S::new(alloc, filled.tables.board.shape())?;
         let lookup = Scratch::new(alloc, filled)?;
         let piece = Piece::new(alloc, filled)?;
+        let covering = vec![in alloc; 0; filled.tree.numbers.len()]?;
         Ok(PushScratch {
             state,
             piece,
             lookup,
+            covering,
         })
     }
 
@@ -54,7 +58,6 @@ impl<S: CellSet> PushScratch<S> {
         // For the proof: the board is well formed.
         let _shape = filled.tables.board.shape();
         load(boxes, &mut self.state);
-        self.piece.subsets.clear(filled);
         self.piece.begin(filled, filled.tables.board.player(), true);
     }
 
@@ -69,15 +72,44 @@ impl<S: CellSet> PushScratch<S> {
         ensures loaded { IsLoaded S.members filled.now (cells_in boxes.now) self.new }
         ensures exact { IsTrue result ↔ IsCovered filled.now.tables.board.now (list_of filled.now.tables.groups) (state_after (cells_in boxes.now) push) }
     {
-        if is_last_after(push, filled, &mut self.lookup, &mut self.state) {
+        if self.piece.is_loose(filled, &self.state, push) {
+            return true;
+        }
+        if self.is_remembered(filled, push) {
             return true;
         }
         if self.piece.covers(filled, boxes, &self.state, push) {
-            self.lookup.last = self.piece.lookup.last;
+            self.remember(push.from);
             return true;
         }
         is_ahead(filled, &self.state, push)
             || is_covered_after(push, filled, &mut self.lookup, &mut self.state)
+    }
+
+    // Returns true only if the group that covered the last result of a push from the same cell covers the result of this one.
+    fn is_remembered(&mut self, filled: &FilledTables<S>, push: Push) -> bool
+        requires push { IsPushOf filled.now.tables.board.now (S.members self.old.state) push }
+        requires ready { IsReady S.extent filled.now self.old }
+        ensures ready { IsReady S.extent filled.now self.new }
+        ensures state { S.members self.new.state ≡ S.members self.old.state }
+        ensures piece { self.new.piece ≡ self.old.piece }
+        ensures covered { IsTrue result → IsCovered filled.now.tables.board.now (list_of filled.now.tables.groups) (state_after (S.members self.old.state) push) }
+    {
+        let Some(group) = self.covering.get(index_of(push.from)) else {
+            return false;
+        };
+        covers_result(*group, push, filled, &mut self.lookup, &mut self.state)
+    }
+
+    // Keeps the group that the piece found for a push from a cell.
+    fn remember(&mut self, from: Cell)
+        ensures state { self.new.state ≡ self.old.state }
+        ensures piece { self.new.piece ≡ self.old.piece }
+        ensures lookup { self.new.lookup ≡ self.old.lookup }
+    {
+        if let Some(group) = self.covering.get_mut(index_of(from)) {
+            *group = self.piece.found;
+        }
     }
 }
 

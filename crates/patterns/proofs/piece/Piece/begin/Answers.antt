@@ -1,21 +1,18 @@
-use Rattle.std.proofs.{Common.inl, Common.inr, lemmas.Bool.false≢true}
-use Rattle.cellset.proofs.Members.{has_empty, has_insert, inserted}
+use Rattle.std.proofs.{Common.arith, Common.inl, Common.inr, lemmas.Bool.false≢true}
+use Rattle.cellset.proofs.Members.{has_empty, has_insert}
 use Rattle.patterns.proofs.piece.Piece.begin.Goals as goal
 
 pub returns-clause-piece : goal.returns-clause-piece
-returns-clause-piece g c = λ boxes subsets. record {
+returns-clause-piece g c = λ boxes. record {
   room = c.requires.player;
   cells = λ q has. elim (has_insert _ c.args.player q (rw c.insert.ensures.members at has)) [
     | inl e ↦ rw e (λ pattern covers. covers)
     | inr old ↦ has_empty q (rw c.clear.ensures.members at old)
   ];
   loose = λ q has. has_empty q (rw c.clear-2.ensures.members at has);
-  subsets = record { found = rw c.restart.ensures.found subsets.found; link = rw c.restart.ensures.link subsets.link };
+  subsets = omega arith;
   lookup = record { roomy = c.requires.space.roomy; walked = λ h. absurd (false≢true h) };
 }
-
-pub returns-clause-found : goal.returns-clause-found
-returns-clause-found g c = rw c.insert.ensures.members (inserted _ c.args.player)
 
 pub insert-requires : goal.insert-requires
 insert-requires g c = rw (c.clear.ensures.extent, c.requires.space.cells) (c.shape-shape.ensures.formed.room c.args.player c.requires.player).0

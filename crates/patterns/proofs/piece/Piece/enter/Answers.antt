@@ -1,8 +1,7 @@
 use Rattle.std.proofs.Common.{◌≡◌}
 use Rattle.cellset.specs.CellSet.{only}
-use Rattle.patterns.{specs.Subsets.AreSubsets, proofs.Loose.covered_alike}
+use Rattle.patterns.proofs.Loose.{covered_alike}
 use Rattle.patterns.proofs.piece.Piece.enter.Goals as goal
-use Rattle.patterns.proofs.piece.Piece.enter.Goals.{then-not-self+else-contains-2, else-not-self}
 
 pub returns-then-contains-2-clause-piece : goal.returns-then-contains-2-clause-piece
 returns-then-contains-2-clause-piece g c =
@@ -18,9 +17,4 @@ returns-then-contains-2-clause-piece g c =
     }
 
 pub returns-clause-piece : goal.returns-clause-piece
-returns-clause-piece g c =
-    let subsets : AreSubsets c.args.filled.now.tables.groups (g.S.CellSet.members c.args.state.now) c.if-not-self.self.subsets = elim c.if-not-self.branch [
-      | then-not-self+else-contains-2 w ↦ rw w.self-is c.requires.piece.subsets
-      | else-not-self w ↦ rw w.self-is c.requires.piece.subsets
-    ] in
-    c.begin.ensures.piece _ subsets
+returns-clause-piece g c = c.begin.ensures.piece _

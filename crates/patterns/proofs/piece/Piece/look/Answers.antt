@@ -29,8 +29,7 @@ loop-preserved g c =
             lacks = rw c.boxes.ensures at lacks;
           }
         ];
-        subsets = c.in-Some.ensures.subsets;
+        subsets = c.in-Some.ensures.link;
         lookup = record { roomy = ready.roomy; walked = ready.walked };
       };
-      same = c.loop.invariant.same;
     }

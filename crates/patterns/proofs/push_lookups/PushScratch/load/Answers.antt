@@ -4,4 +4,4 @@ pub load-requires : goal.load-requires
 load-requires g c = λ q has. rw c.requires.ready.state (c.requires.boxes q has)
 
 pub returns-clause-loaded : goal.returns-clause-loaded
-returns-clause-loaded g c = record { state = c.load.ensures.members; piece = c.begin.ensures.piece _ (c.clear.ensures _) }
+returns-clause-loaded g c = record { state = c.load.ensures.members; piece = c.begin.ensures.piece _ }

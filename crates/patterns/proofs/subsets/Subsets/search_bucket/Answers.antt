@@ -9,7 +9,7 @@ falls g c =
     let filled = c.args.filled.now in
     let all = c.requires.filled.buckets in
     let long = all.long in
-    let link = c.loop-self.invariant.subsets.link in
+    let link = c.loop-self.invariant.link in
     let up = c.loop-self-test.true in
     let last = led_on filled.buckets.keys.items filled.buckets.chains.first.items filled.buckets.chains.next.items _ _ all.chained
     c.loop-self.self.link c.index.result.now up (omega arith) c.index.ensures refl in
@@ -18,23 +18,23 @@ falls g c =
 
 pub are_in-requires : goal.are_in-requires
 are_in-requires g c =
-    let link = c.loop-self.invariant.subsets.link in
+    let link = c.loop-self.invariant.link in
     let up = c.loop-self-test.true in
     λ q has. rw c.requires.extent (boxes_on c.args.filled.now.tables.board.now c.args.filled.now.tables.groups c.requires.filled.are.lawful c.requires.filled.are.grouped
     (c.loop-self.self.link - 1) (omega arith) c.boxes-kept.result.now c.boxes-kept.ensures q has)
 
 pub returns-then-are_in-clause-found : goal.returns-then-are_in-clause-found
 returns-then-are_in-clause-found g c =
-    let link = c.loop-self.invariant.subsets.link in
+    let link = c.loop-self.invariant.link in
     let up = c.loop-self-test.true in
     record { within = omega arith; has = rw c.boxes-kept.ensures at c.if-are_in.ensures }
 
 pub loop-self-preserved : goal.loop-self-preserved
 loop-self-preserved g c =
     let was = c.loop-self.invariant in
-    let low = was.subsets.link in
+    let low = was.link in
     let less = falls g (goal.at.loop-self-preserved g c).After-index in
-    record { subsets = record { found = was.subsets.found; link = omega arith }; same = was.same }
+    record { link = omega arith; same = was.same }
 
 pub loop-self-smaller : goal.loop-self-smaller
 loop-self-smaller g c = falls g (goal.at.loop-self-smaller g c).After-index

@@ -1,10 +1,10 @@
 use Rattle.std.proofs.Common.{◌≡◌}
-use Rattle.patterns.specs.Subsets.{AreSubsets}
+use Rattle.patterns.specs.Subsets.{LeadsOn}
 use Rattle.patterns.proofs.subsets.Subsets.search_bucket.Given as goal
 
 abbrev pub invariant-loop-self : goal.invariant-loop-self
 invariant-loop-self g l = record {
-  subsets : AreSubsets l.filled.tables.groups (g.S.CellSet.members l.state) l.self;
+  link : LeadsOn l.filled.tables.groups l.self;
   same : l.self.begun ≡ l.fn.self.begun;
 }
 
