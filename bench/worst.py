@@ -37,7 +37,7 @@ def worst() -> Iterator[Timed]:
     yield one_for_all(side=255, lines=12000, most=20)
     yield last_fails(side=60, lines=300, decoys=1000, most=5)
     yield passage(side=255, big=100, lines=3000, boxes=150, most=10)
-    yield pairs(side=255, lines=2, most=150)
+    yield pairs(side=255, lines=2, most=200)
     yield chambers(side=255, big=60, lines=1500, rooms=40, most=25)
     yield one_way(side=255, levels=10, most=10)
     yield squares(side=255, levels=100, most=10)

@@ -1,12 +1,14 @@
 """Texts that a reader may take otherwise: titles in many forms, long rows, ends of lines, and other
 encodings. Two readers have to show the same of them, the page and 'sokotool page'."""
 import random
+from itertools import product
 from typing import Iterator
 
 from tests.page.comparing import HEADER, Comparison
 
 LEVEL = b"#####\n#@$.#\n#####\n"
 ENDS = (b"\n", b"\r\n", b"\r", b"\n\n")
+BLANKS = (b" \n", b"\r\n", b"\n")
 # what may stand around a level
 LINES = (
     b"Title: One", b"title : two", b"  TITLE:\tthree ", b"-- Title: four",
@@ -42,9 +44,12 @@ def drawn(rng: random.Random) -> bytes:
 
 
 def collections() -> Iterator[bytes]:
-    """Such collections: each line above, below and between levels, and mixed ones."""
+    """Such collections: each line above, below and between levels, letters among blank lines, which
+    are a title if they are nearer to the level below, and mixed ones."""
     for line in LINES:
         yield line + b"\n" + LEVEL + line + b"\n\n" + LEVEL + b"\n" + line
+    for above, below in product(range(4), repeat=2):
+        yield LEVEL + b"\n" * above + b"dull\n" + b"".join(BLANKS[:below]) + LEVEL
     rng = random.Random(11)
     for _ in range(100):
         yield drawn(rng)

@@ -23,16 +23,16 @@ const isBlank = line => !/[^ \t\n\r\v\f]/.test(line);
 const isBlankByte = byte => byte === 32 || byte >= 9 && byte <= 13;
 
 // calls a function with each line of a text, its number, where it begins and the next one, and 1. A
-// CR before an LF belongs to the end of the line. Blank lines in a row are given as one, with their
-// count, because a text may have millions
-function eachLine(text, does, at = 0) {
+// CR before an LF belongs to the end of the line. If blank lines are joined, those in a row are given
+// as one, with their count, because a text may have millions
+function eachLine(text, does, at = 0, areBlanksJoined = false) {
     for (let number = 1, count = 1; at < text.length; number += count) {
         const found = text.indexOf("\n", at);
         let next = found < 0 ? text.length : found + 1, end = found < 0 ? next : found;
         if (found > at && text.charCodeAt(found - 1) === 13) end--;
         const line = text.slice(at, end);
         count = 1;
-        if (text.charCodeAt(at) <= 32 && isBlank(line)) {
+        if (areBlanksJoined && text.charCodeAt(at) <= 32 && isBlank(line)) {
             for (let to = next, byte; isBlankByte(byte = text.charCodeAt(to)); to++) {
                 if (byte === 10) count++, next = to + 1;
             }
@@ -45,7 +45,6 @@ function eachLine(text, does, at = 0) {
 const many = (number, one) => `${number} ${one}${number === 1 ? "" : "s"}`;
 const few = numbers => numbers.slice(0, 12).join(", ") + (numbers.length > 12 ? ", .." : "");
 
-// the lines of a report or of a level's rows, neither of which has blank lines
 function linesOf(text) {
     const lines = [];
     eachLine(text, line => lines.push(line));
@@ -233,7 +232,7 @@ function levelsIn(text) {
             below.add(line, number, saying);
         }
         wasRow = row;
-    }, start);
+    }, start, true);
     const titles = gaps.map(gap => gap.keyed), last = titles.at(-1);
     const areAbove = titles[0] && !last && (levels.length === 1 || titles.slice(1, -1).some(it => it));
     levels.forEach((level, i) => {
