@@ -121,8 +121,10 @@ def test(cases: Cases, machine: str, program: str) -> None:
     write(other, f'#!/bin/sh\n{words} {os.path.abspath(machine)}/{name} "$@"\n')
     os.chmod(other, 0o755)
     # Wine's services, which take long to start, stay while a program comes each minute. They keep
-    # the streams of the first program.
-    call(["sh", "-c", f"{{ wineserver -p60; {other} --version; }} >/dev/null 2>&1"])
+    # the streams of the first program. The first run of all makes Wine's folder, and its services
+    # would end with it.
+    call(["sh", "-c", f"{{ {other} --version; wineserver -k; wineserver -w; wineserver -p60; "
+                      f"{other} --version; }} >/dev/null 2>&1"])
     os.chdir("samples")
     compare(cases, machine, other, program)
     os.chdir("..")
