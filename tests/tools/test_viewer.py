@@ -199,10 +199,12 @@ class Large(Page):
     def answers_during(self, work, done):
         """The page is never silent for a second. The least of three runs counts, since others may
         hold it up."""
-        times = []
-        while not times or min(times) >= 1000 and len(times) < 3:
-            times.append(shared.ask(self.LONGEST % (done, work)))
-        self.assertLess(min(times), 1000)
+        least = 1000
+        for _ in range(3):
+            least = min(least, shared.ask(self.LONGEST % (done, work)))
+            if least < 1000:
+                break
+        self.assertLess(least, 1000)
 
     def test_long_list(self):
         row = "#" + " " * 98 + "#\n"
