@@ -15,17 +15,12 @@ first_or_rest x xs y (suc k, lt, is) = grind arith
 
 module _ (level : Level) (s : State) where
   entry_covers : (pattern : Pattern) (entry : EntryCells) → IsEntryOf level pattern entry → EntryCovers level.room entry s ↔ Covers level pattern s
-  entry_covers pattern entry is = (
-    λ covers. record { boxes = λ c h. covers.boxes c (rw is.boxes h); player = (is.region s.player).0 (covers.player, rw is.boxes at covers.apart) },
-    λ covers.
-        let player = (is.region s.player).1 covers.player in
-        record { boxes = λ c h. covers.boxes c (rw is.boxes at h); apart = rw is.boxes player.1; player = player.0 },
-  )
+  entry_covers pattern entry is = grind arith
 
 -- If what holds of an item holds of the item beside it in another list, some item of the one has it exactly if some item of the other does.
 some_beside : {X Y : Type 0} (R : X → Y → Type 0) (P : X → Type 0) (Q : Y → Type 0) → ((x : X) (y : Y) → R x y → Q y ↔ P x) → (xs : List X) (ys : List Y)
     → AllZip R xs ys → ((y : Y) × Contains ys y × Q y) ↔ ((x : X) × Contains xs x × P x)
-some_beside R P Q each [] [] all = (λ (z, (k, lt, is), holds). absurd (omega arith), λ (z, (k, lt, is), holds). absurd (omega arith))
+some_beside R P Q each [] [] all = grind arith
 some_beside R P Q each (x ∷ xs) [] all = absurd all
 some_beside R P Q each [] (y ∷ ys) all = absurd all
 some_beside R P Q each (x ∷ xs) (y ∷ ys) (head, rest) =

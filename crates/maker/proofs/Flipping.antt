@@ -143,6 +143,5 @@ passed_on level matching start b goal free entries is_free near on pair near_sta
     let last = table_matched level.shape between goal start (Some start) on (length-set matching (index level.shape free) entry ∙ entries) refl in
     record {
       boxes = λ c h. either (has_insert matched start c h) (λ e. rw e box) (is.boxes c);
-      pairs = all_matched level matched (Pairs level.shape between) (Pairs level.shape new) (one_match level.shape new) goal start next last near_start
-          lacks;
+      pairs = all_matched level matched (Pairs level.shape between) (Pairs level.shape new) (one_match level.shape new) goal start next last near_start lacks;
     }

@@ -2,7 +2,7 @@
 -- No relaxed push leaves a closed set. So if pushes lead from one cell to another, the second cell is in the reach of the first, and so is
 -- every cell in the reach of the second.
 use Rattle.std.proofs.Common.{◌≡◌, ℕ, ◌<◌, List, length, sym, subst, arith}
-use Rattle.std.specs.Prelude.{Option, None, Some, IfSome, MatchOption}
+use Rattle.std.specs.Prelude.{Option, None, Some, IfSome}
 use Rattle.cellset.specs.Cell.{IsOn}
 use Rattle.cellset.specs.CellSet.{Cells, Has}
 use Rattle.cellset.specs.declared.cell.Cell.{Cell}
@@ -12,7 +12,7 @@ use Rattle.board.specs.Board.{IsWellFormed}
 use Rattle.maker.specs.Matching.{InReach}
 use Rattle.maker.specs.Search.{visit_at, IsTraced, IsSearch, IsFreeGoal}
 use Rattle.maker.specs.declared.zones.search.Visit.{Visit}
-use Rattle.maker.specs.Relay.{IsRelay, IsSameRelay, HasFreeGoal, IsReachOf}
+use Rattle.maker.specs.Relay.{IsRelay, IsSameRelay, HasFreeGoal}
 use Rattle.maker.specs.declared.zones.relay.Relay.{Relay}
 use Rattle.maker.proofs.Searches.{push_stays}
 
@@ -37,13 +37,6 @@ pushed_reach level formed source cell is c (by_step b before p) = λ zone closed
     subst (Has zone) (sym p.next)
     (push_stays level zone b p.dir closed (record { player = p.behind; floor = rw p.next at (formed.room c p.ahead) })
     (pushed_reach level formed source cell is b before zone closed h))
-
--- a free goal in the reach of a cell is in each closed set that holds the cell
-pub reached_goal : (level : Level) (matching : List (Option Cell)) (cell : Cell) (reach : Cells) (found : Option Cell) → IsWellFormed level
-    → IsReachOf level cell reach → IfSome found (λ g. Has reach g × IsFreeGoal level matching g)
-    → MatchOption found (IsReachOf level cell reach) (λ g. IsFreeGoal level matching g × InReach level cell g)
-reached_goal level matching cell reach None formed is goal = is
-reached_goal level matching cell reach (Some g) formed is (has, free) = grind (arith, pushed_reach)
 
 -- a free goal is on the grid
 pub free_on_grid : (level : Level) (matching : List (Option Cell)) (cells : Cells) (found : Option Cell)

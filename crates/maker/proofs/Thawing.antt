@@ -25,8 +25,7 @@ use Rattle.maker.specs.Frozen.{IsHeld, IsFrozen, IsLargestFrozen}
 use Rattle.maker.specs.Review.{IsReviewed}
 
 -- What holds for each of the first directions and for the next one holds for one direction more.
-pub each_so_far : (P : Dir → Type 0) (i : ℕ) → ((d : Dir) → dir_rank d < i → P d) → P (get_or (L ∷ U ∷ R ∷ D ∷ []) i L)
-    → (d : Dir) → dir_rank d < i + 1 → P d
+pub each_so_far : (P : Dir → Type 0) (i : ℕ) → ((d : Dir) → dir_rank d < i → P d) → P (get_or (L ∷ U ∷ R ∷ D ∷ []) i L) → (d : Dir) → dir_rank d < i + 1 → P d
 each_so_far P i before here d less = either (cases_lt (dir_rank d) i) (before d)
     (λ not_less. let is : i ≡ dir_rank d = omega arith in subst P (ap (λ k. get_or (L ∷ U ∷ R ∷ D ∷ []) k L) is ∙ way d) here)
   where

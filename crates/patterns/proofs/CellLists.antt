@@ -5,7 +5,7 @@ use Rattle.std.proofs.Common.{◌≡◌, ℕ, zero, suc, ◌+◌, ◌≤◌, ◌
 use Rattle.std.specs.{Prelude.map, List.All, List.Contains}
 use Rattle.std.specs.FinSet as set
 use Rattle.std.proofs.lemmas.List.{get_or-map, length-map, map_push, take_more, take_all}
-use Rattle.std.proofs.lemmas.List.Elements.{All-contains, All-same, Contains-append_right}
+use Rattle.std.proofs.lemmas.List.Elements.{All-same, Contains-append_right}
 use Rattle.cellset.specs.{Cell.cell_cmp, CellSet.Has, CellSet.Lacks, declared.cell.Cell.Cell}
 use Rattle.cellset.proofs.Members.{cells_total, exact_cells, inserted, kept_by_insert, has_insert, has_empty}
 use Rattle.answers.specs.declared.pattern.Coord.{Coord}
@@ -35,7 +35,7 @@ of_list (x ∷ xs) c has =
     ]
 
 pub each_in : (P : Cell → Type 0) (xs : List Cell) → All P xs → (c : Cell) → Has (cells_in xs) c → P c
-each_in P xs all c has = All-contains P xs c all (of_list xs c has)
+each_in P xs all c has = grind (arith, of_list)
 
 -- What holds of each element that a loop over the whole list passed holds of each member of the list's set.
 pub each_of : (P : Cell → Type 0) (xs : List Cell) (n : ℕ) → length xs ≤ n → All P (take n xs) → (c : Cell) → Has (cells_in xs) c → P c
@@ -50,7 +50,7 @@ list_all xs n past = ap cells_in (take_all n xs past)
 
 -- ---- what loops over cells need, in forms that `grind` takes up
 pub read_in : (xs : List Cell) (i : ℕ) → i < length xs → (get_or xs i no_cell ≡ get_or xs i no_cell) × Has (cells_in xs) (get_or xs i no_cell)
-read_in xs i lt = (refl, in_list xs i no_cell lt)
+read_in xs i lt = search (in_list)
 
 pub empty_lacks : (c : Cell) → Lacks set.empty c
 empty_lacks c = set.contains-empty cell_cmp c

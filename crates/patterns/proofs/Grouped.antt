@@ -54,13 +54,9 @@ pub seed_among : (s : Seeds) (P : Cell → Type 0) (c : Cell) → SeedsAreIn s P
 seed_among whole_room P c all h = absurd all
 seed_among (listed cells) P c all h = all c h
 
-pub seeds_more : (s : Seeds) (P Q : Cell → Type 0) → ((c : Cell) → P c → Q c) → SeedsAreIn s P → SeedsAreIn s Q
-seeds_more whole_room P Q into all = absurd all
-seeds_more (listed cells) P Q into all = search
-
 -- Another fact of the pattern of the same line.
 pub on_line : {groups : Groups} {g : ℕ} {P Q : Pattern → Type 0} (line : HasLine groups g P) → Q (pattern_at (list_of groups) line.line) → HasLine groups g Q
-on_line line fact = record { line = line.line; within = line.within; grouped = line.grouped; fact = fact }
+on_line line fact = search
 
 -- ---- positions
 module _ (level : Level) (groups : Groups) (grouped : IsGrouped groups) where

@@ -1,5 +1,5 @@
 -- Items of lists, and lists to which an item is added.
-use Rattle.std.proofs.Common.{◌≡◌, ℕ, ◌+◌, ◌<◌, List, [], ◌∷◌, ◌++◌, length, get_or, refl, sym, ◌∙◌, ap, arith}
+use Rattle.std.proofs.Common.{◌≡◌, ℕ, ◌+◌, ◌<◌, List, [], ◌∷◌, ◌++◌, length, get_or, refl, ◌∙◌, ap, arith}
 use Rattle.std.{specs.Prelude.map, specs.List.Contains, proofs.lemmas.Bool.cases_lt, proofs.lemmas.List.Elements.Contains-append_right}
 use Rattle.std.proofs.lemmas.List.{get_or-map, get_or_append_left, get_or_push, length-append, length-map}
 
@@ -11,10 +11,10 @@ pub mapped : {X Y : Type 0} (f : X → Y) (xs : List X) (x : X) → Contains xs 
 mapped f xs x (k, lt, is) = let long = length-map xs f in (k, omega arith, get_or-map f xs k x (f x) lt ∙ ap f is)
 
 pub old_item : {X : Type 0} (xs : List X) (x : X) (i : ℕ) (d : X) → i < length xs → get_or (xs ++ x ∷ []) i d ≡ get_or xs i d
-old_item xs x i d lt = get_or_append_left xs (x ∷ []) d i lt
+old_item xs x i d lt = search (get_or_append_left)
 
 pub new_item : {X : Type 0} (xs : List X) (x : X) (i : ℕ) (d : X) → i ≡ length xs → get_or (xs ++ x ∷ []) i d ≡ x
-new_item xs x i d e = get_or_push xs x d i (sym e)
+new_item xs x i d e = grind (arith, get_or_push)
 
 pub length_more : {X : Type 0} (xs : List X) (x : X) → length (xs ++ x ∷ []) ≡ length xs + 1
 length_more xs x = length-append xs (x ∷ [])

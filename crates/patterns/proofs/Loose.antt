@@ -17,7 +17,7 @@ module _ (level : Level) (boxes : Cells) where
       (record { on = free.on; no_wall = free.no_wall; no_bar = lacks_within pattern.boxes boxes q covers.boxes free.no_bar })
 
   pub covered_alike : (p q : Cell) → InRegion level.shape level.walls boxes (only p) q → AreCoveredAlike level boxes p q
-  covered_alike p q chain pattern covers = record { boxes = covers.boxes; player = walks_on p q pattern covers chain }
+  covered_alike p q chain pattern covers = search (walks_on)
 
   -- A pattern that covers a state and lacks a box covers the result of a push of it.
   pub loose_push : (pattern : Pattern) (push : Push) → IsPushOf level boxes push → Lacks pattern.boxes push.from →

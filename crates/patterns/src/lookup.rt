@@ -3,7 +3,7 @@
 //! A group covers a state if the state has all its boxes and the player is in its region. If the region is all of the room but the
 //! boxes, the boxes decide. If it isn't, follow the player's path to the root of the tree. The first box of the group on it decides, by
 //! the side on which the path meets the box. If the path meets none of its boxes, the root decides.
-ghost use Rattle.std.specs.Prelude.{◌≡◌, ◌≤◌, ◌<◌, ◌↔◌, ℕ, IfOk, IsTrue, MatchOption, length, slice_index, vec_capacity};
+ghost use Rattle.std.specs.Prelude.{◌≡◌, ◌≤◌, ◌<◌, ◌↔◌, ℕ, IfOk, IsTrue, MatchBool, length, slice_index, vec_capacity};
 ghost use Rattle.cellset.specs.{Cell.IsOn, CellSet.Has, CellSet.Lacks};
 ghost use Rattle.patterns.specs.Pattern.{InPatternRegion, Covers, IsCovered};
 ghost use Rattle.patterns.specs.{Subsets.IsSubset, Sides.cells_in, CellIndex.index_of, GroupPushes.IsPushOf};
@@ -161,37 +161,7 @@ pub fn is_any_covering<S: CellSet>(
     }
     let query = Query { player, boxes };
     scratch.walked = false;
-    match find_covering(filled, &query, scratch) {
-        Some(_) => true,
-        None => false,
-    }
-}
-
-// Returns whether the result of the push is covered. The boxes stay as they are.
-pub(crate) fn is_covered_after<S: CellSet>(
-    push: Push,
-    filled: &FilledTables<S>,
-    lookup: &mut Scratch,
-    boxes: &mut S,
-) -> bool
-    requires filled { AreFilled filled.now }
-    requires lookup { IsRoomy filled.now lookup.old }
-    requires boxes { S.extent boxes.old ≡ filled.now.tables.board.now.shape }
-    requires from_on { IsOn filled.now.tables.board.now.shape push.from }
-    requires to_on { IsOn filled.now.tables.board.now.shape push.to }
-    requires from_box { Has (S.members boxes.old) push.from }
-    requires to_free { Lacks (S.members boxes.old) push.to }
-    ensures extent { S.extent boxes.new ≡ filled.now.tables.board.now.shape }
-    ensures same { S.members boxes.new ≡ S.members boxes.old }
-    ensures lookup { IsRoomy filled.now lookup.new }
-    ensures covered { IsTrue result ↔ IsCovered filled.now.tables.board.now (list_of filled.now.tables.groups) (state_after (S.members boxes.old) push) }
-{
-    boxes.remove(push.from);
-    boxes.insert(push.to);
-    let covered = is_any_covering(filled, push.from, boxes, lookup);
-    boxes.remove(push.to);
-    boxes.insert(push.from);
-    covered
+    is_covered(filled, &query, scratch)
 }
 
 // Returns true only if a group covers the result of the push. The state stays as it is.
@@ -227,54 +197,79 @@ pub(crate) fn covers_result<S: CellSet>(
     covered
 }
 
-// Returns a group that covers the state.
-fn find_covering<S: CellSet>(
+// Returns whether the list covers the result of the push. The groups in the bucket of the cell ahead come first. The state stays as it is.
+pub(crate) fn is_covered_after<S: CellSet>(
+    push: Push,
     filled: &FilledTables<S>,
-    query: &Query<S>,
-    scratch: &mut Scratch,
-) -> Option<usize>
+    lookup: &mut Scratch,
+    state: &mut S,
+) -> bool
+    requires filled { AreFilled filled.now }
+    requires lookup { IsRoomy filled.now lookup.old }
+    requires extent { S.extent state.old ≡ filled.now.tables.board.now.shape }
+    requires push { IsPushOf filled.now.tables.board.now (S.members state.old) push }
+    ensures extent { S.extent state.new ≡ filled.now.tables.board.now.shape }
+    ensures same { S.members state.new ≡ S.members state.old }
+    ensures lookup { IsRoomy filled.now lookup.new }
+    ensures exact { IsTrue result ↔ IsCovered filled.now.tables.board.now (list_of filled.now.tables.groups) (state_after (S.members state.old) push) }
+{
+    state.remove(push.from);
+    state.insert(push.to);
+    lookup.walked = false;
+    let query = Query {
+        player: push.from,
+        boxes: state,
+    };
+    let covered = is_covered_in_bucket(filled, push.to, &query, lookup)
+        || is_covered(filled, &query, lookup);
+    state.remove(push.to);
+    state.insert(push.from);
+    covered
+}
+
+// Returns whether some group covers the state.
+fn is_covered<S: CellSet>(filled: &FilledTables<S>, query: &Query<S>, scratch: &mut Scratch) -> bool
     requires filled { AreFilled filled.now }
     requires player { Has filled.now.tables.board.now.room query.now.player }
     requires extent { S.extent query.now.boxes.now ≡ filled.now.tables.board.now.shape }
     requires scratch { IsReadyFor filled.now (S.members query.now.boxes.now) query.now.player scratch.old }
     ensures scratch { IsReadyFor filled.now (S.members query.now.boxes.now) query.now.player scratch.new }
-    ensures found { MatchOption result
-        ((g : ℕ) → GroupCovers filled.now.tables.board.now filled.now.tables.groups g (record { player = query.now.player; boxes = S.members query.now.boxes.now }) → ⊥)
-        (λ g. GroupCovers filled.now.tables.board.now filled.now.tables.groups g (record { player = query.now.player; boxes = S.members query.now.boxes.now })) }
+    ensures exact { IsTrue result ↔ IsCovered filled.now.tables.board.now (list_of filled.now.tables.groups)
+        (record { player = query.now.player; boxes = S.members query.now.boxes.now }) }
 {
     for cell in MembersOf::new(query.boxes) {
-        if let Some(group) = find_in_bucket(filled, cell, query, scratch) {
-            return Some(group);
+        if is_covered_in_bucket(filled, cell, query, scratch) {
+            return true;
         }
     }
-    None
+    false
 }
 
-// Returns a group of the cell's bucket that covers the state.
+// Returns true only if a group covers the state, and false only if none in the cell's bucket does.
 #[tactic(auto, using(crate::proofs::Lists::length_more))]
-fn find_in_bucket<S: CellSet>(
+fn is_covered_in_bucket<S: CellSet>(
     filled: &FilledTables<S>,
     cell: Cell,
     query: &Query<S>,
     scratch: &mut Scratch,
-) -> Option<usize>
+) -> bool
     requires filled { AreFilled filled.now }
     requires cell { IsOn filled.now.tables.board.now.shape cell }
     requires player { Has filled.now.tables.board.now.room query.now.player }
     requires extent { S.extent query.now.boxes.now ≡ filled.now.tables.board.now.shape }
     requires scratch { IsReadyFor filled.now (S.members query.now.boxes.now) query.now.player scratch.old }
     ensures scratch { IsReadyFor filled.now (S.members query.now.boxes.now) query.now.player scratch.new }
-    ensures found { MatchOption result
-        ((g : ℕ) → slice_index filled.now.buckets.keys.items g ≡ index_of cell → GroupCovers filled.now.tables.board.now filled.now.tables.groups g (record { player = query.now.player; boxes = S.members query.now.boxes.now }) → ⊥)
-        (λ g. GroupCovers filled.now.tables.board.now filled.now.tables.groups g (record { player = query.now.player; boxes = S.members query.now.boxes.now })) }
+    ensures found { MatchBool result
+        (IsCovered filled.now.tables.board.now (list_of filled.now.tables.groups) (record { player = query.now.player; boxes = S.members query.now.boxes.now }))
+        ((g : ℕ) → slice_index filled.now.buckets.keys.items g ≡ index_of cell → GroupCovers filled.now.tables.board.now filled.now.tables.groups g (record { player = query.now.player; boxes = S.members query.now.boxes.now }) → ⊥) }
 {
     let mut at = filled.buckets.chains.first[index_of(cell)] as usize;
     while at > 0 {
         let group = at - 1;
         if is_covering(filled, group, query, scratch) {
-            return Some(group);
+            return true;
         }
         at = filled.buckets.chains.next[group] as usize;
     }
-    None
+    false
 }

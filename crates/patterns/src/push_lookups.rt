@@ -1,15 +1,14 @@
 //! Lookups of the pushes that hints don't settle.
 //!
 //! The group that covered the last result of a push from the same cell is asked first. Then come the groups that lack the pushed box
-//! (`piece`), those in the bucket of its new cell, and all groups.
+//! (`piece`), and all groups (`lookup`).
 ghost use Rattle.std.specs.Prelude.{◌≡◌, ◌<◌, ◌↔◌, IsTrue, IfOk, IfSome, length};
 ghost use Rattle.cellset.specs.{Cell.IsOn, CellSet.Has, declared.cell.Cell.Cell as GridCell};
-ghost use Rattle.board.specs.Game.{moved};
 ghost use Rattle.patterns.specs.{Pattern.IsCovered, Pattern.CoversPushesOf, Run.state_after, Sides.cell_no, Sides.cells_in, Groups.list_of, Groups.position_at};
 ghost use Rattle.patterns.specs.GroupPushes.{AreNoted, CoversFrom, CoversToward, IsLoaded, IsPushOf, IsPushedBox, IsReady, IsStepBack, pushed_cell};
 ghost use Rattle.patterns.specs.Tables.{AreFilled};
 
-use crate::cells::{is_same, load};
+use crate::cells::load;
 use crate::hints::{hash_of, hash_without};
 use crate::lookup::{Scratch, covers_result, is_covered_after};
 use crate::piece::Piece;
@@ -82,8 +81,7 @@ impl<S: CellSet> PushScratch<S> {
             self.remember(push.from);
             return true;
         }
-        is_ahead(filled, &self.state, push)
-            || is_covered_after(push, filled, &mut self.lookup, &mut self.state)
+        is_covered_after(push, filled, &mut self.lookup, &mut self.state)
     }
 
     // Returns true only if the group that covered the last result of a push from the same cell covers the result of this one.
@@ -199,59 +197,4 @@ fn is_found_toward<S: CellSet>(
         return true;
     };
     is_hinted(&filled.tables, pushed, push) || scratch.covers(filled, pushed.boxes, push)
-}
-
-// Returns true only if a group in the bucket of the cell ahead covers the result of a push.
-fn is_ahead<S: CellSet>(filled: &FilledTables<S>, state: &S, push: Push) -> bool
-    requires filled { AreFilled filled.now }
-    requires extent { S.extent state.now ≡ filled.now.tables.board.now.shape }
-    requires to_on { IsOn filled.now.tables.board.now.shape push.to }
-    requires back { IsStepBack push }
-    ensures { IsTrue result → IsCovered filled.now.tables.board.now (list_of filled.now.tables.groups) (state_after (S.members state.now) push) }
-{
-    let mut at = filled.buckets.chains.first[index_of(push.to)] as usize;
-    while at > 0 {
-        let group = at - 1;
-        if covers_ahead(filled, group, state, push) {
-            return true;
-        }
-        at = filled.buckets.chains.next[group] as usize;
-    }
-    false
-}
-
-// Returns true only if a group with a box on the cell ahead covers the result of a push.
-fn covers_ahead<S: CellSet>(filled: &FilledTables<S>, group: usize, state: &S, push: Push) -> bool
-    requires filled { AreFilled filled.now }
-    requires group { group < length filled.now.tables.groups.spans.items }
-    requires extent { S.extent state.now ≡ filled.now.tables.board.now.shape }
-    requires back { IsStepBack push }
-    ensures { IsTrue result → IsCovered filled.now.tables.board.now (list_of filled.now.tables.groups) (state_after (S.members state.now) push) }
-{
-    let Some(number) = number_ahead(filled.tables.groups.boxes(group), state, push) else {
-        return false;
-    };
-    filled
-        .tables
-        .sides_of(group, number)
-        .has(push.dir.opposite())
-}
-
-// Returns the number of the pushed box among `after`, if the others are boxes that stay.
-fn number_ahead<S: CellSet>(after: &[Cell], state: &S, push: Push) -> Option<usize>
-    requires { (c : GridCell) → Has (cells_in after.now) c → IsOn (S.extent state.now) c }
-    ensures { IfSome result (λ number. (number < length after.now) × (cell_no after.now number ≡ push.to)
-        × ((c : GridCell) → Has (cells_in after.now) c → Has (moved (S.members state.now) push.from push.to) c)) }
-{
-    let mut found = None;
-    for (number, at) in after.iter().enumerate() {
-        if is_same(*at, push.to) {
-            found = Some(number);
-            continue;
-        }
-        if is_same(*at, push.from) || !state.contains(*at) {
-            return None;
-        }
-    }
-    found
 }

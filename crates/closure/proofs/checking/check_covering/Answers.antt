@@ -1,4 +1,4 @@
-use Rattle.std.proofs.{Common.refl, Common.◌∙◌, lemmas.Bool.false≢true, lemmas.Result.on_ok_weaker}
+use Rattle.std.proofs.{Common.refl, lemmas.Bool.false≢true, lemmas.Result.on_ok_weaker}
 use Rattle.closure.proofs.checking.check_covering.Goals as goal
 
 pub returns-then-not-is_any_covering-clause-exact : goal.returns-then-not-is_any_covering-clause-exact
@@ -18,19 +18,3 @@ returns-clause-ok g c =
       start = rw (c.player.ensures.value, c.boxes.ensures.members) at (c.if-not-is_any_covering.ensures.exact.0 refl);
       pushes = pushes;
     }) c.check_pushes-checked.ensures.ok
-
-pub check_pushes-checked-requires-clause-covered : goal.check_pushes-checked-requires-clause-covered
-check_pushes-checked-requires-clause-covered g c = rw c.deref.ensures.value c.note_found.ensures.covered
-
-pub returns-clause-exact : goal.returns-clause-exact
-returns-clause-exact g c = c.check_pushes-checked.ensures.exact
-
-pub is_any_covering-requires-clause-player : goal.is_any_covering-requires-clause-player
-is_any_covering-requires-clause-player g c =
-    let formed = c.requires.ready.filled.are.formed in rw c.player.ensures.value (formed.room _ formed.here).0
-
-pub is_any_covering-requires-clause-boxes : goal.is_any_covering-requires-clause-boxes
-is_any_covering-requires-clause-boxes g c = c.boxes.ensures.extent
-
-pub check_pushes-checked-requires-clause-trial : goal.check_pushes-checked-requires-clause-trial
-check_pushes-checked-requires-clause-trial g c = c.in_ok-trial.ensures ∙ c.shape.ensures.value

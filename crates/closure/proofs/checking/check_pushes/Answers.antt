@@ -15,21 +15,7 @@ use Rattle.closure.proofs.checking.check_pushes.Goals.{After-index}
 
 -- The group of the line has the boxes of the line.
 own_boxes : (g : _) (c : After-index g) → boxes_of c.args.filled.now.tables.groups c.index.result.now ≡ boxes_at c.args.filled.now.tables.groups.arena c.loop-line.line
-own_boxes g c =
-    let groups = c.args.filled.now.tables.groups in
-    let grouped = c.requires.ready.filled.are.grouped in
-    let of = groups.of.items in
-    let line = c.loop-line.line in
-    let test = c.loop-line-test.true in
-    let len = c.len-line-end.ensures in
-    let long = grouped.all.long in
-    let lt : line < length groups.arena.lines.items = omega arith in
-    let read : c.index.result.now ≡ slice_index of line = c.index.ensures ∙ at_any of line c.index.result.now 0 (omega arith) in
-    ap (boxes_of groups) read ∙ grouped.all.same line lt
-
-pub first_push-requires-clause-loaded : goal.first_push-requires-clause-loaded
-first_push-requires-clause-loaded g c =
-    rw (own_boxes g (goal.at.first_push-requires-clause-loaded g c).After-index) at c.load_group.ensures.loaded
+own_boxes g c = grind (arith, at_any)
 
 pub returns-in-Some-clause-exact : goal.returns-in-Some-clause-exact
 returns-in-Some-clause-exact g c = λ _.

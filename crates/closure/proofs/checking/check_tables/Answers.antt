@@ -20,9 +20,3 @@ note_hinted-requires-clause-covered g c =
       long = ap (λ l. length l) all ∙ length-replicate _ _ ∙ c.len.ensures ∙ c.args.tables.groups.spans.ok.0;
       covers = λ h lt yes. let low = rw (all, length-replicate) at lt in absurd (false≢true (rw (all, get_or-replicate) at yes));
     }
-
-pub check_filled-checked-requires-clause-covered : goal.check_filled-checked-requires-clause-covered
-check_filled-checked-requires-clause-covered g c = rw (c.in_ok-filled.ensures.level, c.in_ok-filled.ensures.same) c.note_hinted.ensures
-
-pub returns-clause-ok : goal.returns-clause-ok
-returns-clause-ok g c = rw (c.in_ok-filled.ensures.level, c.in_ok-filled.ensures.same) at c.check_filled-checked.ensures.ok

@@ -1,9 +1,9 @@
 -- The invariant says that the list covers the result of each push that came, and that the memory is loaded with the boxes. The next push is a
 -- push out of the region, so it moves one of the boxes to a cell of the grid that is free, as `covers` requires. If its result isn't covered,
 -- it is the first such push, because what comes before it in the order came before it. If none is left, all results are covered.
-use Rattle.std.proofs.{Common.arith, Common.refl, Common.sym, Common.subst, lemmas.Bool.false≢true}
+use Rattle.std.proofs.{Common.arith, Common.refl, lemmas.Bool.false≢true}
 use Rattle.std.proofs.lemmas.List.Elements.{All-push, All-contains}
-use Rattle.cellset.{specs.CellSet.Has, proofs.Neighbors.neighbor_forth}
+use Rattle.cellset.{specs.CellSet.Has}
 use Rattle.reach.{specs.Pushes.ArePushesOut, specs.Pushes.IsPushOut, proofs.PushRuns.next_is_out, proofs.PushRuns.came_before, proofs.PushRuns.all_came}
 use Rattle.patterns.specs.{Pattern.IsCovered, Run.state_after, Groups.list_of, Sides.cells_in}
 use Rattle.closure.proofs.checking.first_uncovered.Goals as goal
@@ -12,20 +12,13 @@ use Rattle.closure.proofs.checking.first_uncovered.Goals.{After-into_iter-push-i
 -- The iterator has the pushes out of the region.
 all_pushes : (g : _) (c : After-into_iter-push-iterator g) → ArePushesOut c.args.filled.now.tables.board.now.shape c.args.filled.now.tables.board.now.walls
     (cells_in c.args.loaded.now) (Has (g.S.CellSet.members c.args.region.now)) c.into_iter-push-iterator.result
-all_pushes g c =
-    let level = c.args.filled.now.tables.board.now in
-    subst (ArePushesOut level.shape level.walls (cells_in c.args.loaded.now) (Has (g.S.CellSet.members c.args.region.now)))
-    (sym c.into_iter-push-iterator.ensures.into_iter_gives)
-    (rw (c.requires.same, c.shape.ensures.value, c.requires.boxes, c.walls.ensures.members) at c.new-push-items.ensures)
+all_pushes g c = grind arith
 
 -- The next one is a push out.
 next_out : (g : _) (c : In-Some g) → IsPushOut c.args.filled.now.tables.board.now.shape c.args.filled.now.tables.board.now.walls
     (cells_in c.args.loaded.now) (Has (g.S.CellSet.members c.args.region.now)) c.in-Some.push
 next_out g c = next_is_out (all_pushes g (goal.at.In-Some g c).After-into_iter-push-iterator) c.loop-push.yielded c.loop-push.push-iterator
     c.loop-push.yielded_by c.in-Some.push c.next.new.self c.in-Some.ensures.steps
-
-pub covers-requires-clause-boxes : goal.covers-requires-clause-boxes
-covers-requires-clause-boxes g c = λ q has. (c.requires.floor q has).0
 
 pub covers-requires-clause-push : goal.covers-requires-clause-push
 covers-requires-clause-push g c =
@@ -38,12 +31,6 @@ covers-requires-clause-push g c =
       to_on = out.free.on;
       to_free = out.free.no_bar;
     }
-
-pub covers-requires-clause-back : goal.covers-requires-clause-back
-covers-requires-clause-back g c =
-    let out = next_out g (goal.at.covers-requires-clause-back g c).In-Some in
-    let behind = out.cell_behind in
-    grind (arith, neighbor_forth)
 
 pub returns-then-not-covers-clause-exact : goal.returns-then-not-covers-clause-exact
 returns-then-not-covers-clause-exact g c =

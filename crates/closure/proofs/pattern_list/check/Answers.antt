@@ -15,9 +15,6 @@ loop-pattern-preserved g c =
       added = rw (ap (λ p. map said_pattern (take i patterns) ++ said_pattern p ∷ []) c.pattern-item.is ∙ sym more) at (c.in_ok-add.ensures.added (map said_pattern (take i patterns)) c.loop-pattern.invariant.added);
     }
 
-pub check-requires : goal.check-requires
-check-requires g c = (_, c.loop-pattern.invariant.added)
-
 pub returns : goal.returns
 returns g c =
     let all = take_all c.loop-pattern.pattern-index c.args.patterns.now c.loop-pattern-test.false in

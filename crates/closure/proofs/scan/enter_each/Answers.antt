@@ -37,6 +37,4 @@ loop-line-preserved g c =
     }
 
 pub returns : goal.returns
-returns g c =
-    let long = list_long c.args.arena.now in
-    rw (take_all c.loop-line.line (list_in c.args.arena.now) (omega arith)) at c.loop-line.invariant.entries
+returns g c = grind (arith, list_long, take_all)

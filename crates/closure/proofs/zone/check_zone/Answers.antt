@@ -2,15 +2,9 @@ use Rattle.std.{proofs.Common.◌≡◌, specs.FinSet.len}
 use Rattle.answers.specs.Grammar.{said_zone}
 use Rattle.patterns.specs.Pattern.{cells_of}
 use Rattle.closure.{specs.Zone.IsRefuting, specs.FirstFault.IsFirstZoneFault, proofs.ZoneCounts.refuting_unsolvable}
-use Rattle.closure.{specs.declared.fault.ZoneFault.TheVariants.Memory, proofs.FirstLines.first_unless, proofs.FirstLines.ok_unless, proofs.FirstLines.where_ok}
+use Rattle.closure.{specs.declared.fault.ZoneFault.TheVariants.Memory, proofs.FirstLines.first_unless, proofs.FirstLines.where_ok}
 use Rattle.closure.proofs.OneFault.{one_zone_fault, refuting_no_fault, zone_memory_or}
 use Rattle.closure.proofs.zone.check_zone.Goals as goal
-
-pub returns-clause-only : goal.returns-clause-only
-returns-clause-only g c =
-    let said = said_zone c.args.zone.now in
-    ok_unless Memory zone_memory_or (IsFirstZoneFault c.args.board.now said) (IsRefuting c.args.board.now (cells_of said.cells))
-    (refuting_no_fault c.args.board.now said) c.check_by_counts.result c.check_by_counts.ensures.exact
 
 pub returns-clause-first : goal.returns-clause-first
 returns-clause-first g c =

@@ -3,14 +3,10 @@ use Rattle.patterns.proofs.Counts.{len_union, len_union_right}
 use Rattle.closure.proofs.zone.count_in.Goals as goal
 
 pub overflow_sub-result : goal.overflow_sub-result
-overflow_sub-result g c =
-    let union = rw (c.union_with.ensures.members, c.copy_from.ensures.members) at c.len-2.ensures in omega (arith, len_union_right)
+overflow_sub-result g c = grind (arith, len_union_right)
 
 pub overflow_sub-result-2 : goal.overflow_sub-result-2
-overflow_sub-result-2 g c =
-    let union = rw (c.union_with.ensures.members, c.copy_from.ensures.members) at c.len-2.ensures in omega (arith, len_union)
+overflow_sub-result-2 g c = grind (arith, len_union)
 
 pub returns-clause-value : goal.returns-clause-value
-returns-clause-value g c =
-    let union = rw (c.union_with.ensures.members, c.copy_from.ensures.members) at c.len-2.ensures in
-    omega (arith, len_union, len_union_right)
+returns-clause-value g c = grind (arith, len_union, len_union_right)

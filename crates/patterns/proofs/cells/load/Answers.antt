@@ -1,5 +1,5 @@
 use Rattle.std.proofs.Common.{sym, ◌∙◌}
-use Rattle.patterns.proofs.CellLists.{in_list, list_all, next_in, no_cell}
+use Rattle.patterns.proofs.CellLists.{in_list, next_in, no_cell}
 use Rattle.patterns.proofs.cells.load.Goals as goal
 
 pub insert-requires : goal.insert-requires
@@ -11,6 +11,3 @@ loop-cell-preserved g c = record {
   extent = c.insert.ensures.extent ∙ c.loop-cell.invariant.extent;
   members = rw (c.insert.ensures.members, c.loop-cell.invariant.members) (sym (next_in _ _ c.loop-cell-test.true));
 }
-
-pub returns-clause-members : goal.returns-clause-members
-returns-clause-members g c = c.loop-cell.invariant.members ∙ list_all c.args.cells.now c.loop-cell.cell-index c.loop-cell-test.false

@@ -2,7 +2,7 @@
 -- the grid. A turn makes the room without the boxes of a group free, which are on the grid because the group is lawful; the room is in one
 -- piece at first (`Pieces.antt`). The flood finds the region of the group's position (`reached_position` in `Grouped.antt`). The boxes of a
 -- group come after the boxes of earlier groups, so their sides stay when its own are noted.
-use Rattle.std.proofs.Common.{◌≡◌, ℕ, ◌+◌, ◌<◌, List, [], ◌∷◌, ◌++◌, length, get_or, sym, ◌∙◌, ap, subst, inl, inr, arith}
+use Rattle.std.proofs.Common.{◌≡◌, ℕ, ◌+◌, ◌<◌, List, [], ◌∷◌, ◌++◌, length, get_or, sym, ◌∙◌, ap, subst, arith}
 use Rattle.std.proofs.lemmas.{List.length-drop, List.length-take, Bool.cases_lt, Bool.false≢true}
 use Rattle.std.specs.Prelude.{◌↔◌, Bool, IsTrue, MatchBool, false, true}
 use Rattle.cellset.specs.{Cell.neighbor, CellSet.Cells, CellSet.Has, CellSet.Lacks, declared.cell.Cell.Cell}
@@ -28,7 +28,7 @@ chosen_has P false x y z is has = rw is has
 
 -- what holds for each group so far, and for one more
 one_more : (P : ℕ → Type 0) (n : ℕ) → ((k : ℕ) → k < n → P k) → P n → (k : ℕ) → k < n + 1 → P k
-one_more P n old new k lt = elim (cases_lt k n) [ inl before ↦ old k before | inr past ↦ subst P (omega arith) new ]
+one_more P n old new k lt = grind (arith, cases_lt)
 
 region_more : (P : ℕ → Region → Type 0) (of items : List Region) (new : Region) (n : ℕ) → length of ≡ n → items ≡ of ++ new ∷ []
     → ((k : ℕ) (r : Region) → k < n → P k (get_or of k r)) → P n new → (k : ℕ) (r : Region) → k < n + 1 → P k (get_or items k r)
@@ -140,20 +140,10 @@ loop-group-preserved-then-is_trapped g c =
     }
 
 pub boxes-boxes-requires : goal.boxes-boxes-requires
-boxes-boxes-requires g c = record {
-  groups = c.requires.groups;
-  group = rw (c.len-group-end.ensures ∙ c.args.groups.now.spans.ok.0) at c.loop-group-test.true;
-}
+boxes-boxes-requires g c = grind arith
 
 pub returns : goal.returns
-returns g c =
-    let all : c.loop-group.group ≡ length c.args.groups.now.spans.items = omega arith in
-    record {
-      long = c.loop-group.invariant.long;
-      count = c.loop-group.invariant.count ∙ all;
-      sides = rw all at c.loop-group.invariant.sides;
-      each = rw all at c.loop-group.invariant.each;
-    }
+returns g c = grind arith
 
 pub push_reserved-requires : goal.push_reserved-requires
 push_reserved-requires g c = omega arith

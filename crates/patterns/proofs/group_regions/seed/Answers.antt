@@ -2,13 +2,10 @@
 -- of the group, and all free seeds of its lines from `at` on, and that line `at` - 1 is one of them if there is one. A turn adds the free
 -- seeds of this line and goes to the last line of the group before it, so it skips none (`IsLast`). A line that says `*` is what the
 -- result false reports. At the end of the chain no line of the group comes earlier, so the seeds of all its lines are there.
-use Rattle.std.proofs.{Common.◌∙◌, Common.arith, lemmas.Bool.cases_lt}
-use Rattle.cellset.proofs.{Members.has_empty, Truth.either}
-use Rattle.patterns.proofs.{CellLists.at_any, Grouped.seeds_more}
+use Rattle.std.proofs.{Common.◌∙◌, Common.arith}
+use Rattle.cellset.proofs.{Members.has_empty}
+use Rattle.patterns.proofs.{CellLists.at_any}
 use Rattle.patterns.proofs.group_regions.seed.Goals as goal
-
-pub pattern-requires : goal.pattern-requires
-pattern-requires c = grind arith
 
 pub loop-at-init : goal.loop-at-init
 loop-at-init c =
@@ -24,9 +21,3 @@ loop-at-init c =
       only = λ q h. absurd (has_empty q (rw c.requires.none at h));
       found = λ j from lt is. absurd (last.others j from (omega arith) is);
     }
-
-pub loop-at-preserved : goal.loop-at-preserved
-loop-at-preserved c = grind (arith, at_any, either, cases_lt, seeds_more)
-
-pub returns-in_default-clause-found : goal.returns-in_default-clause-found
-returns-in_default-clause-found c = grind arith

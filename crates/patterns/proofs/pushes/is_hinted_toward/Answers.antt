@@ -6,9 +6,6 @@ use Rattle.patterns.{specs.GroupPushes.pushed_cell, specs.Groups.list_of, specs.
 use Rattle.patterns.proofs.GroupPushes.{covered_one, toward_trap}
 use Rattle.patterns.proofs.pushes.is_hinted_toward.Goals as goal
 
-pub is_hinted-requires-clause-back : goal.is_hinted-requires-clause-back
-is_hinted-requires-clause-back g c = c.in-Some.ensures.found.back
-
 pub is_hinted-requires-clause-off : goal.is_hinted-requires-clause-off
 is_hinted-requires-clause-off g c =
     let trap = c.args.tables.now.trap.members in

@@ -2,35 +2,18 @@
 -- doesn't lie on the side from which the box is pushed, or that side is off the grid, the player can't come there (`unreached`). If the cell
 -- ahead is off the grid, or has a wall or a box, the box can't go there (`barred`). Otherwise the push is the one of this box in the
 -- direction. A cell of the region has no box (`region_lacks`), and any other cell ahead is compared with the boxes.
-use Rattle.std.proofs.{Common.refl, Common.sym, Common.◌∙◌, Common.ap, lemmas.Bool.false≢true}
+use Rattle.std.proofs.{Common.refl, Common.sym, Common.◌∙◌, Common.ap}
 use Rattle.cellset.{specs.Cell.neighbor, specs.Cell.opposite, proofs.Neighbors.neighbor_back}
 use Rattle.patterns.{specs.GroupPushes.pushed_cell, specs.Groups.position_at, proofs.Grouped.group_in_room}
-use Rattle.patterns.proofs.{GroupPushes.barred, GroupPushes.pushed_on, GroupPushes.unreached, RegionCells.region_lacks, RegionCells.region_on}
+use Rattle.patterns.proofs.{GroupPushes.pushed_on, GroupPushes.unreached, RegionCells.region_lacks, RegionCells.region_on}
 use Rattle.patterns.proofs.pushes.push_of.Goals as goal
 use Rattle.patterns.proofs.pushes.push_of.Goals.{else-not-has-2-via-then-not-has-2+else-not-is_free, else-not-has-2-via-else-not-has-2}
-
-pub returns-then-not-has-clause-found : goal.returns-then-not-has-clause-found
-returns-then-not-has-clause-found g c = unreached c.args.tables.now.board.now
-    (position_at c.args.tables.now.board.now c.args.tables.now.groups c.args.pushed.now.group) _ c.args.dir
-    (λ inside. false≢true ((rw c.opposite.ensures at c.if-not-has.ensures) ∙ (c.requires.pushed.sides (opposite c.args.dir)).1 inside))
-
-pub returns-in_default-clause-found : goal.returns-in_default-clause-found
-returns-in_default-clause-found g c = barred c.args.tables.now.board.now
-    (position_at c.args.tables.now.board.now c.args.tables.now.groups c.args.pushed.now.group) _ c.args.dir
-    (λ free. c.in_default.ensures (rw c.shape-shape.ensures.value free.on))
 
 pub returns-in_default-step-clause-found : goal.returns-in_default-step-clause-found
 returns-in_default-step-clause-found g c =
     let position = position_at c.args.tables.now.board.now c.args.tables.now.groups c.args.pushed.now.group in
     unreached c.args.tables.now.board.now position _ c.args.dir
     (λ inside. c.in_default-step.ensures (rw (c.shape-shape.ensures.value, c.opposite-2.ensures) (region_on c.args.tables.now.board.now position _ inside)))
-
-pub returns-then-not-is_free-clause-found : goal.returns-then-not-is_free-clause-found
-returns-then-not-is_free-clause-found g c =
-    let level = c.args.tables.now.board.now in
-    let position = position_at level c.args.tables.now.groups c.args.pushed.now.group in
-    barred level position _ c.args.dir (λ free. false≢true (c.if-not-is_free.ensures.1
-    (rw (← c.requires.pushed.boxes, ← c.in-Some.ensures.1) at free)))
 
 pub returns-clause-free : goal.returns-clause-free
 returns-clause-free g c =

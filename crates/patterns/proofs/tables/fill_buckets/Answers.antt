@@ -25,11 +25,7 @@ rarest_box-requires-clause-within g c = λ q has.
     rw c.deref-in-loop-group.ensures.value (omega arith)
 
 pub loop-group-preserved : goal.loop-group-preserved
-loop-group-preserved g c = record {
-  long = grind (arith, length_more);
-  roomy = grind arith;
-  each = grind (arith, bucket_more);
-}
+loop-group-preserved g c = grind (arith, length_more, bucket_more)
 
 pub chain-requires : goal.chain-requires
 chain-requires g c = λ j lt.

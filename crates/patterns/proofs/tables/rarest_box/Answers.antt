@@ -1,4 +1,4 @@
-use Rattle.std.proofs.Common.{◌<◌, length, ◌∙◌, arith}
+use Rattle.std.proofs.Common.{◌<◌, length, arith}
 use Rattle.patterns.proofs.CellLists.{in_list, no_cell}
 use Rattle.patterns.proofs.tables.rarest_box.Goals as goal
 use Rattle.patterns.proofs.tables.rarest_box.Goals.{After-index_of-at, then-counts-at, else-counts-at}
@@ -11,13 +11,10 @@ pub bounds-counts-at : goal.bounds-counts-at
 bounds-counts-at c = low (goal.at.bounds-counts-at c).After-index_of-at
 
 pub offset_bounds-counts-at : goal.offset_bounds-counts-at
-offset_bounds-counts-at c = let fits = low (goal.at.offset_bounds-counts-at c).After-index_of-at in grind arith
+offset_bounds-counts-at c = grind (arith, low)
 
 pub loop-cell-init : goal.loop-cell-init
-loop-cell-init c = (_, in_list c.args.boxes.now 0 no_cell c.requires.some, c.index_of-rarest.ensures)
+loop-cell-init c = grind (arith, in_list, no_cell)
 
 pub loop-cell-preserved : goal.loop-cell-preserved
-loop-cell-preserved c = elim c.if-counts-at.branch [
-  | then-counts-at w ↦ (_, in_list c.args.boxes.now c.loop-cell.cell-index no_cell c.loop-cell-test.true, w.rarest-is ∙ c.index_of-at.ensures)
-  | else-counts-at w ↦ (c.loop-cell.invariant.0, c.loop-cell.invariant.1, w.rarest-is ∙ c.loop-cell.invariant.2)
-]
+loop-cell-preserved c = grind (arith, then-counts-at, in_list, no_cell, else-counts-at)

@@ -6,9 +6,6 @@ use Rattle.std.proofs.Common.{◌≡◌, length, ◌∙◌, arith}
 use Rattle.patterns.proofs.Spanning.{none_left}
 use Rattle.patterns.proofs.tree.grow_tree.Goals as goal
 
-pub loop-from-preserved : goal.loop-from-preserved
-loop-from-preserved g c = grind arith
-
 pub returns : goal.returns
 returns g c =
     let inv = c.loop-from.invariant in
@@ -24,15 +21,3 @@ returns g c =
       each = λ q room. inv.growing.each q room (none_left level c.shape.ensures.formed (g.S.CellSet.members c.loop-from.left) c.loop-from.tree inv.growing
           beside q room);
     }
-
-pub loop-from-init : goal.loop-from-init
-loop-from-init g c = grind arith
-
-pub loop-from-smaller : goal.loop-from-smaller
-loop-from-smaller g c = grind arith
-
-pub join_around-requires-clause-from : goal.join_around-requires-clause-from
-join_around-requires-clause-from g c = grind arith
-
-pub join_around-requires-clause-growing : goal.join_around-requires-clause-growing
-join_around-requires-clause-growing g c = c.loop-from.invariant.growing

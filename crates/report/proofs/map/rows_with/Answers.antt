@@ -12,8 +12,7 @@ push_row-requires-clause-room g c =
 pub loop-row-preserved : goal.loop-row-preserved
 loop-row-preserved g c = record {
   text =
-      rows_more c.args.board.now (g.S.CellSet.members c.args.dead.now) c.loop-row.row c.loop-row.text.items _ c.loop-row.invariant.text
-      c.push_row.ensures.line;
+      rows_more c.args.board.now (g.S.CellSet.members c.args.dead.now) c.loop-row.row c.loop-row.text.items _ c.loop-row.invariant.text c.push_row.ensures.line;
   capacity = rw c.push_row.ensures.capacity c.loop-row.invariant.capacity;
 }
 

@@ -1,16 +1,13 @@
 -- There are two cases. With `*` the region is the room without the boxes, and that is what is copied and taken out (`room_region` in
 -- `RegionCells.antt`). With listed seeds it is what the flood reaches from them past walls and boxes. The pattern is lawful, so its boxes and
 -- seeds lie on the grid and can be put into the sets.
-use Rattle.std.proofs.Common.{inl, inr}
+use Rattle.std.proofs.Common.{inr}
 use Rattle.patterns.{specs.Sides.cells_in, proofs.RegionCells.room_region}
 use Rattle.closure.proofs.region.Finder.find.Goals as goal
 
 pub load-requires-in-Some : goal.load-requires-in-Some
 load-requires-in-Some g c = λ q has.
     rw c.requires.seeds (c.requires.lawful.board q (inr (rw c.in-Some.is has)))
-
-pub take_out-requires : goal.take_out-requires
-take_out-requires g c = λ q has. rw (c.copy_from.ensures.extent, c.requires.region) (c.requires.lawful.board q (inl has))
 
 pub returns-in-None-clause-exact : goal.returns-in-None-clause-exact
 returns-in-None-clause-exact g c = λ q.

@@ -10,7 +10,7 @@ use Rattle.patterns.proofs.group_regions.Flood.are_sides_joined.Goals as goal
 -- a link by the cells of a ring
 linked : (Free : Cell → Type 0) (c : Cell) (d e : Dir) {side corner next : Bool} → IsTrue side ↔ Free (neighbor c d)
     → IsTrue corner ↔ Free (neighbor (neighbor c d) e) → IsTrue next ↔ Free (neighbor c e) → (IsTrue side → IsTrue next × IsTrue corner) → IsLinked Free c d e
-linked Free c d e is_side is_corner is_next link free = let both = link (is_side.1 free) in (is_next.0 both.0, is_corner.0 both.1)
+linked Free c d e is_side is_corner is_next link free = grind arith
 
 -- three links in a row, if one of four may be missing
 three_links : {G : Type 0} (l u r d : Bool) → (l && u && (r || d) || (l || u) && r && d) ≡ true → (IsTrue l → IsTrue u → IsTrue r → G)

@@ -13,6 +13,3 @@ returns-clause-piece g c = λ boxes. record {
   subsets = omega arith;
   lookup = record { roomy = c.requires.space.roomy; walked = λ h. absurd (false≢true h) };
 }
-
-pub insert-requires : goal.insert-requires
-insert-requires g c = rw (c.clear.ensures.extent, c.requires.space.cells) (c.shape-shape.ensures.formed.room c.args.player c.requires.player).0

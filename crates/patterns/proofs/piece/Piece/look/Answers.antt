@@ -2,9 +2,6 @@
 use Rattle.std.proofs.Common.{◌∙◌, inl, inr, refl}
 use Rattle.patterns.proofs.piece.Piece.look.Goals as goal
 
-pub loosen-requires : goal.loosen-requires
-loosen-requires g c = record { on = λ q has. rw c.loop.invariant.space.loose (c.requires.boxes q has) }
-
 pub loop-preserved : goal.loop-preserved
 loop-preserved g c =
     let space = c.loop.invariant.space in

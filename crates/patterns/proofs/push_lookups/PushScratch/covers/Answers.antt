@@ -13,10 +13,5 @@ returns-then-covers-clause-exact g c =
     let same = c.is_remembered.ensures.state ∙ c.requires.loaded.state in
     (λ _. rw same at (c.covers.ensures.covered c.if-covers.true), λ _. refl)
 
-pub returns-then-is_ahead-clause-exact : goal.returns-then-is_ahead-clause-exact
-returns-then-is_ahead-clause-exact g c =
-    let same = c.is_remembered.ensures.state ∙ c.requires.loaded.state in
-    (λ _. rw same at (c.is_ahead.ensures c.if-is_ahead.true), λ _. c.if-is_ahead.true)
-
-pub returns-else-is_ahead-clause-exact : goal.returns-else-is_ahead-clause-exact
-returns-else-is_ahead-clause-exact g c = rw (c.is_remembered.ensures.state ∙ c.requires.loaded.state) at c.is_covered_after.ensures.covered
+pub returns-clause-exact : goal.returns-clause-exact
+returns-clause-exact g c = rw (c.is_remembered.ensures.state ∙ c.requires.loaded.state) at c.is_covered_after.ensures.exact

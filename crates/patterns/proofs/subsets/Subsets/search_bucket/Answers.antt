@@ -22,19 +22,3 @@ are_in-requires g c =
     let up = c.loop-self-test.true in
     λ q has. rw c.requires.extent (boxes_on c.args.filled.now.tables.board.now c.args.filled.now.tables.groups c.requires.filled.are.lawful c.requires.filled.are.grouped
     (c.loop-self.self.link - 1) (omega arith) c.boxes-kept.result.now c.boxes-kept.ensures q has)
-
-pub returns-then-are_in-clause-found : goal.returns-then-are_in-clause-found
-returns-then-are_in-clause-found g c =
-    let link = c.loop-self.invariant.link in
-    let up = c.loop-self-test.true in
-    record { within = omega arith; has = rw c.boxes-kept.ensures at c.if-are_in.ensures }
-
-pub loop-self-preserved : goal.loop-self-preserved
-loop-self-preserved g c =
-    let was = c.loop-self.invariant in
-    let low = was.link in
-    let less = falls g (goal.at.loop-self-preserved g c).After-index in
-    record { link = omega arith; same = was.same }
-
-pub loop-self-smaller : goal.loop-self-smaller
-loop-self-smaller g c = falls g (goal.at.loop-self-smaller g c).After-index

@@ -17,6 +17,3 @@ returns-clause-tables g c = record {
   grouped = c.in_ok-groups.ensures.groups;
   regions = c.in_ok-regions.ensures;
 }
-
-pub returns-clause-same : goal.returns-clause-same
-returns-clause-same g c = c.in_ok-groups.ensures.same

@@ -2,21 +2,8 @@
 -- the next call requires holds again, and no call puts a cell back. So a neighbour that isn't left after one call isn't left after the
 -- fourth, and then no neighbour of the node is (`turned` in `Spanning.antt`). The number of nodes and of cells left, taken together, is
 -- the same after each call.
-use Rattle.std.proofs.Common.{arith}
 use Rattle.patterns.proofs.Spanning.{turned}
 use Rattle.patterns.proofs.tree.Tree.join_around.Goals as goal
-
-pub returns-clause-extent : goal.returns-clause-extent
-returns-clause-extent g c = c.in_ok-join_beside-4.ensures.extent
-
-pub returns-clause-growing : goal.returns-clause-growing
-returns-clause-growing g c = c.in_ok-join_beside-4.ensures.growing
-
-pub returns-clause-longer : goal.returns-clause-longer
-returns-clause-longer g c = grind arith
-
-pub returns-clause-sum : goal.returns-clause-sum
-returns-clause-sum g c = grind arith
 
 pub returns-clause-beside : goal.returns-clause-beside
 returns-clause-beside g c = λ beside.
@@ -28,30 +15,3 @@ returns-clause-beside g c = λ beside.
     (record { longer = b.longer; kept = b.kept; same_item = b.same; joined = b.beside })
     (record { longer = d.longer; kept = d.kept; same_item = d.same; joined = d.beside })
     (record { longer = e.longer; kept = e.kept; same_item = e.same; joined = e.beside }) c.requires.from beside
-
-pub join_beside-requires-2-clause-extent : goal.join_beside-requires-2-clause-extent
-join_beside-requires-2-clause-extent g c = c.in_ok-join_beside.ensures.extent
-
-pub join_beside-requires-2-clause-growing : goal.join_beside-requires-2-clause-growing
-join_beside-requires-2-clause-growing g c = c.in_ok-join_beside.ensures.growing
-
-pub join_beside-requires-2-clause-from : goal.join_beside-requires-2-clause-from
-join_beside-requires-2-clause-from g c = grind arith
-
-pub join_beside-requires-3-clause-extent : goal.join_beside-requires-3-clause-extent
-join_beside-requires-3-clause-extent g c = c.in_ok-join_beside-2.ensures.extent
-
-pub join_beside-requires-3-clause-growing : goal.join_beside-requires-3-clause-growing
-join_beside-requires-3-clause-growing g c = c.in_ok-join_beside-2.ensures.growing
-
-pub join_beside-requires-3-clause-from : goal.join_beside-requires-3-clause-from
-join_beside-requires-3-clause-from g c = grind arith
-
-pub join_beside-requires-4-clause-extent : goal.join_beside-requires-4-clause-extent
-join_beside-requires-4-clause-extent g c = c.in_ok-join_beside-3.ensures.extent
-
-pub join_beside-requires-4-clause-growing : goal.join_beside-requires-4-clause-growing
-join_beside-requires-4-clause-growing g c = c.in_ok-join_beside-3.ensures.growing
-
-pub join_beside-requires-4-clause-from : goal.join_beside-requires-4-clause-from
-join_beside-requires-4-clause-from g c = grind arith

@@ -6,7 +6,7 @@ use Rattle.std.proofs.{Common.set, Common.refl, Common.sym, Common.◌∙◌, Co
 use Rattle.std.specs.Vec.{with_item}
 use Rattle.cellset.{specs.Cell.neighbor, proofs.Members.remove_absent}
 use Rattle.patterns.specs.{CellIndex.index_of, SpanningTree.IsGrowing, declared.tree.Node.Node, declared.tree.Tree.Tree}
-use Rattle.patterns.proofs.{Counts.len-remove_member, Spanning.lacks_remove, Spanning.laid_more, Spanning.index_within, Lists.length_more, Lists.old_item}
+use Rattle.patterns.proofs.{Counts.len-remove_member, Spanning.lacks_remove, Spanning.laid_more, Lists.length_more}
 use Rattle.patterns.proofs.Sets.{removed_lacks}
 use Rattle.patterns.proofs.tree.Tree.join_beside.Goals as goal
 
@@ -51,12 +51,3 @@ returns-clause-kept g c = grind (arith, lacks_remove)
 
 pub returns-clause-beside : goal.returns-clause-beside
 returns-clause-beside g c = grind (arith, get_or_read, removed_lacks)
-
-pub index_mut-requires : goal.index_mut-requires
-index_mut-requires g c = grind (arith, index_within)
-
-pub returns-clause-same : goal.returns-clause-same
-returns-clause-same g c = grind (arith, old_item)
-
-pub returns-in_default-clause-beside : goal.returns-in_default-clause-beside
-returns-in_default-clause-beside g c = grind (arith, get_or_read)

@@ -5,8 +5,8 @@
 use Rattle.std.proofs.Common.{◌≡◌, ℕ, ◌-◌, ◌<◌, ◌≤◌, List, sym, ◌∙◌, arith}
 use Rattle.std.{specs.Prelude.slice_index, proofs.lemmas.Bool.cases_lt, proofs.lemmas.Bool.false≢true}
 use Rattle.patterns.specs.{Chains.AreChains, Chains.IsLast, CellIndex.index_of, Tables.GroupCovers}
-use Rattle.patterns.proofs.Lookups.{begun, led_on}
-use Rattle.patterns.proofs.lookup.find_in_bucket.Goals as goal
+use Rattle.patterns.proofs.{Grouped.covered_of_group, Lookups.begun, Lookups.led_on}
+use Rattle.patterns.proofs.lookup.is_covered_in_bucket.Goals as goal
 
 -- A walk along the chain of a key skips no item with the key.
 module _ (keys first next : List ℕ) (count key : ℕ) (chains : AreChains keys count first next) where
@@ -57,3 +57,9 @@ loop-at-preserved g c =
           test last (λ covers. false≢true (sym c.if-is_covering.false ∙ c.is_covering.ensures.exact.1 covers.1)) inv.passed;
       scratch = c.is_covering.ensures.scratch;
     }
+
+pub returns-then-is_covering-clause-found : goal.returns-then-is_covering-clause-found
+returns-then-is_covering-clause-found g c =
+    covered_of_group c.args.filled.now.tables.board.now c.args.filled.now.tables.groups c.requires.filled.are.grouped
+    (record { player = c.args.query.now.player; boxes = g.S.CellSet.members c.args.query.now.boxes.now }) (c.loop-at.at - 1)
+    (c.is_covering.ensures.exact.0 c.if-is_covering.true)

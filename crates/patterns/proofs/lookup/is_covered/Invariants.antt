@@ -1,7 +1,7 @@
 use Rattle.std.{proofs.Common.◌≡◌, proofs.Common.◌++◌, proofs.Common.ℕ, proofs.Common.slice_index, specs.List.Contains}
 use Rattle.cellset.specs.{Members.AreMembersOf, declared.cell.Cell.Cell}
 use Rattle.patterns.specs.{CellIndex.index_of, Tables.GroupCovers, Tables.IsReadyFor}
-use Rattle.patterns.proofs.lookup.find_covering.Given as goal
+use Rattle.patterns.proofs.lookup.is_covered.Given as goal
 
 abbrev pub invariant-loop-cell : goal.invariant-loop-cell
 invariant-loop-cell g l = record {

@@ -1,6 +1,6 @@
 use Rattle.std.proofs.Common.{◌≡◌, ℕ, ◌<◌, ◌≤◌, ◌-◌, length, slice_index}
 use Rattle.patterns.specs.{CellIndex.index_of, Tables.GroupCovers, Tables.IsReadyFor}
-use Rattle.patterns.proofs.lookup.find_in_bucket.Given as goal
+use Rattle.patterns.proofs.lookup.is_covered_in_bucket.Given as goal
 
 abbrev pub invariant-loop-at : goal.invariant-loop-at
 invariant-loop-at g l = record {
