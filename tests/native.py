@@ -20,7 +20,7 @@ MACHINES = {
 TABLES = ("certificates", "collections", "made", "maps", "solutions", "zones")
 PLAIN = r"(audit levels answers|make levels|dead levels [+\d]+)"
 # on a loaded machine Wine itself fails now and then
-TRIES = 2
+TRIES = 5
 LEVEL = "####\n# .#\n#  ###\n#*@  #\n#  $ #\n#  ###\n####\n"
 # words of runs in a folder with samples; the files of some are too long, missing or have odd names
 WORDS = """
@@ -128,7 +128,11 @@ def test(cases: Cases, machine: str, program: str) -> None:
     os.chdir("samples")
     compare(cases, machine, other, program)
     os.chdir("..")
-    cases.succeeds(f"{machine}: random cases", TEST, *FUZZ, other)
+    for _ in range(TRIES):
+        said = run([TEST, *FUZZ, other])
+        if said.endswith("status 0\n"):
+            break
+    cases.holds(f"{machine}: random cases", said.endswith("status 0\n"), *said.splitlines()[-20:])
     if machine == "windows":
         compare_rows(cases, machine, other)
         return

@@ -223,7 +223,7 @@ class Signs(Case):
                                 stderr=said)
             while b"level 1" not in self.read("said"):
                 time.sleep(0.05)
-            time.sleep(1)
+            time.sleep(3)
             os.killpg(running.pid, signal.SIGINT)
             self.assertEqual(running.wait(10), 130)
         record = "level %d\nunsolvable\npattern 2,2 @ *\nend\n"
@@ -236,7 +236,7 @@ class Signs(Case):
         self.write("levels", hall(60, 60))
         import pty  # which Windows lacks
         ours, theirs = pty.openpty()
-        self.find("levels", "--seconds", "1.5", stdout=subprocess.DEVNULL, stderr=theirs).wait(20)
+        self.find("levels", "--seconds", "3", stdout=subprocess.DEVNULL, stderr=theirs).wait(20)
         os.close(theirs)
         said = os.read(ours, 65536).decode()
         self.assertIn(" \rfind: level 1 for 1 s (0 of 1 done)", said)
@@ -246,10 +246,12 @@ class Signs(Case):
         self.write("levels", hall(60, 60))
         running = self.find("levels", "--seconds", "1000", stdout=subprocess.PIPE,
                             stderr=subprocess.DEVNULL)
+        assert running.stdout
+        self.assertEqual(running.stdout.readline(), b"sokoban-answers 1\n")
         time.sleep(1)
         running.kill()
         # The pipe ends when no process has it open.
-        self.assertEqual(running.communicate(timeout=10)[0], b"sokoban-answers 1\n")
+        self.assertEqual(running.communicate(timeout=20)[0], b"")
 
 
 class Search(Case):

@@ -122,7 +122,7 @@ class Solvers(Case):
 
     def test_never_ends(self):
         """Its time is over, also if it ignores SIGTERM; what it found counts."""
-        seconds = 3 if LACKING else .5  # a Python without this and that takes longer to start
+        seconds = 3  # a Python takes long to start on a busy machine
         for ignores in ("", "signal.signal(signal.SIGTERM, signal.SIG_IGN)\n"):
             for printed, what in (("", solvers.LATE), ("rRR", solvers.SOLVED)):
                 began = time.monotonic()
@@ -160,16 +160,16 @@ print("rRR")
 
     @is_slow
     def test_side_by_side(self):
-        """Several at once, each level with its own letters, and one that dies loses only itself."""
+        """Several at once, each level with its own letters, and one that dies loses only itself.
+        Each waits until all have begun."""
         script = """
-time.sleep(1)
+open(f"begun-{os.getpid()}", "w").close()
+while len([it for it in os.listdir(".") if it.startswith("begun-")]) < 3: time.sleep(.01)
 text = sys.stdin.read()
 if "$@" in text: os.kill(os.getpid(), signal.SIGTERM)
 print("rRR" if "$ ." in text else "rR")
 """
-        began = time.monotonic()
         found = {it.level.number: it for it in self.solved(script, count=3)}
-        self.assertLess(time.monotonic() - began, 2.9)
         self.assertEqual([found[number].what for number in (1, 2, 3)],
                          [solvers.SOLVED, solvers.SOLVED, solvers.NOTHING])
         self.assertEqual(found[2].record, b"level 2\nsolution\nrR\nend\n")
@@ -180,8 +180,8 @@ print("rRR" if "$ ." in text else "rR")
         began = time.monotonic()
         found = self.solved("time.sleep(9)", count=3, jobs=1, total=1)
         self.assertEqual([it.what for it in found], [solvers.LATE])
-        self.assertLess(found[0].seconds, 1.1)
-        self.assertLess(time.monotonic() - began, 4)
+        self.assertLess(found[0].seconds, 4)
+        self.assertLess(time.monotonic() - began, 8)
 
     def test_interrupt(self):
         """When the caller stops, all runs end, and what was printed before counts."""
