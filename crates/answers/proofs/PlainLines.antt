@@ -92,7 +92,7 @@ no_comment b p = grind (arith, nat_tests)
 last_is : (line : List ℕ) → length (ended line) - 1 ≡ length line
 last_is line = omega (arith, length-append line (10 ∷ []))
 
-ends_at : (line : List ℕ) → slice_index (ended line) (length (ended line) - 1) ≡ 10
+pub ends_at : (line : List ℕ) → slice_index (ended line) (length (ended line) - 1) ≡ 10
 ends_at line = search (last_is, get_or-append_seam)
 
 within : {line : List ℕ} → IsPlainLine line → (k : ℕ) → k + 1 < length (ended line) → slice_index (ended line) k ≢ 10

@@ -55,7 +55,7 @@ pub record Continues (text : List ℕ) (front : List Coord) (last : Coord) (left
   whole : (cells : List Coord) (rest : List ℕ) → EndsCells rest → AreCellsBefore text cells rest → (more : List Coord) × (cells ≡ front ++ more)
       × GoOnAfter last left more rest
 
-later : (c : Coord) (cells : List Coord) → AreInOrder (c ∷ cells) → AreInOrder cells
+pub later : (c : Coord) (cells : List Coord) → AreInOrder (c ∷ cells) → AreInOrder cells
 later c [] h = tt
 later c (d ∷ cells) h = h.1
 

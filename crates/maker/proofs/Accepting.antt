@@ -10,6 +10,7 @@ use Rattle.std.proofs.lemmas.List.Elements.{Contains-append_left, Contains-push,
 use Rattle.cellset.specs.Cell.{neighbor, opposite}
 use Rattle.cellset.specs.CellSet.{Cells, Has, Lacks, only}
 use Rattle.cellset.specs.declared.cell.Cell.{Cell}
+use Rattle.cellset.proofs.Filters.{later_in}
 use Rattle.cellset.proofs.Members.{has_or_lacks, not_both, inserted, has_only, lacks_only, same_members}
 use Rattle.cellset.proofs.Neighbors.{neighbor_back}
 use Rattle.cellset.proofs.Truth.{either}
@@ -25,7 +26,7 @@ use Rattle.patterns.proofs.RegionCells.{room_outside}
 use Rattle.maker.specs.Dead.{IsRelaxedPush, at_goal, pushed, AreDead}
 use Rattle.maker.specs.Frozen.{IsFrozen, IsLargestFrozen}
 use Rattle.maker.specs.Made.{IsListOf, lone_patterns, IsMadeOfDead, IsMadeOfFrozen, HasDeadBox}
-use Rattle.maker.proofs.Listing.{listed_cell, tail}
+use Rattle.maker.proofs.Listing.{listed_cell}
 use Rattle.maker.proofs.Thawing.{held_more}
 
 -- The pattern of some boxes, with the whole room for its seeds.
@@ -38,7 +39,7 @@ lone_in [] x (k, within, is) = absurd (omega arith)
 lone_in (y ∷ coords) x (zero, within, is) = grind arith
 lone_in (y ∷ coords) x (suc k, within, is) =
     let rest = lone_in coords x (k, omega arith, is) in
-    tail (roomy (only (cell_of y))) (patterns_of (lone_patterns coords)) (roomy (only (cell_of x))) rest
+    later_in (roomy (only (cell_of y))) (patterns_of (lone_patterns coords)) (roomy (only (cell_of x))) rest
 
 lone_of : (coords : List Coord) (p : Pattern) → Contains (patterns_of (lone_patterns coords)) p
     → (x : Coord) × Contains coords x × (roomy (only (cell_of x)) ≡ p)
@@ -46,7 +47,7 @@ lone_of [] p (k, within, is) = absurd (omega arith)
 lone_of (y ∷ coords) p (zero, within, is) = grind arith
 lone_of (y ∷ coords) p (suc k, within, is) =
     let rest = lone_of coords p (k, omega arith, is) in
-    (rest.0, tail y coords rest.0 rest.1, rest.2)
+    (rest.0, later_in y coords rest.0 rest.1, rest.2)
 
 -- The patterns of the cells of a set.
 module _ (cells : Cells) (coords : List Coord) (list : IsListOf cells coords) where

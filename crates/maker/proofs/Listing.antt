@@ -15,7 +15,7 @@ use Rattle.cellset.specs.CellSet.{Cells, Has}
 use Rattle.cellset.specs.declared.cell.Cell.{Cell}
 use Rattle.cellset.proofs.Members.{inserted, kept_by_insert, has_empty, same_members}
 use Rattle.cellset.proofs.ReadingOrder.{sorted_len}
-use Rattle.cellset.proofs.Filters.{first_in, in_cases, of_all}
+use Rattle.cellset.proofs.Filters.{first_in, in_cases, later_in, of_all}
 use Rattle.cellset.proofs.Truth.{either}
 use Rattle.cellset.specs.Members.{AreMembersOf}
 use Rattle.answers.specs.declared.pattern.Coord.{Coord}
@@ -29,15 +29,11 @@ use Rattle.maker.specs.Made.{made_pattern, lone_patterns}
 pub listed_cell : (coords : List Coord) (x : Coord) → Contains coords x → Has (cells_of coords) (cell_of x)
 listed_cell coords x (k, within, is) = grind (arith, in_cells)
 
--- An element of a list is an element of the list with one more in front.
-pub tail : {X : Type 0} (y : X) (xs : List X) (x : X) → Contains xs x → Contains (y ∷ xs) x
-tail y xs x h = Contains-append_right (y ∷ []) xs x h
-
 -- A list in order stays in order if a coordinate that comes after all others is appended.
 pub in_order_push : (coords : List Coord) (x : Coord) → AreInOrder coords → ((y : Coord) → Contains coords y → IsBefore y x) → AreInOrder (coords ++ x ∷ [])
 in_order_push [] x order before = tt
 in_order_push (a ∷ []) x order before = (before a (0, omega arith, refl), tt)
-in_order_push (a ∷ b ∷ coords) x order before = (order.0, in_order_push (b ∷ coords) x order.1 (λ y h. before y (tail a (b ∷ coords) y h)))
+in_order_push (a ∷ b ∷ coords) x order before = (order.0, in_order_push (b ∷ coords) x order.1 (λ y h. before y (later_in a (b ∷ coords) y h)))
 
 -- Each earlier member comes before the next member.
 pub came_earlier : (came left : List Cell) (m q : Cell) → IsStrictlySortedBy cell_cmp (came ++ m ∷ left) → Contains came q → Before q m

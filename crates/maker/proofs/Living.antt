@@ -1,26 +1,18 @@
 -- Live cells are those that pulls within the room reach from the goals.
 -- Every floor cell beside a cell of the room is in the room. So in a relaxed push of a box on floor, the cell behind the
 -- box, its own cell and the cell ahead of it are all in the room.
-use Rattle.std.proofs.Common.{◌≡◌, ◌≤◌, refl, subst}
+use Rattle.std.proofs.Common.{refl, subst}
 use Rattle.std.specs.Prelude.{◌⊎◌, ◌↔◌}
 use Rattle.cellset.specs.Cell.{IsOn, neighbor, opposite}
 use Rattle.cellset.specs.CellSet.{Cells, Has}
 use Rattle.cellset.specs.declared.cell.Cell.{Cell}
 use Rattle.cellset.specs.declared.dir.Dir.{Dir}
-use Rattle.cellset.specs.declared.dir.Dir.TheVariants.{L, U, R, D}
-use Rattle.cellset.proofs.Neighbors.{neighbor_back}
+use Rattle.cellset.proofs.Neighbors.{neighbor_forth}
 use Rattle.cellset.proofs.Truth.{either}
 use Rattle.reach.specs.Reached.{Reached, at_seed, by_step, PullsTo}
 use Rattle.board.specs.Game.{Level, IsFloor}
 use Rattle.board.specs.Board.{IsWellFormed}
 use Rattle.maker.specs.Dead.{IsLive, at_goal, pushed, IsDead}
-
--- A step back and one forth lead to the same cell.
-neighbor_forth : (c : Cell) (d : Dir) → 1 ≤ c.row → 1 ≤ c.column → neighbor (neighbor c (opposite d)) d ≡ c
-neighbor_forth c L row column = neighbor_back c R row column
-neighbor_forth c U row column = neighbor_back c D row column
-neighbor_forth c R row column = neighbor_back c L row column
-neighbor_forth c D row column = neighbor_back c U row column
 
 module _ (level : Level) (formed : IsWellFormed level) where
   pulled_live : (c : Cell) → Reached (PullsTo (Has level.room)) (Has level.goals) c → IsLive level c

@@ -9,6 +9,7 @@ use Rattle.std.specs.List.{Contains, flat_map}
 use Rattle.std.proofs.lemmas.Bool.{false≢true}
 use Rattle.std.proofs.lemmas.Simd.{map-map}
 use Rattle.cellset.specs.CellSet.{Cells}
+use Rattle.cellset.proofs.Filters.{later_in}
 use Rattle.cellset.proofs.Members.{same_members}
 use Rattle.board.specs.Game.{Level}
 use Rattle.board.specs.Legal.{IsBoardOf, IsRefusal}
@@ -20,6 +21,7 @@ use Rattle.answers.specs.Grammar.{AreInOrder, IsBefore, pattern_text, said_patte
 use Rattle.answers.specs.declared.pattern.Coord.{Coord}
 use Rattle.answers.specs.declared.record.MadeBody.{MadeBody}
 use Rattle.answers.specs.declared.record.MadeRecord.{MadeRecord}
+use Rattle.answers.proofs.TakenCells.{later}
 use Rattle.patterns.specs.Pattern.{cell_of}
 use Rattle.patterns.proofs.CellLists.{of_cells}
 use Rattle.maker.specs.Made.{AreDeadPatterns, AreFrozen, IsListOf, IsLeastZoneLine, IsMade, IsMadeList, HasNoList, body_of, coord_of, lone_patterns, made_pattern}
@@ -49,16 +51,9 @@ after_first a [] order x (k, within, is) = absurd (omega arith)
 after_first a (b ∷ xs) order x (zero, within, is) = subst (IsBefore a) is order.0
 after_first a (b ∷ xs) order x (suc k, within, is) = before_trans a b x order.0 (after_first b xs order.1 x (k, omega arith, is))
 
-after_all : (a : Coord) (xs : List Coord) → AreInOrder (a ∷ xs) → AreInOrder xs
-after_all a [] order = tt
-after_all a (b ∷ xs) order = order.1
-
 first_or_later : (a : Coord) (xs : List Coord) (x : Coord) → Contains (a ∷ xs) x → (a ≡ x) ⊎ Contains xs x
 first_or_later a xs x (zero, within, is) = inl is
 first_or_later a xs x (suc k, within, is) = grind arith
-
-later : (a : Coord) (xs : List Coord) (x : Coord) → Contains xs x → Contains (a ∷ xs) x
-later a xs x (k, within, is) = (suc k, omega arith, is)
 
 same_first : (a b : Coord) (xs ys : List Coord) → AreInOrder (a ∷ xs) → AreInOrder (b ∷ ys) → Contains (b ∷ ys) a → Contains (a ∷ xs) b → a ≡ b
 same_first a b xs ys order also there back = elim (first_or_later b ys a there) [
@@ -72,7 +67,7 @@ same_first a b xs ys order also there back = elim (first_or_later b ys a there) 
 -- if two lists of the same cells begin with the same cell, the rests have the same cells
 in_rest : (a b : Coord) (xs ys : List Coord) → a ≡ b → AreInOrder (a ∷ xs) → ((x : Coord) → Contains (a ∷ xs) x → Contains (b ∷ ys) x) → (x : Coord)
     → Contains xs x → Contains ys x
-in_rest a b xs ys same order there x h = elim (first_or_later b ys x (there x (later a xs x h))) [
+in_rest a b xs ys same order there x h = elim (first_or_later b ys x (there x (later_in a xs x h))) [
   | inl first ↦ let before = rw (sym first ∙ sym same) at (after_first a xs order x h) in absurd (not_around a a before before)
   | inr rest ↦ rest
 ]
@@ -85,7 +80,7 @@ one_order (a ∷ xs) [] order also there back = let h = there a (0, omega arith,
 one_order (a ∷ xs) (b ∷ ys) order also there back =
     let same = same_first a b xs ys order also (there a (0, omega arith, refl)) (back b (0, omega arith, refl)) in
     ap₂ (λ (x : Coord) (xs : List Coord). x ∷ xs) same
-    (one_order xs ys (after_all a xs order) (after_all b ys also) (in_rest a b xs ys same order there) (in_rest b a ys xs (sym same) also back))
+    (one_order xs ys (later a xs order) (later b ys also) (in_rest a b xs ys same order there) (in_rest b a ys xs (sym same) also back))
 
 -- a coordinate of one list of some cells is in any other list of these cells
 listed_too : (cells : Cells) (coords others : List Coord) → IsListOf cells coords → IsListOf cells others → (x : Coord) → Contains coords x → Contains others x

@@ -1,10 +1,9 @@
 -- The answers text around a body without a line `end` spells one record of level 1, so it has no fault.
 -- Its lines are the header, the level line, the kind line, the lines of the body, and `end`. Whatever the lines of a body are, the grammar
 -- reads something in them.
-use Rattle.std.proofs.Common.{◌≡◌, ◌≢◌, ℕ, ◌+◌, ◌-◌, ◌==◌, Bool, true, false, cond, List, [], ◌∷◌, ◌++◌, length, map, drop, slice_index, refl, sym, ◌∙◌, ap, inr, arith, append_assoc, length-append, lit<, lit≤}
+use Rattle.std.proofs.Common.{◌≡◌, ◌≢◌, ℕ, ◌+◌, ◌-◌, ◌==◌, Bool, true, false, cond, List, [], ◌∷◌, ◌++◌, length, map, drop, slice_index, refl, sym, ◌∙◌, ap, inr, arith, append_assoc, lit<, lit≤}
 use Rattle.std.specs.Prelude.{codes, filter}
 use Rattle.std.specs.List.{AllByRecursion, flat_map}
-use Rattle.std.proofs.Math.Seq.{get_or-append_seam}
 use Rattle.std.proofs.lemmas.List.{append-nil, map-append}
 use Rattle.std.proofs.lemmas.List.Elements.{filter-append}
 use Rattle.bstr.specs.Text.{lines_of, without_terminator}
@@ -22,7 +21,7 @@ use Rattle.answers.specs.declared.record_text.Kind.{Kind}
 use Rattle.answers.specs.declared.record_text.Kind.TheVariants.{Solution, Unsolvable}
 use Rattle.answers.proofs.BodyLines.{body_says}
 use Rattle.answers.proofs.KeptLines.{numbered-append}
-use Rattle.answers.proofs.PlainLines.{IsPlainLine, lines_again, plain_header, plain_level}
+use Rattle.answers.proofs.PlainLines.{IsPlainLine, ends_at, lines_again, plain_header, plain_level}
 use Rattle.report.specs.Audit.{IsFirstError, answers_fault_of}
 use Rattle.report.specs.declared.fault.AuditError.TheVariants.{Answers}
 use Rattle.report.specs.declared.fault.Why.{Why}
@@ -38,12 +37,6 @@ kind_plain Unsolvable = grind arith
 
 end_plain : IsPlainLine (codes "end")
 end_plain = grind arith
-
-last_is : (line : List ℕ) → length (ended line) - 1 ≡ length line
-last_is line = omega (arith, length-append line (10 ∷ []))
-
-ends_at : (line : List ℕ) → slice_index (ended line) (length (ended line) - 1) ≡ 10
-ends_at line = search (last_is, get_or-append_seam)
 
 abbrev head_of : Kind → List ℕ
 head_of k = flat_map ended (head_lines k)

@@ -3,14 +3,14 @@
 -- piece at first (`Pieces.antt`). The flood finds the region of the group's position (`reached_position` in `Grouped.antt`). The boxes of a
 -- group come after the boxes of earlier groups, so their sides stay when its own are noted.
 use Rattle.std.proofs.Common.{◌≡◌, ℕ, ◌+◌, ◌<◌, List, [], ◌∷◌, ◌++◌, length, get_or, sym, ◌∙◌, ap, subst, arith}
-use Rattle.std.proofs.lemmas.{List.length-drop, List.length-take, Bool.cases_lt, Bool.false≢true}
+use Rattle.std.proofs.lemmas.{List.length-drop, List.length-take, Bool.false≢true}
 use Rattle.std.specs.Prelude.{◌↔◌, Bool, IsTrue, MatchBool, false, true}
 use Rattle.cellset.specs.{Cell.neighbor, CellSet.Cells, CellSet.Has, CellSet.Lacks, declared.cell.Cell.Cell}
 use Rattle.cellset.proofs.{Members.not_both, Truth.either}
 use Rattle.patterns.specs.{Pattern.InPatternRegion, Sides.cell_no, Sides.cells_in, Spans.AreSpans, Spans.part, Spans.span_at, Around.IsFlooded}
 use Rattle.patterns.specs.{GroupRegions.AreSidesAt, GroupRegions.IsRegionAt, Groups.boxes_of, Groups.position_at, Trap.AreOff}
 use Rattle.patterns.{specs.declared.group_regions.Region.Region, specs.declared.arena.Span.Span, proofs.Turns.through}
-use Rattle.patterns.proofs.{CellLists.at_any, Grouped.boxes_on, Grouped.reached_position, Lists.each_more, Lists.length_more, Pieces.room_is_one, Spans.no_span}
+use Rattle.patterns.proofs.{CellLists.at_any, Grouped.boxes_on, Grouped.reached_position, Lists.each_more, Lists.length_more, Numbered.one_more, Pieces.room_is_one, Spans.no_span}
 use Rattle.patterns.proofs.group_regions.find_regions.Goals as goal
 
 -- the boxes of a group, counted from the number of its first one
@@ -25,10 +25,6 @@ span_read spans g span lt read = grind (arith, at_any, no_span)
 chosen_has : (P : Cells → Type 0) (b : Bool) (x y z : Cells) → MatchBool b (z ≡ x) (z ≡ y) → MatchBool b (P x) (P y) → P z
 chosen_has P true x y z is has = rw is has
 chosen_has P false x y z is has = rw is has
-
--- what holds for each group so far, and for one more
-one_more : (P : ℕ → Type 0) (n : ℕ) → ((k : ℕ) → k < n → P k) → P n → (k : ℕ) → k < n + 1 → P k
-one_more P n old new k lt = grind (arith, cases_lt)
 
 region_more : (P : ℕ → Region → Type 0) (of items : List Region) (new : Region) (n : ℕ) → length of ≡ n → items ≡ of ++ new ∷ []
     → ((k : ℕ) (r : Region) → k < n → P k (get_or of k r)) → P n new → (k : ℕ) (r : Region) → k < n + 1 → P k (get_or items k r)
