@@ -199,9 +199,6 @@ certificate_again version lines (FirstBad n Count) h =
 
 -- ---- a certificate that is read line by line
 
-pub zone_alone : (version : ℕ) (zone : ZoneLine) {rest : List Line} → rest ≡ [] → after_lines version (OneZone zone) rest ≡ OneZone zone
-zone_alone version zone e = search
-
 pub after_zone : (version : ℕ) (zone : ZoneLine) {l : Line} {rest all : List Line} → all ≡ l ∷ rest
     → after_lines version (OneZone zone) all ≡ FirstBad l.number Syntax
 unfolding extended
@@ -217,7 +214,7 @@ module _ (version : ℕ) (patterns : List PatternLine) (l : Line) (rest all : Li
 
   pub zone_next : {zone : ZoneLine} → first_zone version patterns l ≡ Some zone → come_to (after_lines version (OneZone zone) rest)
   unfolding extended
-  zone_next e = search (next_is)
+  zone_next e = search
 
   module _ (none : first_zone version patterns l ≡ None) where
     read_as : {o : Option PatternLine} → pattern_in l ≡ o → extended version (PatternLines patterns) l ≡ with_pattern patterns l.number o

@@ -3,7 +3,7 @@
 -- at the same place: before it the next byte is a digit and the number is at most 6,553, since no coordinate is above 65,535; and after it
 -- a byte would have been read that is no digit. So the number is the coordinate. Conversely a number that doesn't begin with 0 is spelled by
 -- its digits.
-use Rattle.std.proofs.Common.{◌≡◌, ℕ, ◌+◌, ◌-◌, ◌*◌, ◌<◌, ◌≤◌, Bool, true, false, not, ◌&&◌, List, length, take, drop, get_or, eqb, ltb, Some, None, get_or-take, refl, sym, ap, ◌∙◌, arith, ⊎_elim}
+use Rattle.std.proofs.Common.{◌≡◌, ℕ, ◌+◌, ◌-◌, ◌*◌, ◌<◌, ◌≤◌, Bool, true, false, not, ◌&&◌, List, length, take, drop, get_or, eqb, ltb, Some, None, get_or-take, sym, ap, ◌∙◌, arith, ⊎_elim}
 use Rattle.std.specs.List.{list_all}
 use Rattle.std.specs.Char.{is_ascii_digit}
 use Rattle.std.proofs.lemmas.Bool.{cases_Bool, cases_lt, false≢true}
@@ -97,12 +97,10 @@ takes_no_number text at number h none bad = record {
 -- ---- how a coordinate begins
 
 pub no_digits : (text : List ℕ) → BeginsWithDigits text 0 0
-no_digits text = record { within = omega arith; digits = refl; value = refl }
+no_digits text = grind arith
 
 pub begins_take : (text : List ℕ) (at : ℕ) → 0 < at → at ≤ length text → begins (take at text) ≡ begins text
-begins_take text at some within =
-    let long : length (take at text) ≡ at = omega (arith, length-take at text) in
-    grind (arith, get_or-take, long)
+begins_take text at some within = grind (arith, length-take)
 
 begins_before : (text : List ℕ) (n : ℕ) (rest : List ℕ) → IsCoordinateBefore text n rest → begins text ≡ true
 begins_before text n rest there =

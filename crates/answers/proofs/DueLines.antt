@@ -143,8 +143,8 @@ other_text ne = grind (arith, bytes_eq-Decides, cases_Bool)
 
 pub take_kind : (l : Line) {b : Body} → Opens l.text b → body_after l ≡ Ok b
 unfolding body_after
-take_kind l (solution text said) = search (same_text)
-take_kind l (certificate text said) = search (same_text)
+take_kind l (solution text said) = search
+take_kind l (certificate text said) = search
 
 pub refuse_kind : {l : Line} → ¬ IsKind l.text → body_after l ≡ Err (Kind l.number)
 unfolding body_after

@@ -9,9 +9,8 @@ use Rattle.std.proofs.lemmas.List.{length-map, map-append}
 use Rattle.std.proofs.lemmas.List.Elements.{filter-append}
 use Rattle.bstr.specs.Text.{lines_of, without_terminator}
 use Rattle.bstr.proofs.lemmas.LineLemmas.{lines-nil}
-use Rattle.lines.specs.declared.search.Start.{Start}
 use Rattle.lines.specs.Lines.{IsFirstLine, IsLineCut, lines_in}
-use Rattle.lines.specs.Starts.{AllBeginOutside, IsFirstStart}
+use Rattle.lines.specs.Starts.{AllBeginOutside}
 use Rattle.lines.proofs.Cuts.{cut_lines, cut_more, cut_none, first_alone, first_lines, first_shorter, lines_in-nil, more_lines}
 use Rattle.answers.specs.declared.line.Left.{Left}
 use Rattle.answers.specs.declared.line.NumberedLine.{NumberedLine}
@@ -55,11 +54,6 @@ none_ends n (l ∷ ls) h = grind (arith, none_ends (n + 1) ls h.1)
 pub NoneEnds-append : (xs ys : List Line) → NoneEnds xs → NoneEnds ys → NoneEnds (xs ++ ys)
 NoneEnds-append [] ys h k = k
 NoneEnds-append (x ∷ xs) ys h k = search (NoneEnds-append xs ys h.1 k)
-
-module _ (class : ℕ → Bool) (lines left : Left) (start : Start) (first : IsFirstStart class lines.text.now start) where
-  pub start_within : lines.before + start.before ≤ line_count lines
-  start_within =
-      omega (arith, count_both first.cut)
 
 module _ (class : ℕ → Bool) (lines left : Left) (s : IsSkipped class lines left) where
   pub skipped_count : line_count left ≡ line_count lines

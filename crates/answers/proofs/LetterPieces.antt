@@ -196,7 +196,7 @@ letters_past bs start h =
 
 pub comments_alone : (bs : List ℕ) → AllBeginOutside (λ b. not (b == 59)) (lines_in bs) → letters_in bs ≡ []
 unfolding letters_of
-comments_alone bs others = search (letters_of, comments_left)
+comments_alone bs others = search (comments_left)
 
 -- ---- looking for a comment
 

@@ -13,7 +13,7 @@ use Rattle.answers.specs.Grammar.{Line, numeral, level_text, cells_text, seeds_t
 use Rattle.answers.specs.Body.{PatternLine, ZoneLine}
 use Rattle.answers.specs.Reading.{AreCellsBefore, TakesCells, ◌>>=◌, is_number, number_in, cells_in, all_cells_in, after_prefix, seeds_in, pattern_in, zone_in, level_digits}
 use Rattle.answers.proofs.Numerals.{is_number-numeral, numeral-number_in}
-use Rattle.answers.proofs.CellTexts.{cells_again, cells_found, chained, prefix_again, prefix_found, prefixed, takes_cells}
+use Rattle.answers.proofs.CellTexts.{cells_again, cells_found, chained, prefix_found, prefixed, takes_cells}
 use Rattle.answers.proofs.TakenCells.{digit_of_cells}
 
 -- ---- seeds
@@ -175,4 +175,4 @@ level_found {text} {digits} e =
 
 pub level_again : {n : ℕ} → 1 ≤ n → level_digits (level_text n) ≡ Some (numeral n)
 unfolding level_digits
-level_again low = search (prefix_again, is_number-numeral)
+level_again low = search (is_number-numeral)

@@ -8,21 +8,13 @@ use Rattle.answers.specs.declared.fault.AnswersFault.TheVariants.{Unclosed}
 use Rattle.answers.specs.Grammar.{Line, NoneEnds}
 use Rattle.answers.specs.Body.{Body, Entry}
 use Rattle.answers.specs.FirstFault.{last_level}
-use Rattle.answers.specs.Reading.{Stage, LevelDue, KindDue, BodyDue, after_lines, body_after, closed, level_after, on_ok, run}
+use Rattle.answers.specs.Reading.{LevelDue, KindDue, BodyDue, after_lines, body_after, closed, level_after, on_ok, run}
 use Rattle.answers.proofs.BlockRuns.{from_there, run_end, run_lines}
 
 module _ (version levels last : ℕ) (entries : List Entry) (after : last_level entries ≡ last) where
-  -- the lines after the first are read from where the first led
-  abbrev rest_of : List Line → Result (List Entry × Stage) AnswersFault → Result (List Entry × Stage) AnswersFault
-  rest_of ls r = on_ok r (λ next. run version levels next.0 next.1 ls)
-
-  level_line : (l : Line) (ls : List Line) → run version levels entries LevelDue (l ∷ ls) ≡ rest_of ls
-      (on_ok (level_after last levels l) (λ n. Ok (entries, KindDue n)))
-  level_line l ls = ap (λ k. rest_of ls (on_ok (level_after k levels l) (λ n. Ok (entries, KindDue n)))) after
-
   level_taken : (l : Line) (ls : List Line) (n : ℕ) → level_after last levels l ≡ Ok n
       → run version levels entries LevelDue (l ∷ ls) ≡ run version levels entries (KindDue n) ls
-  level_taken l ls n e = search (level_line)
+  level_taken l ls n e = search
 
   kind_taken : (l : Line) (ls : List Line) (n : ℕ) (b : Body) → body_after l ≡ Ok b
       → run version levels entries (KindDue n) (l ∷ ls) ≡ run version levels entries (BodyDue n b) ls
@@ -48,11 +40,11 @@ module _ (version levels last : ℕ) (entries : List Entry) (after : last_level 
 
   pub level_refused : (count : ℕ) (kept : List Line) (level : Line) (more : List Line) (f : AnswersFault)
       → kept ≡ level ∷ more → level_after last levels level ≡ Err f → comes_to count kept ≡ Err f
-  level_refused count kept level more f is e = search (level_line)
+  level_refused count kept level more f is e = search
 
   pub kind_refused : (count : ℕ) (kept : List Line) (level kind : Line) (more : List Line) (n : ℕ) (f : AnswersFault)
       → kept ≡ level ∷ kind ∷ more → level_after last levels level ≡ Ok n → body_after kind ≡ Err f → comes_to count kept ≡ Err f
-  kind_refused count kept level kind more n f is at_level e = search (level_taken)
+  kind_refused count kept level kind more n f is at_level e = search
 
   pub end_missing : (count : ℕ) (kept : List Line) (level kind : Line) (more : List Line) (n : ℕ) (b : Body)
       → kept ≡ level ∷ kind ∷ more → level_after last levels level ≡ Ok n → body_after kind ≡ Ok b → NoneEnds more

@@ -10,7 +10,7 @@ use Rattle.std.specs.Int.Digits.{digits_of, number_from_digits, number_from_digi
 use Rattle.std.proofs.lemmas.Int.Digits.{digits_of_step, number_digits_of, all_below_base_digits_of, first_digits_of, number_push, number_more, number_after_append, number_after_ge, length-digits_of_step, length-digits_of-le}
 use Rattle.std.proofs.lemmas.Nat.{div-mul-add, mod-mul-add}
 use Rattle.std.proofs.lemmas.List.{map-append, append-nil, append_assoc, length-map, take-map}
-use Rattle.std.proofs.lemmas.Bool.{both_ways, eq-eqb, false≢true, leb-true, lt-ltb, ne_eqb, not_from_true}
+use Rattle.std.proofs.lemmas.Bool.{false≢true, leb-true, lt-ltb, ne_eqb}
 use Rattle.answers.specs.Grammar.{numeral}
 use Rattle.answers.specs.Reading.{is_number, number_in}
 
@@ -28,9 +28,6 @@ number_in-push ds b = search (map-append, number_push)
 pub and_true : (a : Bool) {b : Bool} → (a && b) ≡ true → (a ≡ true) × (b ≡ true)
 and_true true h = (refl, h)
 and_true false h = absurd (false≢true h)
-
-not_48 : (b : ℕ) → not (eqb b 48) ≡ true → b ≢ 48
-not_48 b h = search (both_ways, not_from_true, eq-eqb)
 
 less_48 : (ds : List ℕ) → map (λ b. b - 48) (map (λ d. 48 + d) ds) ≡ ds
 less_48 [] = refl

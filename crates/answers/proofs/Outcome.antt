@@ -141,7 +141,7 @@ fails_by levels (inr h) = search (fails_is, outcome_refused)
 
 only_err : (f : AnswersFault) (entries : List Entry) (given : Result (List Entry) AnswersFault) → given ≡ Ok entries → FailsAs f given → f ≡ Memory
 only_err f entries given e (by_memory h) = h
-only_err f entries given e (by_text h) = search (ok_no_err)
+only_err f entries given e (by_text h) = search
 
 exact_err : (text : List ℕ) (levels : ℕ) (f : AnswersFault) → FailsAs f (outcome text levels) → (f ≡ Memory) ⊎ IsFirstAnswersFault text levels f
 exact_err text levels f (by_memory h) = inl h

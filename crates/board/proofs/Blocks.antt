@@ -26,9 +26,6 @@ one_is false = refl
 pub bit_of_lanes : (ms : List Bool) (k : ℕ) → bit (mask_l ms) k ≡ get_or ms k false
 bit_of_lanes ms k = search (bit_mask_l, one_is)
 
-pub one_of_one : (byte x : ℕ) (word k : ℕ) → bit word k ≡ (byte == x) → bit word k ≡ ((byte == x) || false)
-one_of_one byte x word k is = search (or-false)
-
 pub one_of_two : (byte x y : ℕ) (one two k : ℕ) → bit one k ≡ (byte == x) → bit two k ≡ (byte == y)
     → bit (bit_or one two) k ≡ ((byte == x) || ((byte == y) || false))
 one_of_two byte x y one two k is_x is_y = grind (arith, bit-or, or-false)

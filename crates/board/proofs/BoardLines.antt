@@ -82,19 +82,11 @@ of_block is_kind line n from word b near is bits before i low = elim (cases_lt i
 module _ (line : List ℕ) (from word : ℕ) (inside : from + 16 ≤ length line) where
   -- a line with another character in one of its blocks is no board line
   pub foreign_block : word < 2 ^ 64 → IsBlockOf is_board_character line from word → bit_and (bit_not w64 word) 65535 ≢ 0 → is_board_line line ≡ false
-  foreign_block fits is some =
-      let at = set_bit (bit_not w64 word) some in
-      let small = at.1 in
-      let foreign : is_board_character (get_or line (from + at.0) 0) ≡ false = sym (is at.0 small)
-      ∙ not_true (bit word at.0) (sym (bit-not word at.0 fits (omega arith)) ∙ at.2) in
-      ap (λ v. list_any is_wall line && v) (list_all_at is_board_character line (from + at.0) 0 (omega arith) foreign) ∙ and-false (list_any is_wall line)
+  foreign_block fits is some = grind (arith, set_bit, not_true, bit-not, list_all_at, and-false)
 
   -- a line with a wall in one of its blocks has a wall
   pub wall_block : IsBlockOf is_wall line from word → bit_and word 65535 ≢ 0 → list_any is_wall line ≡ true
-  wall_block is some =
-      let at = set_bit word some in
-      let small = at.1 in
-      list_any_at is_wall line (from + at.0) 0 (omega arith) (sym (is at.0 small) ∙ at.2)
+  wall_block is some = grind (arith, set_bit, list_any_at)
 
 module _ (line : List ℕ) (n from word : ℕ) (has_wall : Bool) (inside : from + 16 ≤ length line) (near : from ≤ n) (fits : word < 2 ^ 64)
     (is : IsBlockOf is_board_character line from word) (none : bit_and (bit_not w64 word) 65535 ≡ 0) (so_far : IsTested line n has_wall) where
@@ -103,12 +95,7 @@ module _ (line : List ℕ) (n from word : ℕ) (has_wall : Bool) (inside : from 
       (λ k small. not_false (bit word k) (sym (bit-not word k fits (omega arith)) ∙ no_bit (bit_not w64 word) none k small)) so_far.all
 
   pub tested_wall : list_any is_wall line ≡ true → IsTested line (from + 16) true
-  tested_wall wall = record {
-    within = inside;
-    all = all_characters;
-    wall = λ _. wall;
-    no_wall = λ h. absurd (false≢true (sym h));
-  }
+  tested_wall wall = grind (arith, all_characters, false≢true)
 
   pub tested_more : (walls : ℕ) → IsBlockOf is_wall line from walls → bit_and walls 65535 ≡ 0 → IsTested line (from + 16) has_wall
   tested_more walls is_walls no_walls = record {
@@ -119,10 +106,4 @@ module _ (line : List ℕ) (n from word : ℕ) (has_wall : Bool) (inside : from 
   }
 
 pub tested_all : (line : List ℕ) (n : ℕ) (has_wall : Bool) → length line ≤ n → IsTested line n has_wall → has_wall ≡ is_board_line line
-tested_all line n has_wall long tested =
-    let all : list_all is_board_character line ≡ true = each_byte is_board_character line (λ i lt. tested.all i (omega arith)) in
-    by has_wall refl ∙ sym (and-true (list_any is_wall line)) ∙ ap (λ v. list_any is_wall line && v) (sym all)
-  where
-    by : (b : Bool) → has_wall ≡ b → has_wall ≡ list_any is_wall line
-    by true is = is ∙ sym (tested.wall is)
-    by false is = is ∙ sym (no_byte is_wall line (λ i lt. tested.no_wall is i (omega arith)))
+tested_all line n has_wall long tested = grind (arith, each_byte, and-true, no_byte)

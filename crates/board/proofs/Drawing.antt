@@ -12,10 +12,9 @@ use Rattle.std.specs.List.{count_by}
 use Rattle.std.specs.Prelude.{◌↔◌}
 use Rattle.std.specs.FinSet as set
 use Rattle.std.specs.FinSet.{contains, contains-insert, contains-empty, contains-union, len-insert, len-empty}
-use Rattle.cellset.specs.Shape.{Extent}
 use Rattle.cellset.specs.Cell.{cell_at, cell_cmp}
 use Rattle.cellset.specs.CellSet.{Cells, Has, Lacks}
-use Rattle.cellset.specs.RowBits.{row_cell, IsRowOn, cells_of_row}
+use Rattle.cellset.specs.RowBits.{row_cell, cells_of_row}
 use Rattle.cellset.specs.declared.cell.Cell.{Cell}
 use Rattle.cellset.proofs.Members.{cells_total, same_cells, same, same_itself, same_or_other}
 use Rattle.cellset.proofs.Rows.{has_in_row, row_has}
@@ -57,19 +56,7 @@ before_next done part = grind (arith, nth_push, nth_past)
 
 at_others : (done : List (List ℕ)) (part : List ℕ) (b : ℕ) (q : Cell) → same q (cell_at (length part + 1) (length done + 1)) ≡ false
     → character_at (done ++ (part ++ b ∷ []) ∷ []) q ≡ character_at (done ++ part ∷ []) q
-at_others done part b q other = ⊎_elim
-    (λ row. ⊎_elim
-    (λ column. absurd (false≢true (sym other ∙ ap (same q) (sym (is_cell q _ _ column row)) ∙ same_itself q)))
-    (λ apart.
-    ap (λ r. nth r q.column space) (ap (λ n. nth (done ++ (part ++ b ∷ []) ∷ []) n []) row ∙ nth_push done (part ++ b ∷ []) [])
-    ∙ nth_push_other part b space q.column apart
-    ∙ sym (ap (λ r. nth r q.column space) (ap (λ n. nth (done ++ part ∷ []) n []) row ∙ nth_push done part [])))
-    (cases_eq q.column (length part + 1)))
-    (λ apart. ap (λ r. nth r q.column space) (nth_push_other done (part ++ b ∷ []) [] q.row apart ∙ sym (nth_push_other done part [] q.row apart)))
-    (cases_eq q.row (length done + 1))
-  where
-    is_cell : (q : Cell) (column row : ℕ) → q.column ≡ column → q.row ≡ row → q ≡ cell_at column row
-    is_cell q column row e f = ap (λ n. cell_at n q.row) e ∙ ap (cell_at column) f
+at_others done part b q other = grind (arith, false≢true, same, same_itself, nth_push, nth_push_other, cases_eq)
 
 -- ---- sets of cells of one kind
 -- the columns before 64 * parts of a row are added, where their characters are of the kind, and no others
@@ -156,11 +143,6 @@ module _ (is_kind : ℕ → Bool) (no_floor : is_kind space ≡ false) where
         (λ inside. omega arith)
         (λ past. absurd (false≢true (sym no_floor ∙ ap is_kind (sym (nth_past line (suc k) space (omega arith))) ∙ is))) (cases_lt k (length line)),
   )
-
-  -- the bits of a row's part are of cells on the grid
-  pub word_on : (line : List ℕ) (row part word : ℕ) (shape on : Extent) → on ≡ shape → (1 ≤ row) × (row ≤ shape.height) → length line ≤ shape.width
-      → IsWordOf is_kind line part word → IsRowOn on row part word
-  word_on line row part word shape on same high wide is k small one = grind (arith, of_row)
 
   pub part_added : (line : List ℕ) (row part word : ℕ) (old now next : Cells) → IsWordOf is_kind line part word
       → next ≡ set.union now (cells_of_row row part word) → IsRowDrawn is_kind line row part old now → IsRowDrawn is_kind line row (part + 1) old next

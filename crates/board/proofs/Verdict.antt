@@ -59,4 +59,4 @@ module _ (rows : List (List ℕ)) (shape : Extent) (walls goals boxes players ro
   formed_of = search (formed, parts_of)
 
   pub legal_of : IsLegalUnlessOpen rows (level_of shape walls goals boxes player room)
-  legal_of = search (fits, one_player, has_box, enough_goals, parts, parts_of)
+  legal_of = search (fits, one_player, has_box, enough_goals, parts_of)

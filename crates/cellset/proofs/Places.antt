@@ -10,7 +10,7 @@ same_tail a b x y e = cc
 pub places : {A G : Type 0} (x y : List A) (p q : A) (xs ys : List A) → x ++ p ∷ xs ≡ y ++ q ∷ ys
     → (x ≡ y → p ≡ q → G) → ((zs : List A) → y ≡ (x ++ p ∷ []) ++ zs → G) → ((zs : List A) → x ≡ (y ++ q ∷ []) ++ zs → G) → G
 places [] [] p q xs ys e one before after = search (same_head)
-places [] (d ∷ y) p q xs ys e one before after = before y (search (same_head))
+places [] (d ∷ y) p q xs ys e one before after = before y (search)
 places (c ∷ x) [] p q xs ys e one before after = after x (ap (λ d. d ∷ x) (same_head c q (x ++ p ∷ xs) ys e))
 places (c ∷ x) (d ∷ y) p q xs ys e one before after =
     let first = same_head c d (x ++ p ∷ xs) (y ++ q ∷ ys) e in

@@ -77,17 +77,6 @@ search_starts words n lt fits =
       passed = λ k low high. absurd (omega arith);
     }
 
--- if the word is 0, no bit up to its end is set
-search_passed : (words : List ℕ) (n i word : ℕ) → IsSearched words n i word → word ≡ 0 → (k : ℕ) → n ≤ k → k < 64 * (i + 1) → has_bit words k ≡ false
-search_passed words n i word s empty k low high = grind (arith, either, cases_lt, zero_bit)
-
-pub search_goes_on : (words : List ℕ) (n i word : ℕ) → IsSearched words n i word → word ≡ 0 → i + 1 < length words → get_or words (i + 1) 0 < 2 ^ 64
-    → IsSearched words n (i + 1) (get_or words (i + 1) 0)
-search_goes_on words n i word s empty within fits = grind (arith, bit_there, search_passed)
-
-pub search_ends : (words : List ℕ) (n i word : ℕ) → IsSearched words n i word → word ≡ 0 → i + 1 ≡ length words → (k : ℕ) → n ≤ k → has_bit words k ≡ false
-search_ends words n i word s empty end k low = grind (arith, either, cases_lt, search_passed, none_past)
-
 pub search_finds : (words : List ℕ) (n i word : ℕ) → IsSearched words n i word → word ≢ 0 → IsFirstBit words n (Some (64 * i + trailing_zeros w64 word))
 search_finds words n i word s some =
     let t = trailing_zeros w64 word in

@@ -26,7 +26,7 @@ use Rattle.play.specs.Field.{place_of, IsNear, IsShown, IsFieldOf, IsDrawnBelow}
 use Rattle.play.specs.declared.field.TheConstants.{FREE, WALL, BOX}
 use Rattle.cellset.proofs.Shifts.{bit_down}
 use Rattle.play.proofs.Lanes.{low_bits}
-use Rattle.play.proofs.Places.{near_on, on_or_off, place_one, place_on, has_place}
+use Rattle.play.proofs.Places.{near_on, on_or_off, place_one, place_on}
 
 module _ (level : Level) (boxes : Cells) (c : Cell) (b : ℕ) where
   -- ---- what a byte says
@@ -113,11 +113,6 @@ pub record AreBytesOf (level : Level) (row column : ℕ) (bytes : List ℕ) : Ty
 
 -- the cells of a level are drawn sixteen by sixteen, in the order of their places
 module _ (level : Level) (formed : IsWellFormed level) where
-  -- drawing goes on past places that are no cell's
-  pub drawn_on : (n m : ℕ) (field : List ℕ) → ((c : Cell) → IsNear level.shape c → place_of c < m → place_of c < n) → IsDrawnBelow level n field
-      → IsDrawnBelow level m field
-  drawn_on n m field none before = grind arith
-
   -- drawing goes on by sixteen cells, whose bytes are stored at once
   pub drawn_next : (row column : ℕ) (bytes field : List ℕ) → column + 16 ≤ 256 → row ≤ level.shape.height + 1 → row < 256
       → AreBytesOf level row column bytes → IsDrawnBelow level (256 * row + column) field
@@ -183,7 +178,3 @@ module _ (level : Level) (formed : IsWellFormed level) where
             ∙ row_is (s + k) (omega (arith, fits, small)) ∙ ap (cells.contains floor) same_cell in
             subst (λ n. IsShown level cells.empty q n × ((IsFloor level q → ⊥) → n ≡ WALL)) (sym (lanes k small))
             (shown_by q (bit (left % 65536) k) (sym bit_is))
-
-  -- once all places are passed, all cells are drawn
-  pub drawn_end : (field : List ℕ) → IsDrawnBelow level (256 * min (level.shape.height + 2) 256) field → IsFieldOf level cells.empty field
-  drawn_end field before = grind (arith, has_place)

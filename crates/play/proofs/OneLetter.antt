@@ -75,13 +75,12 @@ module _ (level : Level) (done field : List ℕ) (run : Run) (before : Progress 
   still none = grind (arith, place_fits)
 
   here_free : get_or field (place_of before.state.player) 0 ≡ FREE
-  here_free = free_byte level before.state.boxes _ _ (before.shown.shown _ (near_on level.shape before.stands.player.0))
-      before.stands.player before.stands.apart
+  here_free = grind (arith, free_byte, near_on)
 
   directed : IsRead letter → IsNoWalk field run letter → letter.kind ≢ FOREIGN → (d : Dir) × Directs letter d
-  directed (inl (blank, step, kind_is)) no_walk known = absurd (no_walk kind_is (rw (still step) here_free))
-  directed (inr (inl (d, named, step, kind_is))) no_walk known = (d, record { step = step; named = inl (named, kind_is) })
-  directed (inr (inr (inl (d, named, step, kind_is)))) no_walk known = (d, record { step = step; named = inr (named, kind_is) })
+  directed (inl (blank, step, kind_is)) no_walk known = grind (arith, still, here_free)
+  directed (inr (inl (d, named, step, kind_is))) no_walk known = grind arith
+  directed (inr (inr (inl (d, named, step, kind_is)))) no_walk known = grind arith
   directed (inr (inr (inr (_, _, step, kind_is)))) no_walk known = absurd (known kind_is)
 
   -- ---- the cell ahead, and the one beyond it
@@ -93,27 +92,26 @@ module _ (level : Level) (done field : List ℕ) (run : Run) (before : Progress 
   beyond_is d step on = grind (arith, ahead_is, place_step)
 
   pub ahead_within : IsRead letter → ahead < length field
-  ahead_within (inl (blank, step, kind_is)) = rw (still step) (before.shown.places _ (near_on level.shape before.stands.player.0))
+  ahead_within (inl (blank, step, kind_is)) = grind (arith, still, near_on)
   ahead_within (inr (inl (d, named, step, kind_is))) =
       rw (ahead_is d step) (before.shown.places _ (near_neighbor level.shape d before.stands.player.0))
   ahead_within (inr (inr (inl (d, named, step, kind_is)))) =
       rw (ahead_is d step) (before.shown.places _ (near_neighbor level.shape d before.stands.player.0))
-  ahead_within (inr (inr (inr (_, _, step, _)))) = rw (still step) (before.shown.places _ (near_on level.shape before.stands.player.0))
+  ahead_within (inr (inr (inr (_, _, step, _)))) = grind (arith, still, near_on)
 
   ahead_shown : (d : Dir) → letter.step ≡ stride d → IsShown level before.state.boxes (neighbor before.state.player d) (get_or field ahead 0)
-  ahead_shown d step = rw (ahead_is d step) (before.shown.shown _ (near_neighbor level.shape d before.stands.player.0))
+  ahead_shown d step = grind (arith, ahead_is, near_neighbor)
 
   beyond_shown : (d : Dir) → letter.step ≡ stride d → IsOn level.shape (neighbor before.state.player d)
       → IsShown level before.state.boxes (neighbor (neighbor before.state.player d) d) (get_or field beyond 0)
-  beyond_shown d step on = rw (beyond_is d step on) (before.shown.shown _ (near_neighbor level.shape d on))
+  beyond_shown d step on = grind (arith, beyond_is, near_neighbor)
 
   -- ---- a letter that is a legal step
   -- a walk or a blank is played by moving the player to the free cell ahead
   pub walked : IsRead letter → letter.kind ≡ WALK → get_or field ahead 0 ≡ FREE → (moves : ℕ)
       → ((d : Dir) → letter.byte ≡ small d → moves ≡ run.tally.moves + 1) → (is_blank letter.byte ≡ true → moves ≡ run.tally.moves)
       → Progress level (done ++ letters (letter.byte ∷ [])) field (record { player = ahead; last = run.last; tally = record run.tally { moves = moves } })
-  walked (inl (blank, step, kind_is)) kind free moves counted none =
-      rw (letters_none letter.byte [] blank, append-nil done, still step ∙ sym before.player, none blank) before
+  walked (inl (blank, step, kind_is)) kind free moves counted none = grind (arith, letters_none, append-nil, still)
   walked (inr (inl (d, named, step, kind_is))) kind free moves counted none =
       let (floor, lacks) = free_by level before.state.boxes (neighbor before.state.player d) (get_or field ahead 0) (ahead_shown d step) free in
       rw (letters_one {x = letter.byte} [] (not_blank d (inl named)), ahead_is d step, counted d named)
@@ -162,11 +160,7 @@ module _ (level : Level) (done field : List ℕ) (run : Run) (before : Progress 
 
   module _ (after : List ℕ) (read : IsRead letter) (no_walk : IsNoWalk field run letter) (known : letter.kind ≢ FOREIGN) where
     pub fails_wall : get_or field ahead 0 ≡ WALL → FailsAt level (done ++ (letters (letter.byte ∷ []) ++ after)) (run.tally.moves + 1) Wall
-    fails_wall is =
-        let (d, directs) = directed read no_walk known in
-        let name = names letter d directs.named in
-        let wall = wall_by level before.state.boxes _ _ (ahead_shown d directs.step) is in
-        fails after Wall (not_blank d name) (d, name, record { stuck = λ t. grind arith; wall = wall })
+    fails_wall is = grind (arith, directed, names, wall_by, ahead_shown, fails, not_blank)
 
     pub fails_blocked : get_or field ahead 0 ≡ BOX → get_or field beyond 0 ≢ FREE
         → FailsAt level (done ++ (letters (letter.byte ∷ []) ++ after)) (run.tally.moves + 1) Blocked

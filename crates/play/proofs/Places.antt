@@ -1,7 +1,7 @@
 -- Places. Rows are 256 apart and no side is above 255, so cells of the grid have different places, and no cell beyond
 -- the grid shares one with them: those are in row 0, in column 0, or where one of these begins again. So a step onto
 -- any cell beside one of the grid is one addition.
-use Rattle.std.proofs.Common.{◌≡◌, ℕ, ◌+◌, ◌*◌, ◌%◌, ◌^◌, ◌<◌, ◌≤◌, min, arith}
+use Rattle.std.proofs.Common.{◌≡◌, ◌+◌, ◌*◌, ◌%◌, ◌^◌, ◌<◌, arith}
 use Rattle.std.proofs.lemmas.Bool.{cases_lt}
 use Rattle.cellset.specs.Shape.{Extent, HasSides}
 use Rattle.cellset.specs.Cell.{neighbor, IsOn}
@@ -40,10 +40,6 @@ module _ (shape : Extent) (sides : HasSides shape.width shape.height) where
 
   pub place_some : {c : Cell} → IsOn shape c → place_of c ≡ 0 → ⊥
   place_some on e = grind arith
-
-  -- a field with rows for the grid and around it has a byte for each cell near the grid
-  pub has_place : (c : Cell) (n : ℕ) → IsNear shape c → 256 * min (shape.height + 2) 256 ≤ n → place_of c < n
-  has_place c n near e = grind arith
 
   -- places of the grid have their row and their column
   pub place_on : {c : Cell} → IsOn shape c → place_of c ≡ 256 * c.row + c.column

@@ -269,10 +269,6 @@ module _ (level : Level) where
       → off ≡ finset.len (off_goals level before.state) → 0 < off → EndsUnsolved level (letters text) off
   unsolved_end text field run before off count some = search
 
--- ---- one text after the other
-pub continues_none : (field : List ℕ) (run : Run) → Continues field run [] field run
-continues_none field run level done before = grind (arith, append-nil)
-
 pub continues_then : {f g h : List ℕ} {a b c : Run} {bs cs : List ℕ} → Continues f a bs g b → Continues g b cs h c → Continues f a (bs ++ cs) h c
 continues_then {h} {c} {bs} {cs} first second level done before = grind (arith, append_assoc)
 

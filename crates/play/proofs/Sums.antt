@@ -3,7 +3,7 @@
 -- place to which the walks lead, if each cell on the way is free. A byte that isn't a walk makes the sum larger than
 -- any sum of walks. The number of bytes of a field is a power of two, so the mask leaves each place that has a byte as it
 -- is. A step from a free cell leads to such a place.
-use Rattle.std.proofs.Common.{◌≡◌, ℕ, ◌+◌, ◌-◌, ◌*◌, ◌/◌, ◌%◌, ◌^◌, ◌<◌, ◌≤◌, List, [], ◌∷◌, ◌++◌, length, take, take_all, get_or, refl, sym, ◌∙◌, ap}
+use Rattle.std.proofs.Common.{◌≡◌, ℕ, ◌+◌, ◌-◌, ◌*◌, ◌/◌, ◌%◌, ◌^◌, ◌<◌, ◌≤◌, List, [], ◌∷◌, ◌++◌, length, take, get_or, refl, sym, ◌∙◌, ap}
 use Rattle.std.proofs.Common.{subst, inl, inr, arith}
 use Rattle.std.specs.Prelude.{bit_and, bit_or}
 use Rattle.std.proofs.Math.Nat.{mod-eq_of_lt, pow-le-pow_right}
@@ -23,7 +23,7 @@ use Rattle.play.specs.declared.letters.TheConstants.{WALK, LETTER, NO_WALK}
 use Rattle.play.specs.declared.field.TheConstants.{FREE}
 use Rattle.play.proofs.Texts.{letters_more}
 use Rattle.play.proofs.OneLetter.{ahead_within, walked, not_blank}
-use Rattle.play.proofs.Replays.{continues_none, continues_then}
+use Rattle.play.proofs.Replays.{continues_then}
 
 -- the state of a run once letters were walked
 abbrev pub led : Run → ℕ → ℕ → Run
@@ -95,9 +95,6 @@ pub record IsWalked (field : List ℕ) (player : ℕ) (group : List ℕ) (i sum 
   pub count : met ≡ FREE → sum < NO_WALK → sum / LETTER ≤ i
   pub walks : met ≡ FREE → sum < NO_WALK → WalksOn field player (letters (take i group)) (sum % 65536) (sum / LETTER)
 
-pub walked_none : (field : List ℕ) {player : ℕ} (group : List ℕ) (met : ℕ) → player < 65536 → IsWalked field player group 0 player met
-walked_none field group met fits = grind (arith, continues_none)
-
 pub walked_more : {field : List ℕ} → HasMask field → (player : ℕ) (group : List ℕ) (i sum met e : ℕ) → length group ≤ 8 → i < length group
     → IsAdded (get_or group i 0) e → IsWalked field player group i sum met
     → IsWalked field player group (i + 1) (sum + e) (bit_or met (get_or field ((sum + e) % length field) 0))
@@ -123,10 +120,3 @@ walked_more {field} has_mask player group i sum met e few within adds before = r
 
     parts : bit_or met (get_or field ((sum + e) % length field) 0) ≡ FREE → (met ≡ FREE) × (get_or field ((sum + e) % length field) 0 ≡ FREE)
     parts free = grind (arith, le_or_l, le_or_r)
-
-pub walked_all : {field : List ℕ} {player : ℕ} {group : List ℕ} {i sum met n : ℕ} → length group ≤ i → met ≡ FREE → sum < NO_WALK → n ≡ sum / LETTER
-    → i ≤ length group → IsWalked field player group i sum met → (n ≤ length group) × WalksOn field player (letters group) (sum % 65536) n
-walked_all {group} {i} past free walk is within whole = (
-  let most = whole.count free walk in omega arith,
-  rw is (rw (take_all i group past) at (whole.walks free walk)),
-)

@@ -48,9 +48,6 @@ module _ (free seeds : List ℕ) where
     pub came : (b : ℕ) → Bit carry b → (b ≡ 0) × (1 ≤ i) × Below (64 * i - 1)
     pub comes : 1 ≤ i → Below (64 * i - 1) → Bit carry 0
 
-  pub upward_start : IsUpTo seeds 0 0
-  upward_start = grind (arith, no_bit_zero)
-
   pub upward_more : (row : List ℕ) (i carry got : ℕ) → i < length row → got < 2 ^ 64 → get_or row i 0 < 2 ^ 64
       → ((b : ℕ) → Bit got b ↔ FromBelow (Bit (get_or free i 0)) (Bit (bit_or (get_or row i 0) carry)) b)
       → IsUpTo row i carry → IsUpTo (set row i got) (i + 1) (got / 2 ^ 63)
@@ -123,9 +120,6 @@ module _ (free seeds : List ℕ) where
     | inl h ↦ u.done k h
     | inr h ↦ ((λ b. absurd (none_past row n k long h b)), (λ f. absurd (none_past free n k long_free h (f.run.all k f.below (omega arith)))))
   ]
-
-  pub upward_fit : (row : List ℕ) (n carry : ℕ) → length seeds ≡ n → IsUpTo row n carry → (j : ℕ) → get_or seeds j 0 < 2 ^ 64
-  upward_fit row n carry long u j = grind (arith, cases_lt, get_or_past)
 
   -- ---- downward
   -- the words from i on are filled, the others are unchanged, and the carry has the first bit of the words from i on

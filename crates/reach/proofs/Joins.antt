@@ -1,6 +1,6 @@
 -- How a row gets the free bits of another row, word by word.
-use Rattle.std.proofs.Common.{◌≡◌, ℕ, ◌+◌, ◌-◌, ◌*◌, ◌/◌, ◌%◌, ◌^◌, ◌<◌, ◌≤◌, Bool, true, false, List, [], ◌∷◌, length, get_or, suc}
-use Rattle.std.proofs.Common.{refl, ◌∙◌, ap, arith}
+use Rattle.std.proofs.Common.{◌≡◌, ℕ, ◌+◌, ◌-◌, ◌*◌, ◌/◌, ◌%◌, ◌^◌, ◌<◌, ◌≤◌, List, [], ◌∷◌, length, get_or, suc}
+use Rattle.std.proofs.Common.{◌∙◌, ap, arith}
 use Rattle.std.specs.Prelude.{◌⊎◌, ◌↔◌, bit_and, bit_or}
 use Rattle.std.specs.Int.{bit_not, w64}
 use Rattle.std.proofs.Math.ListN.{set, length-set}
@@ -66,11 +66,6 @@ module _ (free here start : List ℕ) where
   pub joined : (row : List ℕ) (n grew : ℕ) → length free ≡ n → IsJoining row n grew → (k : ℕ)
       → HasBit row k ↔ (HasBit start k ⊎ (HasBit here k × HasBit free k))
   joined row n grew long j k = grind (arith, either, cases_lt, none_past)
-
-pub room_joined : (grew : Bool) (old new : List ℕ) → (grew ≡ false → new ≡ old) → (grew ≡ true → room_left new < room_left old)
-    → room_left new ≤ room_left old
-room_joined true old new none some = let less = some refl in omega arith
-room_joined false old new none some = rw (none refl) (omega arith)
 
 -- ---- a row that keeps its bits has no more room
 rooms_le : (xs ys : List ℕ) → length xs ≡ length ys → ((i : ℕ) → get_or ys i 0 ≤ get_or xs i 0) → room_left xs ≤ room_left ys

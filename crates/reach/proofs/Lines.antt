@@ -1,5 +1,5 @@
 -- Filling a row over clear columns, seen as steps along it: each step leads to the column before or after, if that is clear.
-use Rattle.std.proofs.Common.{◌≡◌, ℕ, ◌+◌, ◌-◌, ◌*◌, ◌/◌, ◌%◌, ◌^◌, ◌<◌, List, length, get_or, refl, inl, inr, arith, sym, subst}
+use Rattle.std.proofs.Common.{◌≡◌, ℕ, ◌+◌, ◌-◌, ◌*◌, ◌/◌, ◌%◌, ◌^◌, ◌<◌, List, length, get_or, refl, inl, inr, arith}
 use Rattle.std.specs.Prelude.{◌⊎◌, ◌↔◌, bit_and, bit_or}
 use Rattle.std.specs.Int.{bit_not, w64}
 use Rattle.std.proofs.Math.ListN.{set, replicate}
@@ -50,10 +50,8 @@ module _ (L : Cell → Cell → Type 0) (y : ℕ) (S Open : ℕ → Type 0)
 
 -- the clear columns beside a filled one are filled
 pub filled_beside : (S Open : ℕ → Type 0) (j k : ℕ) → (k ≡ j + 1) ⊎ (k ≡ j - 1) → Open k → IsFilled (λ j. S j ⊎ Open j) S j → IsFilled (λ j. S j ⊎ Open j) S k
-filled_beside S Open j k (inl e) clear filled = subst (IsFilled (λ j. S j ⊎ Open j) S) (sym e)
-    (filled_right (λ j. S j ⊎ Open j) S j filled (inr (subst Open e clear)))
-filled_beside S Open j k (inr e) clear filled = subst (IsFilled (λ j. S j ⊎ Open j) S) (sym e)
-    (filled_left (λ j. S j ⊎ Open j) S j filled (inr (subst Open e clear)))
+filled_beside S Open j k (inl e) clear filled = grind (arith, filled_right)
+filled_beside S Open j k (inr e) clear filled = grind (arith, filled_left)
 
 -- ---- rows without a bit, and one bit less
 pub none_in_zeros : (n k : ℕ) → HasBit (replicate {A = ℕ} n 0) k → ⊥

@@ -30,21 +30,14 @@ module _ (free : List (List ℕ)) (y : ℕ) (S : ℕ → Type 0) (inside : AreIn
 
   closed_by : (d : Dir) → cell_at j y ≡ neighbor (cell_at k y) d → InRows free (neighbor (cell_at k y) (opposite d)) → InRows free (cell_at j y) → IsSlid j
       → IsSlid k
-  closed_by L e behind ahead filled =
-      let column : j ≡ k - 1 = ap (λ (q : Cell). q.column) e in
-      let some : 1 ≤ j = (inside (cell_at j y) ahead).1 in
-      filled_beside S (IsBetween (HasBit (get_or free y []))) j k (inl (omega arith))
-      (omega arith, subst (λ (n : ℕ). InRows free (cell_at n y)) column ahead, behind) filled
-  closed_by U e behind ahead filled =
-      let row : y ≡ y - 1 = ap (λ (q : Cell). q.row) e in
-      let some : 1 ≤ y = (inside (cell_at j y) ahead).0 in
-      absurd (omega (arith, row, some))
+  closed_by L e behind ahead filled = grind (arith, filled_beside)
+  closed_by U e behind ahead filled = grind arith
   closed_by R e behind ahead filled =
       let column : j ≡ k + 1 = ap (λ (q : Cell). q.column) e in
       let some : 1 ≤ k - 1 = (inside (cell_at (k - 1) y) behind).1 in
       filled_beside S (IsBetween (HasBit (get_or free y []))) j k (inr (omega arith))
       (omega arith, behind, subst (λ (n : ℕ). InRows free (cell_at n y)) column ahead) filled
-  closed_by D e behind ahead filled = let row : y ≡ y + 1 = ap (λ (q : Cell). q.row) e in absurd (omega (arith, row))
+  closed_by D e behind ahead filled = grind arith
 
   pub pulls_closed : PullsTo (Passes (in_rows free)) (cell_at j y) (cell_at k y) → IsSlid j → IsSlid k
   pulls_closed p filled = search (closed_by, of_test)

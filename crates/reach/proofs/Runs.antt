@@ -13,13 +13,13 @@ use Rattle.reach.proofs.Words.{no_bit_zero, bit_cases, bit_and_l, bit_and_r, bit
 use Rattle.reach.proofs.Words.{bit_shr_from, bit_below}
 
 pub run_within : (f : ℕ → Type 0) (i j a b : ℕ) → i ≤ a → b ≤ j → Run f i j → Run f a b
-run_within f i j a b low high r = record { all = λ k from to. r.all k (omega arith) (omega arith) }
+run_within f i j a b low high r = grind arith
 
 pub run_one : (f : ℕ → Type 0) (k : ℕ) → f k → Run f k k
-run_one f k h = record { all = λ m from to. let e : k ≡ m = omega arith in rw e at h }
+run_one f k h = grind arith
 
 pub run_then : (f : ℕ → Type 0) (i j k : ℕ) → Run f i j → Run f (j + 1) k → Run f i k
-run_then f i j k r s = record { all = λ m from to. elim (cases_lt j m) [ inl h ↦ s.all m (omega arith) to | inr h ↦ r.all m from h ] }
+run_then f i j k r s = grind (arith, cases_lt)
 
 -- ---- a word filled downward by doubling
 -- a run of free bits goes down to bit k from a seed less than `step` above it
@@ -98,8 +98,7 @@ down_twice free seeds got run step d = record {
       (subst (λ i. Run (Bit free) i (step + k + step - 1)) next s));
   begins_run = λ k r.
       let some = d.some in
-      bit_and_from run _ k
-      (d.begins_run k (run_within (Bit free) k (k + step * 2 - 1) k (k + step - 1) (omega arith) (omega arith) r))
+      bit_and_from run _ k (d.begins_run k (run_within (Bit free) k (k + step * 2 - 1) k (k + step - 1) (omega arith) (omega arith) r))
       (bit_shr_from run step k (d.begins_run (step + k) (run_within (Bit free) k (k + step * 2 - 1) (step + k) (step + k + step - 1) (omega arith)
       (omega arith) r)));
 }
@@ -152,7 +151,7 @@ filled free seeds up down is_up is_down k = (there, back)
 
 -- ---- what is filled is closed under free neighbours
 pub filled_seed : (free seeds : ℕ → Type 0) (k : ℕ) → seeds k → free k → IsFilled free seeds k
-filled_seed free seeds k seed here = inl (record { seed = k; below = omega arith; is_seed = seed; run = run_one free k here })
+filled_seed free seeds k seed here = grind (arith, run_one)
 
 pub filled_right : (free seeds : ℕ → Type 0) (k : ℕ) → IsFilled free seeds k → free (k + 1) → IsFilled free seeds (k + 1)
 filled_right free seeds k (inl b) next = grind (arith, run_then, run_one)

@@ -53,8 +53,7 @@ rows_put_back n shape len old new same_len were kept on = grind (arith, put_back
 -- rows of which one was written
 pub rows_written : (n : ℕ) (shape : Extent) (items : List (List ℕ)) (y : ℕ) (row : List ℕ) → AreRowsOf n shape items
     → ((c : Cell) → InRows (lists.set items y row) c → IsOn shape c) → AreRowsOf n shape (lists.set items y row)
-rows_written n shape items y row r on =
-    record { few = r.few; wide = r.wide; sides = r.sides; long = length-set items y row ∙ r.long; on = on }
+rows_written n shape items y row r on = search (length-set)
 
 -- rows of the same grid are equally many
 pub rows_alike : (n : ℕ) (a b : Extent) (xs ys : List (List ℕ)) → a ≡ b → AreRowsOf n a xs → AreRowsOf n b ys → length xs ≡ length ys

@@ -2,7 +2,7 @@
 -- The proof is by halving. The parity of a sum is its first bit, and its other bits are the bits of the sum of the halves with the
 -- carry of the first bits.
 use mir.Val.{bool_byte}
-use Rattle.std.proofs.Common.{◌≡◌, ℕ, Bool, true, false, ◌||◌, ◌+◌, ◌/◌, ◌%◌, ◌^◌, ◌<◌, ◌≤◌, zero, suc, sym, ◌∙◌, ap, inl, inr, arith}
+use Rattle.std.proofs.Common.{◌≡◌, ℕ, Bool, true, false, ◌||◌, ◌+◌, ◌/◌, ◌%◌, ◌^◌, ◌<◌, ◌≤◌, zero, suc, sym, ◌∙◌, inl, inr, arith}
 use Rattle.std.specs.Prelude.{◌⊎◌, ◌↔◌, bit_and, bit_or}
 use Rattle.std.specs.Bool.{FalseIff}
 use Rattle.std.specs.Int.{bit_at, bit_not, w64}
@@ -24,16 +24,16 @@ first_bit : (f : ℕ) → Bit f 0 → f % 2 ≡ 1
 first_bit f b = sym (bit_at_lowest f) ∙ is_one b
 
 bit_first : (f : ℕ) → f % 2 ≡ 1 → Bit f 0
-bit_first f e = bit_of f 0 (bit_at_lowest f ∙ e)
+bit_first f e = search (bit_of, bit_at_lowest)
 
 half_bit : (f k : ℕ) → Bit f (suc k) → Bit (f / 2) k
-half_bit f k b = bit_of (f / 2) k (sym (bit_at-suc f k) ∙ is_one b)
+half_bit f k b = grind (arith, bit_of, bit_at-suc, is_one)
 
 bit_half : (f k : ℕ) → Bit (f / 2) k → Bit f (suc k)
-bit_half f k b = bit_of f (suc k) (bit_at-suc f k ∙ is_one b)
+bit_half f k b = search (bit_of, bit_at-suc, is_one)
 
 half_run : (f j k : ℕ) → Run (Bit f) (suc j) (suc k) → Run (Bit (f / 2)) j k
-half_run f j k r = record { all = λ m low high. half_bit f m (r.all (suc m) (omega arith) (omega arith)) }
+half_run f j k r = grind (arith, half_bit)
 
 run_half : (f j k : ℕ) → Run (Bit (f / 2)) j k → Run (Bit f) (suc j) (suc k)
 run_half f j k r = record { all = λ m low high. later m low high }
@@ -50,7 +50,7 @@ run_first f k b r = record { all = λ m low high. later m high }
     later (suc n) high = bit_half f n (r.all n (omega arith) (omega arith))
 
 run_rest : (f k : ℕ) → Run (Bit f) 0 (suc k) → Run (Bit (f / 2)) 0 k
-run_rest f k r = record { all = λ m low high. half_bit f m (r.all (suc m) (omega arith) (omega arith)) }
+run_rest f k r = grind (arith, half_bit)
 
 abbrev next : ℕ → ℕ → ℕ → ℕ
 next f s c = (f % 2 + s % 2 + c) / 2
@@ -69,7 +69,7 @@ of_halves f s c k small within (inl b) = let below = b.below in inl
 of_halves f s c k small within (inr (e, r)) = grind (arith, bit_cases, run_first, bit_at_lowest, bit_first)
 
 sum_halves : (f s c k : ℕ) → bit_at (f + s + c) (suc k) ≡ bit_at (f / 2 + s / 2 + next f s c) k
-sum_halves f s c k = bit_at-suc (f + s + c) k ∙ ap (λ n. bit_at n k) (omega arith)
+sum_halves f s c k = grind (arith, bit_at-suc)
 
 -- a bit of a run that the carry goes through is cleared, unless it is a seed
 cleared : (f s c k : ℕ) → c ≤ 1 → IsCarried f s c k → Bit s k ⊎ (bit_at (f + s + c) k ≡ 0)
@@ -83,7 +83,7 @@ cleared f s c (suc k) small carried =
 
 -- an addition clears no other free bit
 carried : (f s c k : ℕ) → c ≤ 1 → ((m : ℕ) → Bit s m → Bit f m) → Bit f k → Bit s k ⊎ (bit_at (f + s + c) k ≡ 0) → IsCarried f s c k
-carried f s c k small within free (inl seed) = inl (record { seed = k; below = omega arith; is_seed = seed; run = run_one (Bit f) k free })
+carried f s c k small within free (inl seed) = grind (arith, run_one)
 carried f s c zero small within free (inr none) = grind (arith, bit_cases, run_one, bit_at_lowest, first_bit)
 carried f s c (suc k) small within free (inr none) =
     of_halves f s c k small (within 0)
@@ -96,7 +96,7 @@ up_word f s c = bit_or s (bit_and f (bit_not w64 ((f + s + c) % 2 ^ 64)))
 
 module _ (f s c : ℕ) (fits : f < 2 ^ 64) (small : c ≤ 1) (within : (m : ℕ) → Bit s m → Bit f m) where
   sum_fits : (f + s + c) % 2 ^ 64 < 2 ^ 64
-  sum_fits = mod-lt (f + s + c) (pow_pos 64)
+  sum_fits = search (mod-lt, pow_pos)
 
   filled_up : (k : ℕ) → Bit (up_word f s c) k ↔ IsCarried f s c k
   filled_up k = (there, back)
@@ -162,13 +162,11 @@ module _ (f s c : ℕ) (fits : f < 2 ^ 64) (small : c ≤ 1) where
           inr (omega arith, rw first at b.run))
 
   pub carry_by_sum : up_word f (bit_and s f) c / 2 ^ 63 ≡ (f + bit_and s f + c) / 2 ^ 64
-  carry_by_sum = last_bit f (bit_and s f) c fits small (λ m b. bit_and_r s f m b) (let le = and_le_r s f in omega arith)
+  carry_by_sum = grind (arith, last_bit, bit_and_r, and_le_r)
 
 -- a sum of two words and a carry overflows exactly if one of the two additions does
 pub over_by_either : (over over_too : Bool) (a b c : ℕ) → a < 2 ^ 64 → b < 2 ^ 64 → c ≤ 1 → FalseIff over (a + b < 2 ^ 64)
     → FalseIff over_too ((a + b) % 2 ^ 64 + c < 2 ^ 64) → bool_byte (over || over_too) ≡ (a + b + c) / 2 ^ 64
-over_by_either true over_too a b c fits fits' small past _ =
-    elim (cases_lt (a + b) (2 ^ 64)) [ inl h ↦ absurd (past h) | inr h ↦ omega arith ]
-over_by_either false true a b c fits fits' small within past =
-    elim (cases_lt ((a + b) % 2 ^ 64 + c) (2 ^ 64)) [ inl h ↦ absurd (past h) | inr h ↦ omega arith ]
+over_by_either true over_too a b c fits fits' small past _ = grind (arith, cases_lt)
+over_by_either false true a b c fits fits' small within past = grind (arith, cases_lt)
 over_by_either false false a b c fits fits' small within within' = omega arith

@@ -30,7 +30,7 @@ of_row rows y c e h = search
 
 -- a cell is the cell of its column and its row
 pub as_at : (c : Cell) (y : ℕ) → c.row ≡ y → cell_at c.column y ≡ c
-as_at c y e = λ j. record { row = sym e j; column = c.column }
+as_at c y e = grind arith
 
 pub row_written : (region : List (List ℕ)) (y : ℕ) (row : List ℕ) → y < length region → IsWritten (InRows region) y (HasBit row) (InRows (set region y row))
 row_written region y row within = record {

@@ -1,14 +1,8 @@
-use Rattle.std.proofs.Common.{◌++◌, ◌∷◌, [], map, append_assoc, refl, sym, ap, ◌∙◌}
+use Rattle.std.proofs.Common.{◌++◌, ◌∷◌, [], map, append_assoc, sym, ap, ◌∙◌}
 use Rattle.std.proofs.lemmas.List.{append-nil, map_push}
 use Rattle.answers.specs.Grammar.{Line}
 use Rattle.answers.specs.Held.{kept_in}
 use Rattle.answers.proofs.body.letter_lines.Goals as goal
-
-pub loop-line-init : goal.loop-line-init
-loop-line-init c = record {
-  count = refl;
-  read = ap (λ letters. map (λ l. l.now) letters ++ map (λ (l : Line). l.text) (kept_in c.args.lines)) c.new-letters.ensures.items;
-}
 
 pub loop-line-preserved : goal.loop-line-preserved
 loop-line-preserved c =

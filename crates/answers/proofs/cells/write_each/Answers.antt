@@ -1,12 +1,9 @@
-use Rattle.std.proofs.Common.{[], ◌++◌, refl}
+use Rattle.std.proofs.Common.{◌++◌}
 use Rattle.std.specs.List.{flat_map}
 use Rattle.answers.specs.CellTexts.{between}
 use Rattle.answers.proofs.CellBuffers.{parts_on}
-use Rattle.devices.proofs.WrittenTexts.{handed_as, handed_both, handed_nothing, handed_part, passed_on}
+use Rattle.devices.proofs.WrittenTexts.{handed_as, handed_both, handed_part, passed_on}
 use Rattle.answers.proofs.cells.write_each.Goals as goal
-
-pub loop-rest-init : goal.loop-rest-init
-loop-rest-init g c = ([], handed_nothing _ _, refl)
 
 pub loop-rest-preserved : goal.loop-rest-preserved
 loop-rest-preserved g c =

@@ -1,11 +1,8 @@
 use Rattle.std.proofs.Common.{ap, sym, ◌∙◌}
 use Rattle.answers.specs.Grammar.{said_zone}
 use Rattle.answers.specs.Certificates.{body_by_line}
-use Rattle.answers.proofs.Bodies.{after_zone, zone_alone}
+use Rattle.answers.proofs.Bodies.{after_zone}
 use Rattle.answers.proofs.certificate.zone_before.Goals as goal
-
-pub returns-in-None-clause-says : goal.returns-in-None-clause-says
-returns-in-None-clause-says c = λ version _ _. zone_alone version (said_zone c.args.zone) c.in-None.ensures.none
 
 pub returns-in-Some-clause-says : goal.returns-in-Some-clause-says
 returns-in-Some-clause-says c = λ version patterns lines.

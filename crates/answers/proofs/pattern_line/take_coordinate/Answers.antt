@@ -4,28 +4,15 @@
 use Rattle.std.proofs.Common.{◌∙◌, arith, get_or, sym}
 use Rattle.std.proofs.lemmas.Bool.{false≢true}
 use Rattle.std.proofs.lemmas.List.{take_rest}
-use Rattle.answers.proofs.Coordinates.{begins_take, no_digits, one_digit_more, takes_no_digit, takes_no_number, takes_number}
+use Rattle.answers.proofs.Coordinates.{begins_take, one_digit_more, takes_no_digit, takes_no_number, takes_number}
 use Rattle.answers.proofs.Numerals.{digit_from_test}
 use Rattle.answers.proofs.pattern_line.take_coordinate.Goals as goal
 
 pub returns-then-not-begins_number : goal.returns-then-not-begins_number
-returns-then-not-begins_number c = takes_no_digit c.args.text.now (λ begins. absurd (false≢true (sym c.if-not-begins_number.true ∙ c.begins_number.ensures ∙ begins)))
+returns-then-not-begins_number c = grind (arith, takes_no_digit, false≢true)
 
 pub returns-in_default : goal.returns-in_default
 returns-in_default c = takes_no_digit c.args.text.now (λ _. c.in_default.ensures.none)
-
-pub loop-more-init : goal.loop-more-init
-loop-more-init c =
-    let text = c.args.text.now in
-    let first = c.in-Some.ensures.some in
-    record {
-      some = omega arith;
-      read = rw first.3 (one_digit_more text 0 0 (no_digits text) first.0 first.1);
-      small = omega (arith, digit_from_test (get_or text 0 0) first.1);
-    }
-
-pub loop-more-smaller : goal.loop-more-smaller
-loop-more-smaller c = grind arith
 
 pub loop-more-preserved : goal.loop-more-preserved
 loop-more-preserved c =
@@ -40,15 +27,7 @@ loop-more-preserved c =
     }
 
 pub returns-then-number-gt65535 : goal.returns-then-number-gt65535
-returns-then-number-gt65535 c =
-    takes_no_number c.args.text.now c.loop-more.at c.loop-more.number c.loop-more.invariant.read c.in_default-with_digit.ensures.none
-    (λ small. absurd (omega arith))
-
-pub slice_bounds-result-count : goal.slice_bounds-result-count
-slice_bounds-result-count c = grind arith
-
-pub slice_bounds-result-start : goal.slice_bounds-result-start
-slice_bounds-result-start c = grind arith
+returns-then-number-gt65535 c = grind (arith, takes_no_number)
 
 pub returns : goal.returns
 returns c =

@@ -1,8 +1,8 @@
 -- The invariant says that no comment begins before `from`. A comment begins at a semicolon that is first in its line, so none begins
 -- before the next semicolon (`looked` in `LetterPieces.antt`). If that one comes first in the text or right after a line feed, the first
 -- comment begins there. Otherwise none begins there either, and the search goes on after it. If no semicolon is left, no comment is.
-use Rattle.std.proofs.Common.{arith, rules}
-use Rattle.answers.proofs.LetterPieces.{found_mark, looked, looked_past}
+use Rattle.std.proofs.Common.{arith}
+use Rattle.answers.proofs.LetterPieces.{looked, looked_past}
 use Rattle.answers.proofs.pieces.comment_at.Goals as goal
 
 pub returns-then-at-eq0-clause-before : goal.returns-then-at-eq0-clause-before
@@ -18,8 +18,3 @@ pub returns-clause-none : goal.returns-clause-none
 returns-clause-none c = λ k below comment.
     let lines = c.args.lines.now in
     looked c.loop-next.invariant.within c.loop-next.invariant.none c.in_default-find_byte.ensures k (omega arith) comment
-
-pub returns-then-at-eq0-clause-comment : goal.returns-then-at-eq0-clause-comment
-returns-then-at-eq0-clause-comment c =
-    let mark = found_mark c.args.lines.now c.loop-next.from c.in-Some.next c.loop-next.invariant.within c.in-Some.ensures.1 in
-    record { mark = mark; first = search rules }

@@ -13,8 +13,3 @@ returns-in_err-write_record g c =
     let cut = handed_item text c.args.records.now c.loop-made.made-index c.made-item.result _ _ _ _ _ (omega arith) c.made-item.is c.loop-made.invariant
     c.in_err-write_record.ensures in
     passed_on _ _ _ _ _ c.from_residual.ensures.0 (handed_some text c.args.records.now c.loop-made.made-index _ _ _ cut)
-
-pub loop-made-preserved : goal.loop-made-preserved
-loop-made-preserved g c =
-    handed_item text c.args.records.now c.loop-made.made-index c.made-item.result _ _ _ _ _ (omega arith) c.made-item.is c.loop-made.invariant
-    c.in_ok-write_record.ensures

@@ -1,4 +1,4 @@
-use Rattle.std.proofs.Common.{◌+◌, ◌≤◌, false, ◌||◌, length, sym, ◌∙◌, ap, arith, below_more}
+use Rattle.std.proofs.Common.{◌+◌, ◌≤◌, false, length, sym, ◌∙◌, ap, arith}
 use Rattle.std.proofs.lemmas.Bool.{false≢true, ne_eqb}
 use Rattle.std.proofs.lemmas.List.Folds.{list_any_at}
 use Rattle.std.proofs.lemmas.Simd.{get_or-chunk}
@@ -8,24 +8,7 @@ use Rattle.board.proofs.collection.is_board_line.Goals as goal
 use Rattle.board.proofs.collection.is_board_line.Goals.{then-walls_in-ne0, else-walls_in-ne0, then-byte-eq35, else-byte-eq35}
 
 pub loop-byte-preserved : goal.loop-byte-preserved
-loop-byte-preserved c =
-    let n = c.loop-byte.byte-index in
-    let was = c.loop-byte.invariant in
-    let all = below_more _ n was.all (sym c.is_board_character.ensures ∙ c.if-not-is_board_character.false) in
-    elim c.if-byte-eq35.branch [
-      | then-byte-eq35 w ↦ rw w.has_wall-is (record {
-        within = omega arith;
-        all = all;
-        wall = λ _. list_any_at is_wall _ n 0 (omega arith) (ap is_wall w.if-byte-eq35.true);
-        no_wall = λ h. absurd (false≢true (sym h));
-      })
-      | else-byte-eq35 w ↦ rw w.has_wall-is (record {
-        within = omega arith;
-        all = all;
-        wall = was.wall;
-        no_wall = λ h. below_more _ n (was.no_wall h) (ap (λ t. t || false) (ne_eqb _ _ w.if-byte-eq35.false));
-      })
-    ]
+loop-byte-preserved c = grind (arith, then-byte-eq35, list_any_at, false≢true, else-byte-eq35, ne_eqb)
 
 pub returns-then-characters_in-ne0 : goal.returns-then-characters_in-ne0
 returns-then-characters_in-ne0 c =

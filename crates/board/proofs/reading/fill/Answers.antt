@@ -1,15 +1,13 @@
 -- A sketch has one cell for each character of a kind, so the tests of sizes are tests of the rows. The one member of the set of players is
 -- the player, and what walks over the floor reach from its cell is the room. `PassesTests` of `Verdict.antt` says this of the sets. Then
 -- the level of these parts is legal unless its room is open (`legal_of`). The room is kept in the set of players, once that is cleared.
-use Rattle.std.proofs.Common.{◌≡◌, ◌≤◌, length, ◌∙◌, ap, inr, arith}
+use Rattle.std.proofs.Common.{◌≡◌, ◌∙◌, inr, arith}
 use Rattle.std.specs.FinSet as set
-use Rattle.std.proofs.lemmas.List.Elements.{All-weaker}
 use Rattle.cellset.specs.CellSet.{Cells}
 use Rattle.cellset.proofs.Members.{has_empty, same_members}
 use Rattle.cellset.proofs.Truth.{either}
 use Rattle.reach.proofs.Sets.{stored_is}
 use Rattle.board.specs.Lines.{lines_in}
-use Rattle.board.specs.Rows.{width_of}
 use Rattle.board.proofs.Parts.{all_within_width}
 use Rattle.board.proofs.Verdict.{PassesTests, formed_of, legal_of}
 use Rattle.board.proofs.reading.fill.Given as given
@@ -17,13 +15,10 @@ use Rattle.board.proofs.reading.fill.Goals as goal
 
 -- An empty set to which cells are added has these alone.
 room_of : (s t u : Cells) → s ≡ set.empty → u ≡ set.union s t → t ≡ u
-room_of s t u empty union = let stored = stored_is s t u empty union in same_members t u (λ q. (stored q).1) (λ q. (stored q).0)
+room_of s t u empty union = grind (arith, stored_is, same_members)
 
 pub draw-requires-clause-wide : goal.draw-requires-clause-wide
-draw-requires-clause-wide g c =
-    let rows = lines_in c.args.text.now in
-    let width = ap (λ e. e.width) c.requires.shape in
-    All-weaker (λ row. length row ≤ width_of rows) (λ row. length row ≤ c.args.sketch.now.shape.width) (λ row h. omega arith) rows (all_within_width rows)
+draw-requires-clause-wide g c = grind (arith, all_within_width)
 
 passed : (g : given.Over) (c : goal.After-store g) → let members = g.S.CellSet.members in let sketch = c.draw.new.sketch in
     PassesTests (lines_in c.args.text.now) sketch.shape (members sketch.walls) (members sketch.goals) (members sketch.boxes) (members sketch.room)

@@ -2,7 +2,7 @@
 -- have bytes. A line that is played makes them more by its own letters (`Texts.antt`, `Replays.antt`). A line that fails makes all lines
 -- fail at the same letter, because the letters before it are a part of all letters. There is room for a move per byte of all lines, so
 -- there is room for the next line.
-use Rattle.std.proofs.Common.{ℕ, List, [], ◌++◌, ◌+◌, length, get_or, take, drop, take_all, ◌∙◌, ap, arith, length-append}
+use Rattle.std.proofs.Common.{ℕ, List, [], ◌++◌, ◌+◌, length, get_or, take, drop, ◌∙◌, ap, arith, length-append}
 use Rattle.std.specs.Borrow.{Bor}
 use Rattle.std.proofs.lemmas.Result.{err_from_is_err_and}
 use Rattle.play.specs.Spelling.{letters, joined}
@@ -50,11 +50,5 @@ loop-line-preserved c =
       continues = rw (line_letters_more lines i none (omega arith)) more;
     }
 
-pub returns-clause-ok : goal.returns-clause-ok
-returns-clause-ok c = rw (take_all c.loop-line.line-index c.args.lines.now (omega arith)) at c.loop-line.invariant.continues
-
 pub play_line-requires-clause-under_way : goal.play_line-requires-clause-under_way
 play_line-requires-clause-under_way c = under_way_then c.loop-line.invariant.continues c.requires.under_way
-
-pub play_line-requires-clause-masked : goal.play_line-requires-clause-masked
-play_line-requires-clause-masked c = rw c.loop-line.auto.field c.requires.masked

@@ -6,13 +6,8 @@ use Rattle.std.proofs.Common.{◌≡◌, ℕ, ◌+◌, ◌-◌, ◌%◌, ◌<◌
 use Rattle.std.specs.Prelude.{bit_and, bit_or}
 use Rattle.std.proofs.Math.Nat.{mod-lt}
 use Rattle.play.specs.Field.{HasMask}
-use Rattle.play.proofs.Sums.{IsWalked, mask_fits, masked, walked_none, walked_more, walked_all, added_small}
+use Rattle.play.proofs.Sums.{IsWalked, mask_fits, masked, walked_more}
 use Rattle.play.proofs.walks.walk.Goals as goal
-
-pub loop-byte-init : goal.loop-byte-init
-loop-byte-init c =
-    subst (λ n. IsWalked c.args.field.now c.args.player c.args.group.now 0 n 0) (sym c.from-sum.ensures)
-    (walked_none c.args.field.now c.args.group.now 0 (omega arith))
 
 -- the mask keeps the low bits of a place
 low_bits : (field : List ℕ) → HasMask field → (mask n : ℕ) → mask + 1 ≡ length field → bit_and n mask ≡ n % length field
@@ -35,13 +30,3 @@ loop-byte-preserved c =
     (sym (low_bits field c.requires.masked c.args.mask sum c.requires.mask))
     (walked_more c.requires.masked c.args.player c.args.group.now c.loop-byte.byte-index c.loop-byte.sum c.loop-byte.met c.added-sum.result
     c.requires.few (omega arith) c.added-sum.ensures c.loop-byte.invariant)
-
-pub overflow_add-sum : goal.overflow_add-sum
-overflow_add-sum c =
-    let s = added_small c.added-sum.ensures in
-    let b = c.loop-byte.invariant.bounded in
-    omega (arith, s, b)
-
-pub returns-then-sum-lt-NO_WALK : goal.returns-then-sum-lt-NO_WALK
-returns-then-sum-lt-NO_WALK c = walked_all c.loop-byte-test.false c.if-met-eq-FREE.true c.if-sum-lt-NO_WALK.true c.from.ensures (omega arith)
-    c.loop-byte.invariant

@@ -3,4 +3,4 @@ use Rattle.reach.proofs.Lines.{cleared}
 use Rattle.reach.proofs.columns.remove.Goals as goal
 
 pub returns : goal.returns
-returns g c = cleared c.args.row.now c.args.part c.args.bits (omega arith) (omega arith)
+returns g c = grind (arith, cleared)

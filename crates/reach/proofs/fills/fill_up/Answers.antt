@@ -1,6 +1,6 @@
 use Rattle.std.proofs.Common.{ℕ, ◌+◌, sym, subst, arith}
 use Rattle.std.proofs.Math.ListN.{set}
-use Rattle.reach.proofs.Carries.{IsUpTo, upward_start, upward_more, upward_end, upward_fit}
+use Rattle.reach.proofs.Carries.{IsUpTo, upward_more, upward_end}
 use Rattle.reach.proofs.fills.fill_up.Goals as goal
 
 pub loop-i-preserved : goal.loop-i-preserved
@@ -12,10 +12,3 @@ loop-i-preserved g c =
 
 pub returns-clause-filled : goal.returns-clause-filled
 returns-clause-filled g c = upward_end c.args.free.now c.args.row.now c.loop-i.row c.loop-i.i c.loop-i.carry (omega arith) (omega arith) c.loop-i.invariant
-
-pub loop-i-init : goal.loop-i-init
-loop-i-init g c = upward_start _ _
-
-pub returns-clause-fit : goal.returns-clause-fit
-returns-clause-fit g c = let long = c.told-row in upward_fit c.args.free.now c.args.row.now c.loop-i.row c.loop-i.i c.loop-i.carry
-    (omega arith) c.loop-i.invariant

@@ -2,7 +2,7 @@ use Rattle.std.proofs.Common.{◌≡◌, [], get_or, ◌∙◌, arith}
 use Rattle.std.proofs.Math.ListN.{length-set}
 use Rattle.std.proofs.lemmas.List.{get_or_read}
 use Rattle.cellset.specs.Cell.{cell_at}
-use Rattle.reach.proofs.Loads.{done_more, done_all, row_below}
+use Rattle.reach.proofs.Loads.{done_more}
 use Rattle.reach.proofs.rows.subtract.Goals as goal
 
 pub loop-y-preserved : goal.loop-y-preserved
@@ -16,7 +16,3 @@ loop-y-preserved g c =
           let old = c.loop-y.invariant.cells.rest (cell_at k y) (omega arith) in
           grind arith);
     }
-
-pub returns-clause-cells : goal.returns-clause-cells
-returns-clause-cells g c = done_all _ _ c.loop-y.y c.loop-y.rows (omega arith)
-    (λ q h. let low = row_below c.args.rows.now q h.0 in omega arith) c.loop-y.invariant.cells

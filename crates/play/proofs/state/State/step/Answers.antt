@@ -3,7 +3,4 @@ use Rattle.play.proofs.Steps.{push_no_wall}
 use Rattle.play.proofs.state.State.step.Goals as goal
 
 pub returns-in-Some-free_behind-clause-wall : goal.returns-in-Some-free_behind-clause-wall
-returns-in-Some-free_behind-clause-wall g c = (
-  (λ e. cc),
-  (λ w. absurd (push_no_wall c.args.board.now c.args.self.now.state c.args.dir (search rules) (search rules) (search rules) w)),
-)
+returns-in-Some-free_behind-clause-wall g c = search (rules, push_no_wall)

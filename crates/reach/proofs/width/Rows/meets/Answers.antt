@@ -4,15 +4,9 @@ use Rattle.std.proofs.Common.{sym, ◌∙◌}
 use Rattle.std.proofs.lemmas.Bool.{true≢false}
 use Rattle.std.proofs.lemmas.List.Elements.{Contains-push_cases}
 use Rattle.cellset.proofs.Members.{lacks_where}
-use Rattle.cellset.proofs.MemberLists.{goes_on, next_has, next_came, all_came}
+use Rattle.cellset.proofs.MemberLists.{goes_on, next_came, all_came}
 use Rattle.cellset.proofs.Truth.{either}
 use Rattle.reach.proofs.width.Rows.meets.Goals as goal
-
-pub returns-then-has : goal.returns-then-has
-returns-then-has g c =
-    let l = c.loop-cell in
-    let whole = goes_on l.yielded _ _ c.in-Some.ensures.steps l.invariant.all in
-    (c.in-Some.cell, (next_has l.yielded c.next.new.self c.in-Some.cell whole).0, c.has.ensures.0 c.if-has.true)
 
 pub loop-cell-preserved : goal.loop-cell-preserved
 loop-cell-preserved g c =
