@@ -1,6 +1,6 @@
 -- Each turn adds the cells of 64 columns to each of the four sets: the bits of its word are the columns whose character is of the kind
--- (`part_added` in `Drawing.antt`). All bits are of columns of the row, so their cells are on the grid (`word_on`). After the last part
--- every column of the row is added, and no other row has changed (`row_drawn`). The walls that are added are taken from the floor.
+-- (`part_added` in `Drawing.antt`). All bits are of columns of the row, so their cells are on the grid. After the last part every column of
+-- the row is added, and no other row has changed (`row_drawn`). The walls that are added are taken from the floor.
 use Rattle.std.proofs.Common.{◌*◌, ◌<◌, length, take, refl, ◌∙◌, arith, length-take-le}
 use Rattle.board.specs.Characters.{is_wall, is_player, is_box, is_goal}
 use Rattle.board.proofs.Drawing.{part_added, row_drawn, floor_less}

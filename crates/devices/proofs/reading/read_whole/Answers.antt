@@ -1,7 +1,7 @@
 -- The invariant says that the first `taken` bytes of the buffer are the bytes that the source lost, that the buffer has at most one byte
 -- more than a text may have, and that no read failed. A read keeps these first bytes, and after them it puts the bytes that it takes from
 -- the source (`read_after`). If a read returns no bytes, the source is at its end, so the first bytes are all that it had. If the loop
--- ends, more bytes were taken than a text may have, so the source had too many (`had_more`).
+-- ends, more bytes were taken than a text may have, so the source had too many.
 use Rattle.std.proofs.Common.{◌≡◌, ◌+◌, ℕ, List, arith, drop, rules, subst, sym, take}
 use Rattle.std.specs.Prelude.{Option}
 use Rattle.std.specs.Io.KnownBytes.{Consumes}

@@ -1,7 +1,6 @@
 -- The proof goes by cases on whether the row grew. It gets the columns to which a step leads from the other row, so afterwards no step
 -- leads from there out of the region (`offered_more` and `offered_same` in `Chains.antt`). If it grew, it joins the worklist, and the
--- cells that it gained outweigh its place there (`work_grown`). If it didn't, region and worklist are the same, and so is the work that is
--- left (`work_written`).
+-- cells that it gained outweigh its place there. If it didn't, region and worklist are the same, and so is the work that is left.
 use Rattle.reach.specs.Grown.{in_rows}
 use Rattle.std.proofs.Common.{◌≡◌, [], length, get_or, arith}
 use Rattle.std.proofs.lemmas.List.{get_or_read}
