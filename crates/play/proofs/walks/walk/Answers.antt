@@ -1,6 +1,6 @@
 -- The invariant is `IsWalked` of `Sums.antt`: the sum has the place of the player and the number of letters so far, if all cells met are
 -- free and all letters are walks. The number of bytes of the field is a power of two, so the mask keeps each place within the field
--- (`low_bits`). A letter adds little, so the sum doesn't overflow. If in the end all cells met are free and the sum is small, all letters
+-- (`masked`). A letter adds little, so the sum doesn't overflow. If in the end all cells met are free and the sum is small, all letters
 -- were walks.
 use Rattle.std.proofs.Common.{◌≡◌, ℕ, ◌+◌, ◌-◌, ◌%◌, ◌<◌, List, length, get_or, sym, ◌∙◌, ap, subst, arith}
 use Rattle.std.specs.Prelude.{bit_and, bit_or}
