@@ -23,7 +23,7 @@ CODES = {"Tab": 9, "Enter": 13, "Escape": 27, " ": 32, "PageUp": 33, "PageDown":
          "Home": 36, "ArrowLeft": 37, "ArrowUp": 38, "ArrowRight": 39, "ArrowDown": 40}
 TEXTS = {"Enter": "\r", " ": " "}
 # how many seconds an answer may take
-LONGEST = 60
+LONGEST = 120
 # where a click on an element goes
 MIDDLE = """(element => {
     element.scrollIntoView({ block: "nearest" });
@@ -185,7 +185,7 @@ class Browser:
             raise ValueError(str(found["exceptionDetails"]))
         return found["result"].get("value")
 
-    def until(self, expression: str, seconds: float = 10) -> None:
+    def until(self, expression: str, seconds: float = 60) -> None:
         """Waits until an expression holds, or the time has run out."""
         end = time.monotonic() + seconds
         while not self.ask(expression) and time.monotonic() < end:

@@ -225,7 +225,7 @@ class Signs(Case):
                 time.sleep(0.05)
             time.sleep(3)
             os.killpg(running.pid, signal.SIGINT)
-            self.assertEqual(running.wait(10), 130)
+            self.assertEqual(running.wait(60), 130)
         record = "level %d\nunsolvable\npattern 2,2 @ *\nend\n"
         self.assertEqual(self.read("answers").decode(), "sokoban-answers 1\n" + record % 1 +
                          record % 3)
@@ -236,7 +236,7 @@ class Signs(Case):
         self.write("levels", hall(60, 60))
         import pty  # which Windows lacks
         ours, theirs = pty.openpty()
-        self.find("levels", "--seconds", "3", stdout=subprocess.DEVNULL, stderr=theirs).wait(20)
+        self.find("levels", "--seconds", "3", stdout=subprocess.DEVNULL, stderr=theirs).wait(60)
         os.close(theirs)
         said = os.read(ours, 65536).decode()
         self.assertIn(" \rfind: level 1 for 1 s (0 of 1 done)", said)

@@ -129,7 +129,7 @@ class Solvers(Case):
                 self.assertEqual(self.outcome(
                     f"{ignores}print('{printed}', flush=True)\nwhile True: time.sleep(9)",
                     seconds=seconds), what)
-                self.assertLess(time.monotonic() - began, seconds + 4.5)
+                self.assertLess(time.monotonic() - began, seconds + 20)
         self.assertEqual(self.outcome("os.close(1); os.close(2)\nwhile True: time.sleep(9)",
                                       seconds=.5), solvers.LATE)
 
@@ -148,7 +148,7 @@ print("rRR")
 """
         began = time.monotonic()
         self.assertEqual(self.outcome(script), solvers.SOLVED)
-        self.assertLess(time.monotonic() - began, 10)
+        self.assertLess(time.monotonic() - began, 60)
         pids = [int(it[4:]) for it in os.listdir() if it.startswith("pid-")]
         self.assertEqual(len(pids), 5)
         for _ in range(100):
@@ -215,8 +215,8 @@ print("rRR" if "$ ." in text else "rR")
 
 
 def comes(is_so: Callable[[], object]) -> bool:
-    """Whether something becomes so within 20 seconds."""
-    end = time.monotonic() + 20
+    """Whether something becomes so within a minute."""
+    end = time.monotonic() + 60
     while not is_so() and time.monotonic() < end:
         time.sleep(.05)
     return bool(is_so())
