@@ -23,7 +23,7 @@ some_same b k e = cc
 
 -- a table matches a goal to one box at most
 pub one_match : (shape : Extent) (matching : List (Option Cell)) (g b k : Cell) → Pairs shape matching g b → Pairs shape matching g k → b ≡ k
-one_match shape matching g b k p q = search (some_same)
+one_match shape matching g b k p q = search
 
 -- if a box is written at the index of a goal, the goal is paired with it, and the others are paired as before
 pub table_matched : (shape : Extent) (matching : List (Option Cell)) (g k : Cell) (entry : Option Cell) → IsOn shape g → HasEntries shape matching

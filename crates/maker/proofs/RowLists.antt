@@ -48,11 +48,6 @@ module _ (cells : Cells) where
       → IsListedTo cells row a coords → IsListedTo cells row b coords
   passed row a b coords up none l = grind (arith, cases_lt)
 
-  -- A list up to the end of a row is a list up to the next row.
-  pub row_listed : (row end : ℕ) (coords : List Coord) → ((c : Cell) → Has cells c → c.column < end)
-      → IsListedTo cells row end coords → IsListedTo cells (row + 1) 0 coords
-  row_listed row end coords within l = grind (arith, cases_lt)
-
   -- A list up to the row after the last one has every cell of the set.
   pub all_listed : (row : ℕ) (coords : List Coord) → ((c : Cell) → Has cells c → c.row < row)
       → IsListedTo cells row 0 coords → IsListOf cells coords × (length coords ≡ set.len cells)
@@ -212,10 +207,6 @@ pub record IsCountedTo (cells : Cells) (row column count : ℕ) : Type 0 where
 
 pub none_counted : (cells : Cells) → ((c : Cell) → Has cells c → 1 ≤ c.row) → IsCountedTo cells 1 0 0
 none_counted cells below = grind (arith, none_listed)
-
-pub row_counted : (cells : Cells) (row end count : ℕ) → ((c : Cell) → Has cells c → c.column < end)
-    → IsCountedTo cells row end count → IsCountedTo cells (row + 1) 0 count
-row_counted cells row end count within l = search (row_listed)
 
 pub all_counted : (cells : Cells) (row count : ℕ) → ((c : Cell) → Has cells c → c.row < row) → IsCountedTo cells row 0 count → count ≡ set.len cells
 all_counted cells row count above l = sym l.long ∙ (all_listed cells row l.coords above l.listed).1

@@ -25,10 +25,6 @@ use Rattle.maker.specs.Matching.{ConfinesPaths, IsHallViolator}
 use Rattle.maker.specs.Search.{Pairs, visit_at, cell_visited, no_visit, IsTraced, IsSearch, IsQueued, IsFurther, KeepsSearches, IsExpanded}
 use Rattle.maker.specs.declared.zones.search.Visit.{Visit}
 
--- ---- what a search keeps
-pub further_itself : (level : Level) (visited : Cells) (queue : List Visit) → IsFurther level visited queue visited queue
-further_itself level visited queue = grind arith
-
 pub further_on : (level : Level) (s : Cells) (v : List Visit) (s' : Cells) (v' : List Visit) (s'' : Cells) (v'' : List Visit) → IsFurther level s v s' v'
     → IsFurther level s' v' s'' v'' → IsFurther level s v s'' v''
 further_on level s v s' v' s'' v'' a b = grind arith
@@ -243,7 +239,7 @@ pairs_read shape matching g b i on is entry = search
 pub pairs_visited : (shape s : Extent) (matching : List (Option Cell)) (queue : List Visit) (at : ℕ) (v : Visit) (i : ℕ) (b : Cell)
     → v ≡ visit_at queue at → s ≡ shape → i ≡ index s v.cell → IsOn shape (cell_visited queue at) → get_or matching i None ≡ Some b
     → Pairs shape matching (cell_visited queue at) b
-pairs_visited shape s matching queue at v i b is_v is_s is_i on entry = search (pairs_read)
+pairs_visited shape s matching queue at v i b is_v is_s is_i on entry = search
 
 -- ---- the loop over the queue
 pub expanded_more : (level : Level) (matching : List (Option Cell)) (visited : Cells) (queue : List Visit) (visited' : Cells) (queue' : List Visit) (at : ℕ)

@@ -3,7 +3,7 @@
 -- smaller set is held within a larger one. So the box leaves the set. Then only its neighbours may no longer be held, and they are queued.
 -- When the worklist is empty, every box of the set is held, so the set is frozen, and no box of any frozen set has left it. Four times
 -- the size of the set plus the length of the worklist falls with each box that is taken from the worklist, so the loop ends.
-use Rattle.std.proofs.Common.{◌≡◌, ℕ, ◌+◌, ◌<◌, ◌≤◌, List, [], ◌∷◌, ◌++◌, length, get_or, refl, sym, ◌∙◌, ap, subst, inl, inr, arith}
+use Rattle.std.proofs.Common.{◌≡◌, ◌+◌, ◌≤◌, List, [], ◌∷◌, ◌++◌, length, refl, sym, ◌∙◌, ap, subst, inl, inr, arith}
 use Rattle.std.specs.Prelude.{◌⊎◌, ◌↔◌}
 use Rattle.std.specs.List.{Contains}
 use Rattle.std.specs.FinSet as set
@@ -13,27 +13,15 @@ use Rattle.cellset.specs.CellSet.{Cells, Has, Lacks}
 use Rattle.cellset.specs.declared.cell.Cell.{Cell}
 use Rattle.cellset.specs.declared.dir.Dir.{Dir}
 use Rattle.cellset.specs.declared.dir.Dir.TheVariants.{L, U, R, D}
-use Rattle.std.proofs.lemmas.Bool.{cases_lt, false≢true}
+use Rattle.std.proofs.lemmas.Bool.{false≢true}
 use Rattle.cellset.proofs.Members.{has_or_lacks, not_both, same, same_itself, same_or_other, kept_by_remove, has_remove}
 use Rattle.patterns.proofs.Counts.{len-remove_member}
-use Rattle.reach.specs.Pushes.{dir_rank}
 use Rattle.board.specs.Game.{Level}
 use Rattle.board.specs.Board.{IsWellFormed}
 use Rattle.cellset.proofs.Neighbors.{neighbor_back}
 use Rattle.cellset.proofs.Truth.{either}
 use Rattle.maker.specs.Frozen.{IsHeld, IsFrozen, IsLargestFrozen}
 use Rattle.maker.specs.Review.{IsReviewed}
-
--- What holds for each of the first directions and for the next one holds for one direction more.
-pub each_so_far : (P : Dir → Type 0) (i : ℕ) → ((d : Dir) → dir_rank d < i → P d) → P (get_or (L ∷ U ∷ R ∷ D ∷ []) i L) → (d : Dir) → dir_rank d < i + 1 → P d
-each_so_far P i before here d less = either (cases_lt (dir_rank d) i) (before d)
-    (λ not_less. let is : i ≡ dir_rank d = omega arith in subst P (ap (λ k. get_or (L ∷ U ∷ R ∷ D ∷ []) k L) is ∙ way d) here)
-  where
-    way : (d : Dir) → get_or (L ∷ U ∷ R ∷ D ∷ []) (dir_rank d) L ≡ d
-    way L = refl
-    way U = refl
-    way R = refl
-    way D = refl
 
 -- What holds a box within a set holds it within a larger one.
 pub held_more : (level : Level) (dead few many : Cells) (b : Cell) (d : Dir) → ((c : Cell) → Has few c → Has many c)
@@ -42,10 +30,6 @@ held_more level dead few many b d within held = grind (arith, either)
 
 -- ---- one box is taken from the worklist
 module _ (level : Level) (dead : Cells) (b : Cell) (frozen : Cells) (work : List Cell) where
-  -- If the box has left the set before, nothing has to change.
-  pub reviewed_absent : Lacks frozen b → IsReviewed level dead b frozen work frozen work
-  reviewed_absent lacks = grind (arith, not_both)
-
   -- If the box is held in every direction, nothing has to change.
   pub reviewed_held : ((d : Dir) → IsHeld level dead frozen b d) → IsReviewed level dead b frozen work frozen work
   reviewed_held held = grind (arith, not_both)

@@ -9,9 +9,6 @@ loop-row-init c = record {
   room = c.requires.room;
 }
 
-pub loop-row-preserved : goal.loop-row-preserved
-loop-row-preserved c = grind arith
-
 pub returns : goal.returns
 returns c =
     let high = ap (λ (e : Extent). e.height) c.shape-shape.ensures in

@@ -3,14 +3,11 @@ use Rattle.std.proofs.Common.{◌≡◌, ◌+◌, ◌*◌, ap, arith}
 use Rattle.std.proofs.lemmas.Nat.{ones-le}
 use Rattle.cellset.specs.Shape.{Extent}
 use Rattle.reach.proofs.Loads.{row_tells}
-use Rattle.maker.proofs.RowLists.{all_counted, none_counted, part_counted, row_counted}
+use Rattle.maker.proofs.RowLists.{all_counted, none_counted, part_counted}
 use Rattle.maker.proofs.cells.count.Goals as goal
 
 pub loop-row-init : goal.loop-row-init
 loop-row-init c = grind (arith, none_counted)
-
-pub loop-part-init : goal.loop-part-init
-loop-part-init c = grind arith
 
 pub loop-part-preserved : goal.loop-part-preserved
 loop-part-preserved c =
@@ -24,9 +21,6 @@ loop-part-preserved c =
       counted = rw next at (part_counted cells row (64 * l.part) bits (row_tells cells row l.part bits (omega arith) c.row.ensures) l.count (omega arith) l.invariant.counted);
       few = let few = l.invariant.few in omega arith;
     }
-
-pub loop-row-preserved : goal.loop-row-preserved
-loop-row-preserved c = grind (arith, row_counted)
 
 pub returns : goal.returns
 returns c =

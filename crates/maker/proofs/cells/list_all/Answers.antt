@@ -9,9 +9,6 @@ use Rattle.cellset.proofs.MemberLists.{goes_on, next_came, all_came}
 use Rattle.maker.proofs.Listing.{members_count}
 use Rattle.maker.proofs.cells.list_all.Goals as goal
 
-pub loop-cell-init : goal.loop-cell-init
-loop-cell-init g c = grind arith
-
 pub push_reserved-requires : goal.push_reserved-requires
 push_reserved-requires g c =
     let l = c.loop-cell in

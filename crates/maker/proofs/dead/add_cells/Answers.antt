@@ -1,16 +1,13 @@
 -- The invariant says that the rows have the cells seen so far, and the cells that they had at the start. The next cell lies on the grid, so
 -- it can be inserted. Then the rows have it too, by cases on whether a cell was there, was seen before, or is the new one. At the end every
 -- cell of the set has been seen (`MemberLists.antt` of `cellset`).
-use Rattle.std.proofs.Common.{[], ◌∷◌, sym, ◌∙◌, subst, inl, inr, arith}
+use Rattle.std.proofs.Common.{[], ◌∷◌, sym, ◌∙◌, subst, inl, inr}
 use Rattle.std.proofs.lemmas.List.Elements.{Contains-append_left, Contains-push, Contains-push_cases}
 use Rattle.cellset.specs.Shape.{Extent}
 use Rattle.cellset.specs.Cell.{IsOn}
 use Rattle.cellset.proofs.MemberLists.{goes_on, next_has, next_came, all_came}
 use Rattle.cellset.proofs.Truth.{either}
 use Rattle.maker.proofs.dead.add_cells.Goals as goal
-
-pub loop-cell-init : goal.loop-cell-init
-loop-cell-init g c = grind (arith, either)
 
 pub insert-requires : goal.insert-requires
 insert-requires g c =

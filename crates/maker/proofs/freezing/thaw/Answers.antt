@@ -34,9 +34,6 @@ review-requires-clause-on g c = c.loop-cell.invariant.listed c.in-Some.cell (was
 taken : (n : ℕ) (rest all : List Cell) (b : Cell) → all ≡ rest ++ b ∷ [] → n + length all ≡ n + length rest + 1
 taken n rest all b e = grind (arith, length-append)
 
-pub review-requires-clause-room : goal.review-requires-clause-room
-review-requires-clause-room g c = grind (arith, taken)
-
 pub loop-cell-preserved : goal.loop-cell-preserved
 loop-cell-preserved g c =
     let l = c.loop-cell in
@@ -59,9 +56,6 @@ loop-cell-preserved g c =
       thawing = thawing_more level c.requires.formed dead cell _ _ _ _ (l.invariant.listed cell (was_last _ _ cell c.in-Some.ensures.items)) before
           c.review.ensures.reviewed;
     }
-
-pub loop-cell-smaller : goal.loop-cell-smaller
-loop-cell-smaller g c = grind (arith, taken)
 
 pub returns-clause-exact : goal.returns-clause-exact
 returns-clause-exact g c =

@@ -1,12 +1,11 @@
 -- If each frozen box is on a goal, the level has no list. Otherwise its list has a pattern for each dead square and one for the frozen boxes.
 -- These are lawful, because dead squares and frozen boxes are on the grid.
-use Rattle.std.proofs.Common.{◌∷◌, [], ◌∙◌, length, refl, sym, ap, arith, inr}
+use Rattle.std.proofs.Common.{◌∷◌, [], ◌∙◌, refl, sym, ap, arith, inr}
 use Rattle.std.specs.Prelude.{map}
 use Rattle.std.proofs.lemmas.List.{map-append}
 use Rattle.answers.specs.Grammar.{said_pattern}
 use Rattle.maker.specs.Made.{lone_patterns}
-use Rattle.maker.proofs.Living.{dead_on}
-use Rattle.maker.proofs.MadeLists.{of_none, of_frozen, dead_few, frozen_lawful_lines}
+use Rattle.maker.proofs.MadeLists.{of_none, of_frozen, frozen_lawful_lines}
 use Rattle.maker.proofs.making.list_off_goals.Goals as goal
 
 pub returns-then-is_subset-clause-list : goal.returns-then-is_subset-clause-list
@@ -14,12 +13,6 @@ returns-then-is_subset-clause-list g c =
     let members = g.S.CellSet.members in
     of_none c.args.board.now c.args.dead.now.members c.requires.exact c.args.board.now.boxes refl c.requires.apart
     (members c.args.held.now) c.requires.largest (members c.goals.result.now) c.goals.ensures.members (sym c.is_subset.ensures ∙ c.if-is_subset.true)
-
-pub coords_in-requires : goal.coords_in-requires
-coords_in-requires g c = grind (arith, dead_on)
-
-pub overflow_add-len : goal.overflow_add-len
-overflow_add-len g c = grind (arith, dead_few)
 
 pub returns-clause-list : goal.returns-clause-list
 returns-clause-list g c =
@@ -33,12 +26,4 @@ returns-clause-list g c =
     (map said_pattern c.push_reserved.new.self.items) (ap (map said_pattern) c.push_reserved.ensures.items ∙ map-append said_pattern patterns (last ∷ [])))
 
 pub returns-clause-lawful : goal.returns-clause-lawful
-returns-clause-lawful g c =
-    let members = g.S.CellSet.members in
-    let held = c.args.held.now in
-    let patterns = c.in_ok-patterns.ensures in
-    let same = c.deref.ensures.value in
-    frozen_lawful_lines c.args.board.now c.shape-shape.ensures.formed c.args.dead.now.members c.requires.exact (members held) c.requires.largest
-    (members c.goals.result.now) (sym c.is_subset.ensures ∙ c.if-is_subset.false) c.in_ok-patterns.patterns.items
-    (c.in_ok-cells.cells.items, c.in_ok-cells.ensures.list, patterns.list ∙ ap lone_patterns same)
-    (patterns.count ∙ ap length same ∙ c.in_ok-cells.ensures.count) c.in_ok-whole_pattern.field-0 c.in_ok-whole_pattern.ensures _ c.push_reserved.ensures.items
+returns-clause-lawful g c = grind (arith, frozen_lawful_lines)

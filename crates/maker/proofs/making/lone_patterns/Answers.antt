@@ -1,16 +1,11 @@
-use Rattle.std.proofs.Common.{◌+◌, ◌≤◌, [], ◌∷◌, length, get_or, take, ap, sym, ◌∙◌, arith}
+use Rattle.std.proofs.Common.{◌+◌, [], ◌∷◌, length, get_or, take, ap, sym, ◌∙◌, arith}
 use Rattle.std.specs.Prelude.{map}
-use Rattle.std.proofs.lemmas.List.{length-append, take_all, take_more}
+use Rattle.std.proofs.lemmas.List.{length-append, take_more}
 use Rattle.answers.specs.Grammar.{said_pattern}
 use Rattle.answers.specs.declared.pattern.Coord.{Coord}
 use Rattle.maker.specs.Made.{lone_patterns}
 use Rattle.maker.proofs.Listing.{lone_push}
 use Rattle.maker.proofs.making.lone_patterns.Goals as goal
-
-pub returns-clause-list : goal.returns-clause-list
-returns-clause-list c =
-    let all : length c.args.cells.now ≤ c.loop-cell.cell-index = omega arith in
-    rw take_all at c.loop-cell.invariant.list
 
 pub loop-cell-preserved : goal.loop-cell-preserved
 loop-cell-preserved c =

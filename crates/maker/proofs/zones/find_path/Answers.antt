@@ -3,28 +3,6 @@
 use Rattle.maker.proofs.Relays.{free_kept}
 use Rattle.maker.proofs.zones.find_path.Goals as goal
 
-pub finds_violator-requires : goal.finds_violator-requires
-finds_violator-requires g c = record {
-  relay = c.requires.relay;
-  reach = c.requires.reach;
-  visited = c.requires.ready.grid;
-  entries = c.requires.entries;
-  valid = c.requires.valid;
-  start = c.requires.start;
-}
-
-pub returns-then-finds_violator-clause-ready : goal.returns-then-finds_violator-clause-ready
-returns-then-finds_violator-clause-ready g c = record { grid = c.finds_violator.ensures.extent; room = c.requires.ready.room }
-
-pub returns-then-finds_violator-clause-exact : goal.returns-then-finds_violator-clause-exact
-returns-then-finds_violator-clause-exact g c = c.finds_violator.ensures.violator c.if-finds_violator.true
-
-pub begin-requires : goal.begin-requires
-begin-requires g c = record {
-  ready = record { grid = c.finds_violator.ensures.extent; room = c.requires.ready.room };
-  start = c.requires.start;
-}
-
 pub find_free_goal-requires : goal.find_free_goal-requires
 find_free_goal-requires g c =
     let free = free_kept c.args.board.now c.args.matching.now c.args.relay.now _ c.finds_violator.ensures.same c.requires.free in

@@ -11,15 +11,6 @@ loop-from-smaller g c =
     rw c.in-Some.is (left_falls shape (g.S.CellSet.members c.goals.result.now) c.in-Some.at found c.next-from.result
     (rw c.in-Some.is at c.loop-from.invariant.on) (rw c.goals.ensures.extent at c.in_ok-goal.ensures.on) c.in_ok-goal.ensures.first after)
 
-pub loop-from-init : goal.loop-from-init
-loop-from-init g c = record { on = c.requires.on }
-
-pub returns : goal.returns
-returns g c = tt
-
-pub returns-in_err-goal : goal.returns-in_err-goal
-returns-in_err-goal g c = rw c.from_residual.ensures tt
-
 pub returns-then-is_free_in : goal.returns-then-is_free_in
 returns-then-is_free_in g c =
     let level = c.args.board.now in
@@ -28,9 +19,3 @@ returns-then-is_free_in g c =
     let entry = rw c.shape-shape.ensures.value at unmatched in
     let is_goal = rw c.goals.ensures.members at c.in_ok-goal.ensures.first.0 in
     (here, record { on = rw c.goals.ensures.extent at c.in_ok-goal.ensures.on; goal = is_goal; unmatched = entry })
-
-pub is_free_in-requires : goal.is_free_in-requires
-is_free_in-requires g c = record {
-  entries = rw c.shape-shape.ensures.value c.requires.entries;
-  on = rw c.shape-shape.ensures.value (rw c.goals.ensures.extent at c.in_ok-goal.ensures.on);
-}

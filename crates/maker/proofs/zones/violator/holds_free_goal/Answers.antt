@@ -1,5 +1,5 @@
 use Rattle.std.proofs.lemmas.List.Elements.{Contains-push_cases}
-use Rattle.cellset.proofs.MemberLists.{next_has, next_came, all_came}
+use Rattle.cellset.proofs.MemberLists.{next_has, next_came}
 use Rattle.cellset.proofs.Truth.{either}
 use Rattle.maker.proofs.zones.violator.holds_free_goal.Goals as goal
 
@@ -21,9 +21,3 @@ loop-goal-preserved g c =
           (λ old. c.loop-goal.invariant.paired q old has)
           (λ is. rw is at (c.holds_free.ensures c.if-holds_free.false (rw is has)));
     }
-
-pub returns : goal.returns
-returns g c = λ _ q has is_goal.
-    let level = c.args.board.now in
-    let all = all_came level.shape level.goals c.loop-goal.yielded (rw c.in-None.ensures.steps.0 at c.loop-goal.invariant.all) in
-    c.loop-goal.invariant.paired q ((all.exact q).1 is_goal) has
