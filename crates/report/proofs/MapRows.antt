@@ -58,11 +58,6 @@ length-rows_text level dead (suc n) =
     let before = length-rows_text level dead n in
     omega arith
 
--- the text grows by the line of the next row
-pub rows_more : (level : Level) (dead : Cells) (n : ℕ) (text new : List ℕ)
-    → text ≡ rows_text level dead n → new ≡ text ++ (row_text level dead (n + 1) level.shape.width ++ 10 ∷ []) → new ≡ rows_text level dead (n + 1)
-rows_more level dead n text new is more = grind arith
-
 -- the room for all lines has room for the next one
 pub room_for_row : (level : Level) (dead : Cells) (n room : ℕ) (text : List ℕ) → text ≡ rows_text level dead n → n < level.shape.height
     → (level.shape.width + 1) * level.shape.height ≤ room → length text + (level.shape.width + 1) ≤ room

@@ -37,7 +37,7 @@ use Rattle.report.specs.Means.{IsMissing, IsSolvedBy, Means}
 use Rattle.report.specs.Printed.{AreTrue, HasWords}
 use Rattle.report.specs.Report.{AllMean}
 use Rattle.report.specs.Status.{IsFirstFaultOf}
-use Rattle.report.specs.Summary.{is_missing, is_refused, is_solved, is_unsolvable, summary_of}
+use Rattle.report.specs.Summary.{summary_of}
 use Rattle.report.specs.Unsolvable.{IsUnsolvable}
 use Rattle.report.specs.Words.{Text, bad_line_word, board_words, dir_word, line_of, line_word, lines_from, move_word, patterns_words, cell_words, refusal_words, report_text, solution_words, solved_words, total_line, words_of, zone_word, zone_words}
 use Rattle.report.specs.declared.status.Refusal.{Refusal}
@@ -117,7 +117,7 @@ plain_place c d = number c.column & word (codes ",") refl & number c.row & word 
 
 plain_solution : (fault : ReplayFault) → IsPlain (solution_words fault)
 plain_solution (replay_fault.Move n why) = word (codes "move ") refl & number n & word (codes " ") refl & plain_move why
-plain_solution (replay_fault.Unsolved boxes) = word (codes "unsolved ") refl & number boxes
+plain_solution (replay_fault.Unsolved boxes) = grind (arith, word, number)
 plain_solution replay_fault.Memory = word [] refl
 
 plain_patterns : (fault : CheckFault) → IsPlain (patterns_words fault)
@@ -133,7 +133,7 @@ plain_zone (zone_fault.Fits line) = word (codes "line ") refl & number line & wo
 plain_zone zone_fault.Memory = word [] refl
 
 plain_refusal : (why : Refusal) → IsPlain (refusal_words why)
-plain_refusal (Board why) = word (codes "board ") refl & board_word why
+plain_refusal (Board why) = grind (arith, word, board_word)
 plain_refusal (BadLine line why) = word (codes "line ") refl & number line & word (codes " ") refl & plain_bad_line why
 plain_refusal (Solution fault) = plain_solution fault
 plain_refusal (Patterns fault) = plain_patterns fault
@@ -142,9 +142,9 @@ plain_refusal (Zone fault) = plain_zone fault
 plain_words : (status : Status) → IsPlain (words_of status)
 plain_words (Solved t) =
     word (codes "solved moves ") refl & number t.moves & word (codes " pushes ") refl & number t.pushes & word (codes " changes ") refl & number t.changes
-plain_words (Unsolvable k) = word (codes "unsolvable patterns ") refl & number k
-plain_words (UnsolvableZone k) = word (codes "unsolvable zone ") refl & number k
-plain_words (Refused why) = word (codes "refused ") refl & plain_refusal why
+plain_words (Unsolvable k) = grind (arith, word, number)
+plain_words (UnsolvableZone k) = grind (arith, word, number)
+plain_words (Refused why) = grind (arith, word, plain_refusal)
 plain_words Missing = word (codes "missing") refl
 
 -- ---- the lines of a report
@@ -225,18 +225,6 @@ same_words a b e = same_lines 1 a b (summary_of a) (summary_of b) (sym (lines_ar
 -- the first byte of the words fixes the kind of the status
 kinds : ℕ → Bool × Bool × Bool × Bool
 kinds byte = (byte == 115, byte == 117, byte == 114, byte == 109)
-
-kinds_are : (s : Status) → (is_solved s, is_unsolvable s, is_refused s, is_missing s) ≡ kinds (slice_index (words_of s) 0)
-unfolding kinds
-kinds_are (Solved t) = refl
-kinds_are (Unsolvable k) = refl
-kinds_are (UnsolvableZone k) = refl
-kinds_are (Refused why) = refl
-kinds_are Missing = refl
-
-pub same_kind : (a b : Status) → words_of a ≡ words_of b → (is_solved a ≡ is_solved b) × (is_unsolvable a ≡ is_unsolvable b) × (is_refused a ≡ is_refused b)
-    × (is_missing a ≡ is_missing b)
-same_kind a b e = grind (arith, kinds_are, kinds)
 
 -- two texts with different first bytes differ
 other_first : (a b : Text) → a ≡ b → slice_index a 0 ≡ slice_index b 0

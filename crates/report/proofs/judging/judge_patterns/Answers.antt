@@ -10,9 +10,6 @@ returns-in-Ok-clause-says g c = λ lines are rows is.
     let ok = c.in-Ok.ensures.ok lines are in
     subst (λ n. Says rows (Some (PatternLines lines)) (Unsolvable n)) (sym ok.1) (closed is ok.0)
 
-pub returns-in-Ok-clause-unsolvable : goal.returns-in-Ok-clause-unsolvable
-returns-in-Ok-clause-unsolvable g c = λ _. c.in-Ok.ensures.unsolvable c.requires.0 c.requires.1
-
 pub returns-in_default : goal.returns-in_default
 returns-in_default g c = record {
   says = λ lines are rows is. not_closed is (c.in-Err.ensures.exact lines are c.in_default.not-Memory);

@@ -1,4 +1,4 @@
-use Rattle.report.proofs.PrintedLines.{line_is, same_kind, same_words}
+use Rattle.report.proofs.PrintedLines.{line_is, same_words}
 use Rattle.report.proofs.laws.reports_can_be_read_back.Goals as goal
 
 pub returns-clause-line : goal.returns-clause-line
@@ -6,6 +6,3 @@ returns-clause-line c = line_is
 
 pub returns-clause-words : goal.returns-clause-words
 returns-clause-words c = same_words
-
-pub returns-clause-kind : goal.returns-clause-kind
-returns-clause-kind c = same_kind

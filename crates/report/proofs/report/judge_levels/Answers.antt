@@ -15,21 +15,6 @@ use Rattle.report.proofs.Answered.{means, says_said}
 use Rattle.report.proofs.Reports.{drop_at, summary_more, each_more}
 use Rattle.report.proofs.report.judge_levels.Goals as goal
 
-pub bounds-levels-before : goal.bounds-levels-before
-bounds-levels-before c = c.loop-before-test.true
-
-pub answer_to-answer-requires-clause-rise : goal.answer_to-answer-requires-clause-rise
-answer_to-answer-requires-clause-rise c = c.loop-before.invariant.rise
-
-pub answer_to-answer-requires-clause-room : goal.answer_to-answer-requires-clause-room
-answer_to-answer-requires-clause-room c = omega (arith, c.loop-before-test.true, c.requires.few)
-
-pub add-requires-clause-adds_up : goal.add-requires-clause-adds_up
-add-requires-clause-adds_up c = c.loop-before.invariant.adds_up
-
-pub add-requires-clause-room : goal.add-requires-clause-room
-add-requires-clause-room c = omega (arith, c.loop-before.invariant.count, c.loop-before-test.true, c.requires.few)
-
 pub loop-before-preserved : goal.loop-before-preserved
 loop-before-preserved c =
     let inv = c.loop-before.invariant in
