@@ -16,7 +16,7 @@ use crate::region::Finder;
 use board::Board;
 use cellset::{Cell, CellSet, Dir, MembersOf, Shape};
 use patterns::{
-    Arena, FilledTables, PushScratch, Tables, are_in, find_trap, is_any_covering, note_found,
+    Arena, FilledTables, PushScratch, Tables, are_in, are_pushes_found, find_trap, is_any_covering,
     note_hinted,
 };
 use reach::{Push, Pushes, Rows};
@@ -127,7 +127,6 @@ fn check_covering<S: CellSet>(
     if !is_any_covering(filled, board.player(), board.boxes(), &mut scratch.lookup) {
         return Err(CheckFault::Start);
     }
-    note_found(filled, scratch, covered);
     let mut trial = Trial::new(alloc, board.shape())?;
     let checked = check_pushes(filled, covered, scratch, &mut trial);
     drop(trial);
@@ -155,29 +154,38 @@ impl<S: CellSet> Model for Trial<S> {
         × (S.extent t.region ≡ t.finder.flooder) × (S.extent t.players ≡ t.finder.flooder) };
 }
 
-// Returns the first push out of a pattern whose result isn't covered as an error.
+// Returns the first push out of a pattern whose result isn't covered as an error. At the first line of a group it tries the pushes of the
+// whole group. Groups are numbered in the order of these lines.
 fn check_pushes<S: CellSet>(
     filled: &FilledTables<S>,
-    covered: &[bool],
+    covered: &mut Vec<bool>,
     scratch: &mut PushScratch<S>,
     trial: &mut Trial<S>,
 ) -> Result<(), CheckFault>
     requires start { IsCovered filled.now.tables.board.now (list_of filled.now.tables.groups) (start filled.now.tables.board.now) }
     requires ready { IsReady S.extent filled.now scratch.old }
     requires trial { trial.old ≡ filled.now.tables.board.now.shape }
-    requires covered { AreNoted filled.now.tables.board.now filled.now.tables.groups covered.now }
+    requires covered { AreNoted filled.now.tables.board.now filled.now.tables.groups covered.old.items }
     ensures ok { OnOk result ((pattern : PatternSet) → Contains (list_of filled.now.tables.groups) pattern
         → CoversPushesOf filled.now.tables.board.now (list_of filled.now.tables.groups) pattern) }
     ensures exact { IfErr result (λ fault. fault ≢ CheckFault.Memory
         → IsFirstPatternFault filled.now.tables.board.now (lines_in filled.now.tables.groups.arena) fault) }
 {
     let mut loaded = filled.tables.groups.spans.len();
+    let mut met = 0;
     for line in 0..filled.tables.groups.arena.lines.len() {
         let group = filled.tables.groups.of[line] as usize;
         if covered[group] {
             continue;
         }
         load_group(filled, group, &mut loaded, scratch);
+        if group >= met {
+            met = group + 1;
+            if are_pushes_found(filled, group, scratch) {
+                covered[group] = true;
+                continue;
+            }
+        }
         if let Some(push) = trial.first_push(filled, line, scratch) {
             return Err(CheckFault::Push {
                 line: filled.tables.groups.arena.lines[line].number,

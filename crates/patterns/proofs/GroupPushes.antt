@@ -26,7 +26,7 @@ push_in_box level boxes cell dir push has floor room free at = grind (arith, nei
 -- The box that moves lies on the grid.
 pub pushed_on : {S : Type 0} (tables : Tables S) → AreTables tables → (pushed : PushedBox) → IsPushedBox tables.board.now tables.groups pushed →
     IsOn tables.board.now.shape (pushed_cell pushed)
-pushed_on tables is pushed of = search (boxes_on, in_list, no_cell)
+pushed_on tables is pushed of = search (boxes_on, in_list)
 
 module _ (level : Level) (pattern : Pattern) (cell : Cell) (dir : Dir) where
   player_behind : (push : Push) → PushesOut level pattern push → push.from ≡ cell → push.dir ≡ dir → push.player ≡ neighbor cell (opposite dir)

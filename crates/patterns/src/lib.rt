@@ -52,7 +52,7 @@ pub use group_regions::{Region, Regions};
 pub use groups::Groups;
 pub use lookup::{Scratch, is_any_covering};
 pub use piece::Piece;
-pub use push_lookups::{PushScratch, note_found};
+pub use push_lookups::{PushScratch, are_pushes_found};
 pub use pushes::note_hinted;
 pub use sides::Sides;
 pub use subsets::Subsets;

@@ -4,8 +4,8 @@
 //! (`piece`), and all groups (`lookup`).
 ghost use Rattle.std.specs.Prelude.{◌≡◌, ◌<◌, ◌↔◌, IsTrue, IfOk, IfSome, length};
 ghost use Rattle.cellset.specs.{Cell.IsOn, CellSet.Has, declared.cell.Cell.Cell as GridCell};
-ghost use Rattle.patterns.specs.{Pattern.IsCovered, Pattern.CoversPushesOf, Run.state_after, Sides.cell_no, Sides.cells_in, Groups.list_of, Groups.position_at};
-ghost use Rattle.patterns.specs.GroupPushes.{AreNoted, CoversFrom, CoversToward, IsLoaded, IsPushOf, IsPushedBox, IsReady, IsStepBack, pushed_cell};
+ghost use Rattle.patterns.specs.{Pattern.IsCovered, Pattern.CoversPushesOf, Run.state_after, Sides.cell_no, Sides.cells_in, Groups.boxes_of, Groups.list_of, Groups.position_at};
+ghost use Rattle.patterns.specs.GroupPushes.{CoversFrom, CoversToward, IsLoaded, IsPushOf, IsPushedBox, IsReady, IsStepBack, pushed_cell};
 ghost use Rattle.patterns.specs.Tables.{AreFilled};
 
 use crate::cells::load;
@@ -111,38 +111,20 @@ impl<S: CellSet> PushScratch<S> {
     }
 }
 
-/// Notes further groups whose pushes the list covers.
-pub fn note_found<S: CellSet>(
-    filled: &FilledTables<S>,
-    scratch: &mut PushScratch<S>,
-    covered: &mut Vec<bool>,
-)
-    requires ready { IsReady S.extent filled.now scratch.old }
-    requires covered { AreNoted filled.now.tables.board.now filled.now.tables.groups covered.old.items }
-    ensures ready { IsReady S.extent filled.now scratch.new }
-    ensures covered { AreNoted filled.now.tables.board.now filled.now.tables.groups covered.new.items }
-{
-    for group in 0..filled.tables.groups.spans.len() {
-        if covered[group] {
-            continue;
-        }
-        covered[group] = are_pushes_found(filled, group, scratch);
-    }
-}
-
-// Returns true only if the list covers each push out of a group.
-fn are_pushes_found<S: CellSet>(
+/// Returns true only if the list covers each push out of a group. Its boxes are loaded.
+pub fn are_pushes_found<S: CellSet>(
     filled: &FilledTables<S>,
     group: usize,
     scratch: &mut PushScratch<S>,
 ) -> bool
     requires group { group < length filled.now.tables.groups.spans.items }
     requires ready { IsReady S.extent filled.now scratch.old }
+    requires loaded { IsLoaded S.members filled.now (cells_in (boxes_of filled.now.tables.groups group)) scratch.old }
     ensures ready { IsReady S.extent filled.now scratch.new }
+    ensures loaded { IsLoaded S.members filled.now (cells_in (boxes_of filled.now.tables.groups group)) scratch.new }
     ensures covered { IsTrue result → CoversPushesOf filled.now.tables.board.now (list_of filled.now.tables.groups) (position_at filled.now.tables.board.now filled.now.tables.groups group) }
 {
     let boxes = filled.tables.groups.boxes(group);
-    scratch.load(filled, boxes);
     let hash = hash_of(boxes);
     for number in 0..boxes.len() {
         let sides = filled.tables.sides_of(group, number);

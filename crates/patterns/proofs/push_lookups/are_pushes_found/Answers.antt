@@ -1,10 +1,10 @@
 -- The invariant says that the list covers the pushes of each box so far, and that the memory is loaded with the boxes. The tables have the
--- sides of the next box on which the region lies (`sides_of`), so `is_found_each_way` may be called for it. Every push out of the group moves one of its boxes, so after the loop the list
--- covers them all (`covered_each_box`). The result false claims nothing.
+-- sides of the next box on which the region lies (`sides_of`), so `is_found_each_way` may be called for it. Every push out of the group moves
+-- one of its boxes, so after the loop the list covers them all (`covered_each_box`). The result false claims nothing.
 use borrow.Author.Count.{below_more}
 use Rattle.std.proofs.Common.{ap}
 use Rattle.patterns.specs.{GroupPushes.CoversFrom, Groups.list_of, Groups.position_at, Sides.cell_no, Sides.cells_in}
-use Rattle.patterns.proofs.{CellLists.empty_lacks, GroupPushes.covered_each_box, Grouped.boxes_on}
+use Rattle.patterns.proofs.{CellLists.empty_lacks, GroupPushes.covered_each_box}
 use Rattle.patterns.proofs.push_lookups.are_pushes_found.Goals as goal
 
 pub returns-clause-covered : goal.returns-clause-covered
@@ -16,10 +16,6 @@ returns-clause-covered g c = λ _.
 
 pub sides_of-sides-requires-clause-off : goal.sides_of-sides-requires-clause-off
 sides_of-sides-requires-clause-off g c = λ q _. rw c.requires.ready.filled.off (empty_lacks q)
-
-pub load-requires-clause-boxes : goal.load-requires-clause-boxes
-load-requires-clause-boxes g c = boxes_on c.args.filled.now.tables.board.now c.args.filled.now.tables.groups c.requires.ready.filled.are.lawful c.requires.ready.filled.are.grouped
-    c.args.group c.requires.group c.boxes-boxes.result.now c.boxes-boxes.ensures
 
 pub loop-number-preserved : goal.loop-number-preserved
 loop-number-preserved g c =
