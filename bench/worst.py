@@ -32,11 +32,12 @@ def worst() -> Iterator[Timed]:
     yield corridor(side=255, lines=1000, most=150)
     yield corridor(side=255, lines=1000, most=3, has_trap=True)
     yield decoys(side=120, boxes=60, big=60, lines=1500, most=6)
-    yield decoys(side=120, boxes=60, big=60, lines=1500, most=15, ahead=True)
-    yield halves(side=120, boxes=40, big=150, lines=3000, most=18)
+    yield decoys(side=120, boxes=60, big=60, lines=1500, most=6, ahead=True)
+    yield halves(side=120, boxes=40, big=150, lines=3000, most=12)
     yield one_for_all(side=255, lines=12000, most=20)
-    yield last_fails(side=60, lines=300, decoys=1000, most=5)
-    yield passage(side=255, big=100, lines=3000, boxes=150, most=10)
+    yield last_fails(side=60, lines=300, decoys=1000, most=4)
+    yield many_fail(side=120, sets=60, lines=3000, most=4)
+    yield passage(side=255, big=100, lines=3000, boxes=150, most=8)
     yield pairs(side=255, lines=2, most=200)
     yield chambers(side=255, big=60, lines=1500, rooms=40, most=25)
     yield one_way(side=255, levels=10, most=10)
@@ -136,7 +137,7 @@ def halves(side: int, boxes: int, big: int, lines: int, most: float) -> Timed:
     """Patterns that two halves of their own cover in turn, push by push, among decoys."""
     hall, every = Hall(side), grid(range(9, side - 4, 4), range(9, side - 4, 4))
     some, rest = every[:boxes], every[boxes:]
-    heads = [some, *([*part, it] for it in rest[:big] for part in (some, some[::2], some[1::2]))]
+    heads = [*([*part, it] for part in (some, some[::2], some[1::2]) for it in rest[:big]), some]
     return Timed("lines that two others cover in turn", AUDIT, hall.level([*some, hall.plug]),
                  listed([*(line([*it, hall.plug]) for it in heads),
                          *hall.decoys(some, lines)]), most)
@@ -164,6 +165,17 @@ def last_fails(side: int, lines: int, decoys: int, most: float) -> Timed:
     texts += [line(it + fixed) for it in less_one(some)]
     return Timed("lines of the same boxes, of which the last isn't covered", AUDIT,
                  hall.level(some + fixed), listed(texts + hall.decoys(some, decoys)), most)
+
+
+def many_fail(side: int, sets: int, lines: int, most: float) -> Timed:
+    """Sets of 20 boxes, and each without one of them in turn, which cover the pushes of the set and
+    whose own pushes nothing covers, among decoys of the 18 boxes of all sets."""
+    hall, every = Hall(side), grid(range(9, side - 4, 4), range(9, side - 4, 4))
+    some, rest = every[:18], every[18:]
+    wholes = [[*some, *rest[2 * it:2 * it + 2]] for it in range(sets)]
+    texts = [line([*it, hall.plug]) for whole in wholes for it in (whole, *less_one(whole))]
+    return Timed("many lines of which the pushes aren't covered", AUDIT,
+                 hall.level([*wholes[0], hall.plug]), listed(texts + hall.decoys(some, lines)), most)
 
 
 def passage(side: int, big: int, lines: int, boxes: int, most: float) -> Timed:
