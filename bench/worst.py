@@ -174,8 +174,9 @@ def many_fail(side: int, sets: int, lines: int, most: float) -> Timed:
     some, rest = every[:18], every[18:]
     wholes = [[*some, *rest[2 * it:2 * it + 2]] for it in range(sets)]
     texts = [line([*it, hall.plug]) for whole in wholes for it in (whole, *less_one(whole))]
-    return Timed("many lines of which the pushes aren't covered", AUDIT,
-                 hall.level([*wholes[0], hall.plug]), listed(texts + hall.decoys(some, lines)), most)
+    level = hall.level([*wholes[0], hall.plug])
+    return Timed("many lines of which the pushes aren't covered", AUDIT, level,
+                 listed(texts + hall.decoys(some, lines)), most)
 
 
 def passage(side: int, big: int, lines: int, boxes: int, most: float) -> Timed:
