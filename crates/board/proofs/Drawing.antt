@@ -12,9 +12,10 @@ use Rattle.std.specs.List.{count_by}
 use Rattle.std.specs.Prelude.{◌↔◌}
 use Rattle.std.specs.FinSet as set
 use Rattle.std.specs.FinSet.{contains, contains-insert, contains-empty, contains-union, len-insert, len-empty}
+use Rattle.cellset.specs.Shape.{Extent}
 use Rattle.cellset.specs.Cell.{cell_at, cell_cmp}
 use Rattle.cellset.specs.CellSet.{Cells, Has, Lacks}
-use Rattle.cellset.specs.RowBits.{row_cell, cells_of_row}
+use Rattle.cellset.specs.RowBits.{row_cell, IsRowOn, cells_of_row}
 use Rattle.cellset.specs.declared.cell.Cell.{Cell}
 use Rattle.cellset.proofs.Members.{cells_total, same_cells, same, same_itself, same_or_other}
 use Rattle.cellset.proofs.Rows.{has_in_row, row_has}
@@ -143,6 +144,11 @@ module _ (is_kind : ℕ → Bool) (no_floor : is_kind space ≡ false) where
         (λ inside. omega arith)
         (λ past. absurd (false≢true (sym no_floor ∙ ap is_kind (sym (nth_past line (suc k) space (omega arith))) ∙ is))) (cases_lt k (length line)),
   )
+
+  -- the bits of a row's part are of cells on the grid
+  pub word_on : (line : List ℕ) (row part word : ℕ) (shape on : Extent) → on ≡ shape → (1 ≤ row) × (row ≤ shape.height) → length line ≤ shape.width
+      → IsWordOf is_kind line part word → IsRowOn on row part word
+  word_on line row part word shape on same high wide is k small one = grind (arith, of_row)
 
   pub part_added : (line : List ℕ) (row part word : ℕ) (old now next : Cells) → IsWordOf is_kind line part word
       → next ≡ set.union now (cells_of_row row part word) → IsRowDrawn is_kind line row part old now → IsRowDrawn is_kind line row (part + 1) old next

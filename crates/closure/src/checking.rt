@@ -54,6 +54,7 @@ fn check_tables<S: CellSet>(alloc: Global, tables: Tables<S>) -> Result<(), Chec
     let mut covered = vec![in alloc; false; tables.groups.spans.len()]?;
     note_hinted(&tables, &mut covered);
     if is_start_found(&tables) && are_all(&covered) {
+        drop(tables);
         return Ok(());
     }
     let filled = tables.fill(alloc)?;

@@ -25,6 +25,10 @@ use Rattle.maker.specs.Matching.{ConfinesPaths, IsHallViolator}
 use Rattle.maker.specs.Search.{Pairs, visit_at, cell_visited, no_visit, IsTraced, IsSearch, IsQueued, IsFurther, KeepsSearches, IsExpanded}
 use Rattle.maker.specs.declared.zones.search.Visit.{Visit}
 
+-- ---- what a search keeps
+pub further_itself : (level : Level) (visited : Cells) (queue : List Visit) → IsFurther level visited queue visited queue
+further_itself level visited queue = grind arith
+
 pub further_on : (level : Level) (s : Cells) (v : List Visit) (s' : Cells) (v' : List Visit) (s'' : Cells) (v'' : List Visit) → IsFurther level s v s' v'
     → IsFurther level s' v' s'' v'' → IsFurther level s v s'' v''
 further_on level s v s' v' s'' v'' a b = grind arith

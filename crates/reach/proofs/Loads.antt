@@ -4,7 +4,7 @@ use Rattle.std.specs.Prelude.{◌⊎◌, ◌↔◌, ◌||◌}
 use Rattle.std.specs.FinSet as finset
 use Rattle.std.specs.FinSet.{contains, contains-union}
 use Rattle.std.proofs.Math.ListN.{set, length-set}
-use Rattle.std.proofs.lemmas.Bool.{cases_eq}
+use Rattle.std.proofs.lemmas.Bool.{cases_lt, cases_eq}
 use Rattle.std.proofs.lemmas.List.{get_or_past}
 use Rattle.cellset.specs.Cell.{cell_at}
 use Rattle.cellset.specs.CellSet.{Cells, Has}
@@ -89,6 +89,9 @@ pub record AreDone (Done Rest : Cell → Type 0) (y : ℕ) (rows : List (List �
   pub done : (c : Cell) → c.row < y → InRows rows c ↔ Done c
   pub rest : (c : Cell) → y ≤ c.row → InRows rows c ↔ Rest c
 
+pub done_none : (Done : Cell → Type 0) (rows : List (List ℕ)) → AreDone Done (InRows rows) 0 rows
+done_none Done rows = grind arith
+
 pub done_more : (Done Rest : Cell → Type 0) (y : ℕ) (rows : List (List ℕ)) (row : List ℕ) → y < length rows → AreDone Done Rest y rows
     → ((k : ℕ) → HasBit row k ↔ Done (cell_at k y)) → AreDone Done Rest (y + 1) (set rows y row)
 done_more Done Rest y rows row within before is = record {
@@ -107,3 +110,11 @@ done_more Done Rest y rows row within before is = record {
   where
     written : IsWritten (InRows rows) y (HasBit row) (InRows (set rows y row))
     written = row_written rows y row within
+
+-- a row with a cell is one of the rows
+pub row_below : (rows : List (List ℕ)) (c : Cell) → InRows rows c → c.row < length rows
+row_below rows c h = grind (arith, cases_lt, none_past)
+
+pub done_all : (Done Rest : Cell → Type 0) (n : ℕ) (rows : List (List ℕ)) → length rows ≤ n → ((c : Cell) → Done c → c.row < n) → AreDone Done Rest n rows
+    → (c : Cell) → InRows rows c ↔ Done c
+done_all Done Rest n rows whole within all c = grind (arith, row_below)

@@ -25,3 +25,9 @@ loop-line-preserved c =
 
 pub returns-clause-none : goal.returns-clause-none
 returns-clause-none c = sym c.loop-line.invariant.kept ∙ all_comments c.loop-line.left c.in_default.ensures.none
+
+pub returns-then-is_kept-clause-shorter : goal.returns-then-is_kept-clause-shorter
+returns-then-is_kept-clause-shorter c = omega (arith, found_shorter _ _ _ _ _ c.in-Some.ensures.some, c.loop-line.invariant.shorter)
+
+pub loop-line-smaller : goal.loop-line-smaller
+loop-line-smaller c = found_shorter _ _ _ _ _ c.in-Some.ensures.some

@@ -1,4 +1,4 @@
-use Rattle.std.proofs.Common.{◌≡◌, ◌+◌, ◌++◌, [], ◌∷◌, map, take, sym, ap, ◌∙◌}
+use Rattle.std.proofs.Common.{◌≡◌, ◌+◌, ◌++◌, [], ◌∷◌, map, take, take_all, sym, ap, arith, ◌∙◌}
 use Rattle.std.proofs.lemmas.List.{map_push, take_more}
 use Rattle.answers.specs.Reading.{entry_of}
 use Rattle.answers.proofs.reading.read_each.Goals as goal
@@ -12,3 +12,6 @@ loop-text-preserved c =
     ∙ ap (λ x. take i texts ++ x ∷ []) (sym c.text-item.is) in
     c.in_ok-read_more.ensures ∙ ap (λ es. es ++ entry_of text ∷ []) c.loop-text.invariant
     ∙ sym (ap (map entry_of) front ∙ map_push entry_of (take i texts) text)
+
+pub returns : goal.returns
+returns c = c.loop-text.invariant ∙ ap (map entry_of) (take_all c.loop-text.text-index c.args.texts.now (omega arith))

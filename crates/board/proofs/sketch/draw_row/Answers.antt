@@ -1,10 +1,34 @@
 -- Each turn adds the cells of 64 columns to each of the four sets: the bits of its word are the columns whose character is of the kind
--- (`part_added` in `Drawing.antt`). All bits are of columns of the row, so their cells are on the grid. After the last part every column of
--- the row is added, and no other row has changed (`row_drawn`). The walls that are added are taken from the floor.
+-- (`part_added` in `Drawing.antt`). All bits are of columns of the row, so their cells are on the grid (`word_on`). After the last part
+-- every column of the row is added, and no other row has changed (`row_drawn`). The walls that are added are taken from the floor.
 use Rattle.std.proofs.Common.{◌*◌, ◌<◌, length, take, refl, ◌∙◌, arith, length-take-le}
 use Rattle.board.specs.Characters.{is_wall, is_player, is_box, is_goal}
-use Rattle.board.proofs.Drawing.{part_added, row_drawn, floor_less}
+use Rattle.board.proofs.Drawing.{word_on, part_added, row_drawn, floor_less}
 use Rattle.board.proofs.sketch.draw_row.Goals as goal
+
+pub insert_row-requires : goal.insert_row-requires
+insert_row-requires g c =
+    let long = length-take-le c.args.len c.args.text.now c.requires.within in
+    word_on is_wall refl (take c.args.len c.args.text.now) c.args.row c.loop-part.part _ _ _ (c.loop-part.invariant.rows.wall ∙ c.loop-part.invariant.shape)
+    c.requires.high (omega arith) c.columns_of-columns.ensures.wall
+
+pub insert_row-requires-in-loop-part : goal.insert_row-requires-in-loop-part
+insert_row-requires-in-loop-part g c =
+    let long = length-take-le c.args.len c.args.text.now c.requires.within in
+    word_on is_goal refl (take c.args.len c.args.text.now) c.args.row c.loop-part.part _ _ _ (c.loop-part.invariant.rows.goal ∙ c.loop-part.invariant.shape)
+    c.requires.high (omega arith) c.columns_of-columns.ensures.goal
+
+pub insert_row-requires-in-loop-part-2 : goal.insert_row-requires-in-loop-part-2
+insert_row-requires-in-loop-part-2 g c =
+    let long = length-take-le c.args.len c.args.text.now c.requires.within in
+    word_on is_box refl (take c.args.len c.args.text.now) c.args.row c.loop-part.part _ _ _ (c.loop-part.invariant.rows.box ∙ c.loop-part.invariant.shape)
+    c.requires.high (omega arith) c.columns_of-columns.ensures.box
+
+pub insert_row-requires-in-loop-part-3 : goal.insert_row-requires-in-loop-part-3
+insert_row-requires-in-loop-part-3 g c =
+    let long = length-take-le c.args.len c.args.text.now c.requires.within in
+    word_on is_player refl (take c.args.len c.args.text.now) c.args.row c.loop-part.part _ _ _
+    (c.loop-part.invariant.rows.player ∙ c.loop-part.invariant.shape) c.requires.high (omega arith) c.columns_of-columns.ensures.player
 
 pub loop-part-preserved : goal.loop-part-preserved
 loop-part-preserved g c =

@@ -130,3 +130,9 @@ loop-line-preserved-then-are_pushes_found g c =
       covered = one_more (λ (j : ℕ). CoversPushesOf level patterns (pattern_at patterns j)) c.loop-line.line c.loop-line.invariant.covered
           (own_pushes g at (found.covered c.if-are_pushes_found.true));
     }
+
+pub load_group-requires-clause-loaded : goal.load_group-requires-clause-loaded
+load_group-requires-clause-loaded g c = c.loop-line.invariant.loaded
+
+pub are_pushes_found-requires-clause-loaded : goal.are_pushes_found-requires-clause-loaded
+are_pushes_found-requires-clause-loaded g c = c.load_group.ensures.loaded

@@ -1,9 +1,9 @@
 -- The arena has the pattern as its last line. So the line that is read is that pattern, and what is said of the line is said of the pattern.
-use Rattle.std.proofs.Common.{◌≡◌, ℕ, Ok, Err, Some, None, IfOk, List, ◌∷◌, [], ◌++◌, length, ap, ◌∙◌, arith}
+use Rattle.std.proofs.Common.{◌≡◌, ℕ, Ok, Err, Some, None, IfOk, List, ◌∷◌, [], ◌++◌, length, ap, sym, subst, ◌∙◌, arith}
 use Rattle.std.specs.Prelude.{MatchOption, Option, Result}
 use Rattle.std.proofs.lemmas.List.{get_or_push, length-append, length-map, map-append}
 use Rattle.answers.specs.{Body.PatternLine, Grammar.said_pattern}
-use Rattle.patterns.specs.{Pattern.pattern_of, Pattern.patterns_of, Arena.pattern_at, Arena.stored_pattern}
+use Rattle.patterns.specs.{Pattern.pattern_of, Pattern.patterns_of, Arena.IsOnGrid, Arena.lines_in, Arena.pattern_at, Arena.stored_pattern}
 use Rattle.closure.proofs.pattern_list.add_lawful.Goals as goal
 use Rattle.closure.proofs.pattern_list.add_lawful.Goals.{After-line}
 
@@ -17,7 +17,23 @@ with_lines L U (Err x) e h = tt
 
 -- the line that is read is the pattern that was added
 stored_is : (g : _) (c : After-line g) → stored_pattern c.add.new.self c.line.result ≡ pattern_of (said_pattern c.args.pattern.now)
-stored_is g c = grind (arith, length-map, last_pattern)
+stored_is g c =
+    let said = said_pattern c.args.pattern.now in
+    let added = rw c.if-not-branch.false at c.in_ok-add.ensures.added in
+    let long : c.len-line.result ≡ length (lines_in c.make_room.new.self) = simp length-map (omega arith) in
+    c.line.ensures.pattern ∙ ap (λ ls. pattern_at (patterns_of ls) c.len-line.result) added ∙ last_pattern _ said c.len-line.result long
+
+pub why_unlawful-requires : goal.why_unlawful-requires
+why_unlawful-requires g c = record {
+  line = c.line.ensures.within;
+  on = subst (IsOnGrid c.args.board.now.shape) (sym (stored_is g (goal.at.why_unlawful-requires g c).After-line))
+      (rw (c.if-not-branch.false, c.shape.ensures.value) at c.in_ok-add.ensures.on);
+}
+
+pub line-requires : goal.line-requires
+line-requires g c =
+    let added = rw c.if-not-branch.false at c.in_ok-add.ensures.added in
+    omega (arith, simp (length-map, length-append) at (ap (λ ls. length ls) added))
 
 pub returns : goal.returns
 returns g c =
@@ -25,3 +41,6 @@ returns g c =
     let added = rw c.if-not-branch.false at c.in_ok-add.ensures.added in
     with_lines _ _ c.why_unlawful.result (added ∙ ap (λ ls. ls ++ said ∷ []) c.make_room.ensures)
     (rw (stored_is g (goal.at.returns g c).After-line) at c.why_unlawful.ensures)
+
+pub returns-then-not-branch : goal.returns-then-not-branch
+returns-then-not-branch g c = rw (c.if-not-branch.true, c.shape.ensures.value) at c.in_ok-add.ensures.on

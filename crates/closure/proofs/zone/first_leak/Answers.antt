@@ -3,7 +3,7 @@
 -- (`MemberLists.antt` of `cellset`), or of the same cell in an earlier direction, so there is none. After the loop every cell of the zone
 -- has come, so the zone is closed.
 use Rattle.std.proofs.lemmas.List.Elements.{Contains-push_cases}
-use Rattle.cellset.proofs.{MemberLists.next_has, MemberLists.came_before, MemberLists.next_came, Truth.either}
+use Rattle.cellset.proofs.{MemberLists.all_came, MemberLists.next_has, MemberLists.came_before, MemberLists.next_came, Truth.either}
 use Rattle.closure.proofs.zone.first_leak.Goals as goal
 
 pub leak_from-requires-clause-on : goal.leak_from-requires-clause-on
@@ -32,3 +32,8 @@ loop-cell-preserved g c =
           (λ old. c.loop-cell.invariant.passed q old d leak)
           (λ here. c.in_default.ensures d (rw here leak));
     }
+
+pub returns : goal.returns
+returns g c = λ q d leak.
+    let whole = rw c.in-None.ensures.steps.0 at c.loop-cell.invariant.all in
+    c.loop-cell.invariant.passed q (((all_came _ _ c.loop-cell.yielded whole).exact q).1 leak.inside) d leak

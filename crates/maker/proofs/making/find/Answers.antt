@@ -3,8 +3,16 @@ use Rattle.std.proofs.lemmas.Option.{MatchOption-at_some}
 use Rattle.answers.specs.RoundTrip.{IsLawfulBody}
 use Rattle.maker.specs.Made.{IsMade, IsAcceptedMade, body_of, lone_patterns}
 use Rattle.maker.proofs.Accepting.{dead_lists_closed}
+use Rattle.maker.proofs.Living.{dead_on}
 use Rattle.maker.proofs.MadeLists.{dead_lawful, of_dead}
 use Rattle.maker.proofs.making.find.Goals as goal
+
+pub coords_in-requires : goal.coords_in-requires
+coords_in-requires g c = record {
+  on = λ q has.
+      let on = dead_on c.args.board.now c.shape-shape.ensures.formed q ((c.in_ok-dead.ensures.exact q).0 has) in
+      rw c.in_ok-dead.ensures.extent on;
+}
 
 pub returns-then-meets-clause-some : goal.returns-then-meets-clause-some
 returns-then-meets-clause-some g c =
@@ -25,6 +33,13 @@ pub returns-then-meets-clause-lawful : goal.returns-then-meets-clause-lawful
 returns-then-meets-clause-lawful g c =
     dead_lawful c.args.board.now c.shape-shape.ensures.formed c.in_ok-dead.dead.members c.in_ok-dead.ensures.exact
     c.in_ok-coords_in.field-0.items c.in_ok-coords_in.ensures.list c.in_ok-coords_in.ensures.count
+
+pub find_other-requires : goal.find_other-requires
+find_other-requires g c = record {
+  extent = c.in_ok-dead.ensures.extent;
+  exact = c.in_ok-dead.ensures.exact;
+  apart = rw c.boxes.ensures.members at c.if-meets.ensures;
+}
 
 pub returns-in-Some : goal.returns-in-Some
 returns-in-Some g c =

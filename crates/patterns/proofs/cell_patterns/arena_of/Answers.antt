@@ -1,5 +1,5 @@
 use Rattle.std.proofs.Common.{Bool, true, false, [], ◌∷◌, ◌++◌, take, sym, ◌∙◌, ap}
-use Rattle.std.{specs.Prelude.MatchBool, specs.Prelude.map, proofs.lemmas.List.map_more}
+use Rattle.std.{specs.Prelude.MatchBool, specs.Prelude.map, proofs.lemmas.List.map_more, proofs.lemmas.List.take_all}
 use Rattle.answers.specs.Grammar.{said_pattern}
 use Rattle.patterns.{specs.Pattern.pattern_of, proofs.Lists.mapped}
 use Rattle.patterns.proofs.cell_patterns.arena_of.Goals as goal
@@ -18,3 +18,7 @@ loop-pattern-preserved c =
     rw (added _ _ _ _ c.in_ok-add.field-0 c.in_ok-add.ensures.added c.in_ok-add.ensures.on (λ off. off.2 (on off.0 off.1)), c.loop-pattern.invariant)
     (ap (λ p. map said_pattern (take c.loop-pattern.pattern-index patterns) ++ said_pattern p ∷ []) c.pattern-item.is ∙
     sym (map_more said_pattern patterns c.loop-pattern.pattern-index pattern c.loop-pattern-test.true))
+
+pub returns : goal.returns
+returns c =
+    c.loop-pattern.invariant ∙ ap (map said_pattern) (take_all c.loop-pattern.pattern-index c.args.patterns.now c.loop-pattern-test.false)

@@ -136,10 +136,20 @@ loop-group-preserved-then-is_trapped g c =
     }
 
 pub boxes-boxes-requires : goal.boxes-boxes-requires
-boxes-boxes-requires g c = grind arith
+boxes-boxes-requires g c = record {
+  groups = c.requires.groups;
+  group = rw (c.len-group-end.ensures ∙ c.args.groups.now.spans.ok.0) at c.loop-group-test.true;
+}
 
 pub returns : goal.returns
-returns g c = grind arith
+returns g c =
+    let all : c.loop-group.group ≡ length c.args.groups.now.spans.items = omega arith in
+    record {
+      long = c.loop-group.invariant.long;
+      count = c.loop-group.invariant.count ∙ all;
+      sides = rw all at c.loop-group.invariant.sides;
+      each = rw all at c.loop-group.invariant.each;
+    }
 
 pub push_reserved-requires : goal.push_reserved-requires
 push_reserved-requires g c = omega arith

@@ -2,10 +2,11 @@
 -- a box of the group. So the first hit that is one decides: the player is in the region exactly if the region lies on the side of the box
 -- where the path meets it, which the facts about the region have. If no hit is a box of the group, the root decides, and these facts have
 -- that too.
+use borrow.Author.Count.{below_more}
 use Rattle.std.{proofs.Common.get_or, proofs.Common.sym, proofs.Common.◌∙◌, proofs.Common.ap, proofs.Common.arith, specs.Prelude.◌↔◌, specs.Prelude.IsTrue}
-use Rattle.cellset.specs.{Cell.neighbor, declared.dir.Dir.TheVariants.L}
-use Rattle.patterns.specs.{Pattern.InPatternRegion, Sides.cell_no, Groups.position_at, declared.tree.Hit.Hit}
-use Rattle.patterns.proofs.{CellLists.empty_lacks, CellLists.in_list, CellLists.no_cell, Turns.through}
+use Rattle.cellset.specs.{Cell.neighbor, CellSet.Lacks, declared.dir.Dir.TheVariants.L}
+use Rattle.patterns.specs.{Pattern.InPatternRegion, Sides.cell_no, Sides.cells_in, Groups.position_at, declared.tree.Hit.Hit}
+use Rattle.patterns.proofs.{CellLists.at_any, CellLists.empty_lacks, CellLists.in_list, CellLists.no_cell, Turns.through}
 use Rattle.patterns.proofs.lookup.is_inside.Goals as goal
 
 pub returns-in-Some : goal.returns-in-Some
@@ -36,7 +37,13 @@ returns g c =
     through c.has_root.ensures (told.1, told.0)
 
 pub sides_of-requires-clause-off : goal.sides_of-requires-clause-off
-sides_of-requires-clause-off g c = grind (arith, empty_lacks)
+sides_of-requires-clause-off g c = λ q _. rw c.requires.filled.off (empty_lacks q)
 
 pub has_root-requires-clause-off : goal.has_root-requires-clause-off
-has_root-requires-clause-off g c = grind (arith, empty_lacks)
+has_root-requires-clause-off g c = λ q _. rw c.requires.filled.off (empty_lacks q)
+
+pub loop-found-preserved : goal.loop-found-preserved
+loop-found-preserved g c = λ i m.
+    let d : Hit = record { cell = record { row = 0; column = 0 }; side = L } in
+    below_more (λ k. Lacks (cells_in c.boxes-boxes.result.now) (get_or c.args.hits.now k m).cell) c.loop-found.found-index (λ k. c.loop-found.invariant k m)
+    (rw (at_any c.args.hits.now c.loop-found.found-index m d c.loop-found-test.true) c.in_default.ensures) i

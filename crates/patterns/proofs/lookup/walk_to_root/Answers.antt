@@ -11,18 +11,27 @@ use Rattle.patterns.proofs.lookup.walk_to_root.Goals as goal
 
 -- The parent of the present node has a lower number.
 falls : (g : _) (c : After-index g) → c.index-node.result.now.parent < c.loop-at.at
-falls g c = grind arith
+falls g c = rw c.index-node.ensures (c.requires.filled.tree.nodes.down c.loop-at.at c.index-node.result.now c.loop-at-test.true c.loop-at.invariant.within)
 
 -- The step of the present node leads to the cell of its parent.
 leads : (g : _) (c : After-index g) (d : Node) → neighbor (get_or c.args.filled.now.tree.nodes.items c.loop-at.at c.index-node.result.now).cell
     (get_or c.args.filled.now.tree.nodes.items c.loop-at.at c.index-node.result.now).dir ≡
     (get_or c.args.filled.now.tree.nodes.items c.index-node.result.now.parent d).cell
-leads g c d = grind (arith, falls, at_any)
+leads g c d =
+    let nodes = c.args.filled.now.tree.nodes.items in
+    let r = c.index-node.result.now in
+    let less = falls g c in
+    let within = c.loop-at.invariant.within in
+    c.requires.filled.tree.nodes.leads c.loop-at.at r c.loop-at-test.true within ∙ ap (λ x. (get_or nodes x.parent r).cell) (sym c.index-node.ensures) ∙
+    ap (λ x. x.cell) (at_any nodes r.parent r d (omega arith))
 
 -- The cell that is compared with the boxes is the parent's.
 parent_cell : (g : _) (c : After-index g) (d : Node) → c.index.result.now.cell ≡
     (get_or c.args.filled.now.tree.nodes.items c.index-node.result.now.parent d).cell
-parent_cell g c d = grind (arith, falls, at_any)
+parent_cell g c d =
+    let less = falls g c in
+    let within = c.loop-at.invariant.within in
+    ap (λ x. x.cell) (c.index.ensures ∙ at_any c.args.filled.now.tree.nodes.items c.index-node.result.now.parent c.index.result.now d (omega arith))
 
 pub loop-at-preserved : goal.loop-at-preserved
 loop-at-preserved g c =
@@ -76,3 +85,6 @@ returns-clause-scratch g c = record {
       subst (λ q. HitsDecide c.args.filled.now.tables.board.now c.args.query.now.player q c.loop-at.scratch.hits.items pattern) end
       (c.loop-at.invariant.hits d pattern within lacks);
 }
+
+pub loop-at-init : goal.loop-at-init
+loop-at-init g c = grind (arith, at_any)

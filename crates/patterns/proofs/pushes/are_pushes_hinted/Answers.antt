@@ -29,3 +29,10 @@ loop-number-preserved g c =
       covered = below_more (λ i. CoversFrom level (list_of groups) (position_at level groups c.args.group) (cell_no c.boxes-boxes.result.now i)) c.loop-number.number
           c.loop-number.invariant.covered (after c.if-not-is_hinted_each_way.false);
     }
+
+pub is_hinted_each_way-requires : goal.is_hinted_each_way-requires
+is_hinted_each_way-requires g c = record {
+  tables = c.requires.tables;
+  pushed = record { group = c.requires.group; boxes = c.boxes-boxes.ensures; number = c.loop-number-test.true; sides = rw c.boxes-boxes.ensures c.sides_of-sides.ensures };
+  off = c.if-is_trapped.ensures;
+}

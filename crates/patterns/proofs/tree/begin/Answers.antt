@@ -7,6 +7,9 @@ use Rattle.cellset.specs.declared.dir.Dir.TheVariants.{L}
 use Rattle.patterns.{specs.CellIndex.index_of, specs.declared.tree.Node.Node, proofs.Spanning.root_alone}
 use Rattle.patterns.proofs.tree.begin.Goals as goal
 
+pub remove-requires : goal.remove-requires
+remove-requires g c = rw (c.copy_from.ensures.extent, c.requires) c.player-root.ensures.on
+
 pub returns-clause-growing : goal.returns-clause-growing
 returns-clause-growing g c =
     let level = c.args.board.now in
@@ -30,3 +33,6 @@ returns-clause-growing g c =
     (rw c.in_ok-nodes.ensures.items at c.in_ok-push.ensures.items) (length-set numbers c.index_of.result 0 ∙ long)
     (rw index (get_or-set_same numbers (index_of c.player-root.result) 0 0
     (omega arith)))
+
+pub index_mut-requires : goal.index_mut-requires
+index_mut-requires g c = grind arith

@@ -5,6 +5,8 @@
 use Rattle.std.proofs.Common.{◌<◌, [], length, refl, inl, inr, arith}
 use Rattle.std.proofs.lemmas.List.{get_or_read}
 use Rattle.cellset.specs.Cell.{cell_at}
+use Rattle.cellset.proofs.Truth.{either}
+use Rattle.reach.proofs.Lines.{none_in_zeros}
 use Rattle.reach.proofs.rows.is_at_edge.Goals as goal
 
 pub returns-then-any : goal.returns-then-any
@@ -23,3 +25,6 @@ returns-then-any-2 g c =
       rw (get_or_read rows c.height.result _ inside c.index-rows-height.is []) at some.1,
       inr (inl c.height.ensures.value),
     )
+
+pub returns : goal.returns
+returns g c = grind (arith, get_or_read, either, none_in_zeros)

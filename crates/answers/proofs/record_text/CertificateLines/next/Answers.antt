@@ -8,7 +8,10 @@ use Rattle.answers.proofs.Bodies.{excess_next, pattern_next, stray_next, zone_ne
 use Rattle.answers.proofs.record_text.CertificateLines.next.Goals as goal
 
 pub returns-in-Some-2-clause-says : goal.returns-in-Some-2-clause-says
-returns-in-Some-2-clause-says c = grind (arith, zone_next)
+returns-in-Some-2-clause-says c = λ patterns count.
+    let lines = c.args.self.now in
+    let zone = sym (c.in_ok-zone.ensures patterns count) ∙ ap (option_map said_zone) c.in-Some-2.is in
+    zone_next lines.version patterns (said_line c.in-Some.line) (kept_in c.in-Some.rest) (lines_left lines) c.in-Some.ensures.some zone ∙ c.zone_before.ensures.says lines.version patterns lines
 
 pub returns-in_default-3-clause-says : goal.returns-in_default-3-clause-says
 returns-in_default-3-clause-says c = λ patterns count.
@@ -28,4 +31,12 @@ returns-then-self-eq-MOST_PATTERNS-clause-says c = λ patterns count.
     ∙ ap (λ line. body_by_line patterns line lines) (sym c.bad_line-then-self-eq-MOST_PATTERNS.ensures)
 
 pub returns-clause-says : goal.returns-clause-says
-returns-clause-says c = grind (arith, pattern_next)
+returns-clause-says c = λ patterns count.
+    let lines = c.args.self.now in
+    let no_zone = sym (c.in_ok-zone.ensures patterns count) ∙ ap (option_map said_zone) c.in_default-2.is in
+    let read = sym c.in_ok-pattern.ensures ∙ ap (option_map said_pattern) c.in-Some-3.is in
+    pattern_next lines.version patterns (said_line c.in-Some.line) (kept_in c.in-Some.rest) (lines_left lines) c.in-Some.ensures.some no_zone
+    (said_pattern c.in-Some-3.pattern) read (λ full. c.if-self-eq-MOST_PATTERNS.false (sym count ∙ full))
+
+pub returns-clause-shorter : goal.returns-clause-shorter
+returns-clause-shorter c = λ _ _. rw c.in-Some.ensures.some (omega arith)

@@ -5,6 +5,12 @@ use Rattle.patterns.proofs.Spans.{as_it_was, kept_lines, kept_within, none_said,
 use Rattle.patterns.proofs.arena.Arena.add.Goals as goal
 use Rattle.patterns.proofs.arena.Arena.add.Goals.{in-Room, in-Cells+in_ok-span-in-Cells+in-Some-2}
 
+pub invariant_of-self : goal.invariant_of-self
+invariant_of-self c = record { within = kept_within _ _ _ _ c.add_cells.ensures.grown (as_it_was _) _ c.args.self.now.within }
+
+pub invariant_of-self-in_default : goal.invariant_of-self-in_default
+invariant_of-self-in_default c = record { within = kept_within _ _ _ _ c.in_ok-boxes.ensures.grown (as_it_was _) _ c.args.self.now.within }
+
 pub returns-in_default-clause-added : goal.returns-in_default-clause-added
 returns-in_default-clause-added c = kept_lines _ _ _ _ c.in_ok-boxes.ensures.grown (as_it_was _) _ c.args.self.now.within
 

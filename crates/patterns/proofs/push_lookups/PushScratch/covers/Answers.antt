@@ -15,3 +15,15 @@ returns-then-covers-clause-exact g c =
 
 pub returns-clause-exact : goal.returns-clause-exact
 returns-clause-exact g c = rw (c.is_remembered.ensures.state ∙ c.requires.loaded.state) at c.is_covered_after.ensures.exact
+
+pub is_loose-requires-clause-push : goal.is_loose-requires-clause-push
+is_loose-requires-clause-push g c = rw c.requires.loaded.state c.requires.push
+
+pub is_remembered-requires-clause-push : goal.is_remembered-requires-clause-push
+is_remembered-requires-clause-push g c = rw c.requires.loaded.state c.requires.push
+
+pub covers-requires-clause-push : goal.covers-requires-clause-push
+covers-requires-clause-push g c = rw (c.is_remembered.ensures.state ∙ c.requires.loaded.state) c.requires.push
+
+pub is_covered_after-requires-clause-push : goal.is_covered_after-requires-clause-push
+is_covered_after-requires-clause-push g c = rw (c.is_remembered.ensures.state ∙ c.requires.loaded.state) c.requires.push

@@ -1,5 +1,8 @@
 use Rattle.patterns.proofs.tables.Tables.fill.Goals as goal
 
+pub fill_buckets-requires-clause-lawful : goal.fill_buckets-requires-clause-lawful
+fill_buckets-requires-clause-lawful g c = c.in_ok-empty_trap.ensures.tables.lawful
+
 pub returns-clause-filled : goal.returns-clause-filled
 returns-clause-filled g c =
     let tables = c.in_ok-empty_trap.ensures.tables in

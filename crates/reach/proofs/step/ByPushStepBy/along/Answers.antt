@@ -4,6 +4,8 @@ use Rattle.std.proofs.lemmas.List.{get_or_read}
 use Rattle.reach.specs.Bits.{HasBit}
 use Rattle.reach.specs.Reached.{IsBetween, IsMoved}
 use Rattle.reach.proofs.Pushing.{moved_here, pushes_closed}
+use Rattle.reach.proofs.Loads.{row_below}
+use Rattle.reach.proofs.Walking.{of_test}
 use Rattle.reach.proofs.step.ByPushStepBy.along.Goals as goal
 
 pub returns-clause-sound : goal.returns-clause-sound
@@ -25,3 +27,9 @@ returns-clause-closed g c = λ j k h step.
     let closed : (i : ℕ) → HasBit new i → IsBetween (HasBit (get_or free y [])) i → HasBit new (i - 1) × HasBit new (i + 1) =
     rw free_is at c.slide.ensures.closed in
     pushes_closed free y (HasBit new) c.requires.inside closed j k step h
+
+pub returns-clause-ends : goal.returns-clause-ends
+returns-clause-ends g c = λ a b p _. row_below c.args.free.now b (of_test c.args.free.now b p.ahead)
+
+pub returns-clause-on : goal.returns-clause-on
+returns-clause-on g c = λ shape a b on p. on b (of_test c.args.free.now b p.ahead)

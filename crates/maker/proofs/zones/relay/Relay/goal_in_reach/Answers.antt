@@ -21,3 +21,8 @@ returns-in_err-goal-clause-exact g c =
 
 pub returns-then-is_none-clause-exact : goal.returns-then-is_none-clause-exact
 returns-then-is_none-clause-exact g c = rw c.copy_from.ensures.members (c.renew.ensures.reach (grind arith))
+
+pub returns-in-Some : goal.returns-in-Some
+returns-in-Some g c =
+    let (free, near) = goal_of c.args.board.now c.args.matching.now c.renew.new.self c.in-Some.goal c.in-Some.ensures.0 c.renew.ensures.free in
+    record { relay = c.renew.ensures.relay; free = c.renew.ensures.free; exact = (free, near _ c.in-Some.ensures.1) }

@@ -12,7 +12,7 @@ use Rattle.cellset.proofs.Members.{not_both}
 use Rattle.board.specs.Game.{Level}
 use Rattle.maker.specs.Search.{visit_at, cell_visited, IsFreeGoal}
 use Rattle.maker.specs.declared.zones.search.Visit.{Visit}
-use Rattle.maker.proofs.Searches.{queued_further, queued_here, matched_keeps, read_visit, pairs_visited}
+use Rattle.maker.proofs.Searches.{further_itself, queued_further, queued_here, matched_keeps, read_visit, pairs_visited}
 use Rattle.maker.proofs.zones.search.Search.enqueue_matched.Goals as goal
 
 -- a goal at a visit is free if its entry in the table is None
@@ -26,6 +26,12 @@ free_visited level s matching queue at v i is_v is_s is_i on goal none = record 
       (is_i ∙ (ap (λ (x : Extent). index x v.cell) is_s ∙ ap (λ (x : Visit). index level.shape x.cell) is_v))) ∙ none;
 }
 
+pub index_of-requires : goal.index_of-requires
+index_of-requires g c =
+    let (start, is_search) = c.requires.search in
+    let is_v = read_visit c.args.self.now.queue.items c.args.at c.index.result.now c.requires.at c.index.ensures in
+    rw (c.shape.ensures.value, is_v) ((is_search.floor _ (is_search.listed c.args.at c.requires.at)).0)
+
 pub enqueue-requires-clause-on : goal.enqueue-requires-clause-on
 enqueue-requires-clause-on g c =
     let queue = c.args.self.now.queue.items in
@@ -34,6 +40,12 @@ enqueue-requires-clause-on g c =
     let pair = pairs_visited c.args.board.now.shape c.shape.result c.args.matching.now queue c.args.at c.index.result.now c.index_of.result
     c.in-Some.matched_box is_v c.shape.ensures.value c.index_of.ensures.value (is_search.floor _ (is_search.listed c.args.at c.requires.at)).0 c.in-Some.is in
     rw c.requires.ready.grid ((c.requires.matching (cell_visited queue c.args.at) c.in-Some.matched_box pair).0)
+
+pub returns-then-not-contains-clause-further : goal.returns-then-not-contains-clause-further
+returns-then-not-contains-clause-further g c = further_itself _ _ _
+
+pub returns-in_default-clause-further : goal.returns-in_default-clause-further
+returns-in_default-clause-further g c = further_itself _ _ _
 
 pub returns-then-not-contains-clause-exact : goal.returns-then-not-contains-clause-exact
 returns-then-not-contains-clause-exact g c = λ goal_here.
@@ -73,3 +85,9 @@ returns-clause-exact g c = λ _.
     let pair = pairs_visited c.args.board.now.shape c.shape.result c.args.matching.now queue c.args.at c.index.result.now c.index_of.result
     c.in-Some.matched_box is_v c.shape.ensures.value c.index_of.ensures.value (is_search.floor _ (is_search.listed c.args.at c.requires.at)).0 c.in-Some.is in
     (c.in-Some.matched_box, pair, queued_here _ _ _ _ _ c.enqueue.ensures.queued)
+
+pub returns-then-not-contains-clause-search : goal.returns-then-not-contains-clause-search
+returns-then-not-contains-clause-search g c = λ start h. h
+
+pub returns-clause-ready : goal.returns-clause-ready
+returns-clause-ready g c = c.enqueue.ensures.ready c.args.board.now.shape c.requires.ready

@@ -42,6 +42,13 @@ returns-clause-search g c = λ matching start is_search.
     c.enqueue_push-4.ensures.search matching start
     (c.enqueue_push-3.ensures.search matching start (c.enqueue_push-2.ensures.search matching start (c.enqueue_push.ensures.search matching start is_search)))
 
+pub returns-clause-further : goal.returns-clause-further
+returns-clause-further g c =
+    let level = c.args.board.now in
+    further_on level _ _ _ _ _ _ (further_on level _ _ _ _ _ _
+    (further_on level _ _ _ _ _ _ c.enqueue_push.ensures.further c.enqueue_push-2.ensures.further) c.enqueue_push-3.ensures.further)
+    c.enqueue_push-4.ensures.further
+
 pub returns-clause-around : goal.returns-clause-around
 returns-clause-around g c = λ dir.
     let level = c.args.board.now in

@@ -2,7 +2,7 @@
 -- alternating path leads to it. If the cell is a free goal itself, the path ends there, and the visit is still the same in the longer
 -- queue. Otherwise the matched box and the pushes are queued one after the other, and what the first call visited the second call keeps.
 use Rattle.std.proofs.Common.{◌∙◌, sym, arith}
-use Rattle.maker.proofs.Searches.{read_visit}
+use Rattle.maker.proofs.Searches.{read_visit, further_on}
 use Rattle.maker.proofs.Relays.{in_own_reach, traced_last, goal_of}
 use Rattle.maker.proofs.zones.search.Search.expand.Goals as goal
 
@@ -23,6 +23,12 @@ returns-then-enqueue_matched-clause-traced g c = λ start is_search.
     c.index-here.result.now.cell (c.enqueue_matched.ensures.search start is_search) (omega arith)
     (is ∙ sym same) (in_own_reach c.args.board.now c.index-here.result.now.cell)
 
+pub enqueue_pushes-requires-clause-search : goal.enqueue_pushes-requires-clause-search
+enqueue_pushes-requires-clause-search g c = let (start, is) = c.requires.search in (c.args.matching.now, start, c.enqueue_matched.ensures.search start is)
+
+pub returns-clause-further : goal.returns-clause-further
+returns-clause-further g c = further_on _ _ _ _ _ _ _ c.enqueue_matched.ensures.further c.enqueue_pushes.ensures.further
+
 pub returns-clause-search : goal.returns-clause-search
 returns-clause-search g c = λ start is_search. c.enqueue_pushes.ensures.search c.args.matching.now start (c.enqueue_matched.ensures.search start is_search)
 
@@ -33,3 +39,21 @@ returns-clause-exact g c =
       around = rw same at c.enqueue_pushes.ensures.around;
       matched_box = λ goal. let (b, pair, has) = c.if-enqueue_matched.ensures.exact goal in (b, pair, c.enqueue_pushes.ensures.further.kept b has);
     }
+
+pub returns-in-Some-clause-ready : goal.returns-in-Some-clause-ready
+returns-in-Some-clause-ready g c = c.requires.ready
+
+pub returns-then-enqueue_matched-clause-ready : goal.returns-then-enqueue_matched-clause-ready
+returns-then-enqueue_matched-clause-ready g c = c.enqueue_matched.ensures.ready
+
+pub returns-then-enqueue_matched-clause-further : goal.returns-then-enqueue_matched-clause-further
+returns-then-enqueue_matched-clause-further g c = c.enqueue_matched.ensures.further
+
+pub returns-then-enqueue_matched-clause-search : goal.returns-then-enqueue_matched-clause-search
+returns-then-enqueue_matched-clause-search g c = c.enqueue_matched.ensures.search
+
+pub returns-clause-ready : goal.returns-clause-ready
+returns-clause-ready g c = c.enqueue_pushes.ensures.ready
+
+pub returns-clause-traced : goal.returns-clause-traced
+returns-clause-traced g c = tt
