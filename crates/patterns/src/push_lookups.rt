@@ -37,8 +37,9 @@ impl<S: CellSet> PushScratch<S> {
     {
         let state = S::new(alloc, filled.tables.board.shape())?;
         let lookup = Scratch::new(alloc, filled)?;
-        let piece = Piece::new(alloc, filled)?;
         let covering = vec![in alloc; 0; filled.tree.numbers.len()]?;
+        // The piece comes last, because it has the most to drop.
+        let piece = Piece::new(alloc, filled)?;
         Ok(PushScratch {
             state,
             piece,

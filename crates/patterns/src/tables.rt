@@ -80,14 +80,26 @@ impl<'a, S: CellSet> Tables<'a, S> {
         ensures level { IfOk result (λ f. f.tables.board.now ≡ self.entry.board.now) }
         ensures filled { IfOk result AreFilled }
     {
-        self.empty_trap(alloc)?;
-        let tree = grow_tree(alloc, self.board)?;
-        let buckets = fill_buckets(alloc, self.board, &self.groups)?;
+        let (tree, buckets) = self.make_lookups(alloc)?;
         Ok(FilledTables {
             tables: self,
             tree,
             buckets,
         })
+    }
+
+    // Empties the trap, and returns what lookups need. It is a function of its own, so that `fill` drops the tables in one place only: each
+    // such place makes the proof some seconds longer.
+    fn make_lookups(&mut self, alloc: Global) -> Result<(Tree, Buckets), AllocError>
+        requires { AreTables self.old }
+        ensures same { OnOk result (self.new.groups ≡ self.old.groups) }
+        ensures level { OnOk result (self.new.board.now ≡ self.old.board.now) }
+        ensures filled { IfOk result (λ r. AreFilled (record { tables = self.new; tree = r.0; buckets = r.1 })) }
+    {
+        self.empty_trap(alloc)?;
+        let tree = grow_tree(alloc, self.board)?;
+        let buckets = fill_buckets(alloc, self.board, &self.groups)?;
+        Ok((tree, buckets))
     }
 
     // Empties the trap, and finds the regions of all groups, because it left some out.

@@ -1,4 +1,4 @@
-use Rattle.patterns.proofs.tables.Tables.fill.Goals as goal
+use Rattle.patterns.proofs.tables.Tables.make_lookups.Goals as goal
 
 pub fill_buckets-requires-clause-lawful : goal.fill_buckets-requires-clause-lawful
 fill_buckets-requires-clause-lawful g c = c.in_ok-empty_trap.ensures.tables.lawful
