@@ -116,13 +116,20 @@ fn read_board<S: CellSet>(rt: &impl Print, alloc: Global, text: &[u8]) -> Option
     Some(())
 }
 
+// Reads a wide board in the memory of a small one.
+fn wide_board<S: CellSet>(alloc: Global) -> Option<Board<S>> {
+    let wide = board::levels(alloc, WIDE).ok()?;
+    let level = wide.first()?;
+    let small = board_of::<S>(alloc, SMALL)?;
+    board::read_next_board(alloc, level, Some(small)).ok()
+}
+
 // Reads the board of the first level in the memory of a wide board, which was read in the memory of a small one.
 fn read_next_board<S: CellSet>(rt: &impl Print, alloc: Global, text: &[u8]) -> Option<()> {
-    let small = board_of::<S>(alloc, SMALL)?;
-    let wide = board::levels(alloc, WIDE).ok()?;
-    let last = board::read_next_board(alloc, wide.first()?, Some(small)).ok()?;
     let found = board::levels(alloc, text).ok()?;
-    match board::read_next_board(alloc, found.first()?, Some(last)) {
+    let level = found.first()?;
+    let last = wide_board::<S>(alloc)?;
+    match board::read_next_board(alloc, level, Some(last)) {
         Ok(board) => shown::board(rt, &board),
         Err(fault) => shown::value(rt, &fault),
     }
@@ -242,9 +249,10 @@ fn judge_level<S: CellSet>(
     answers: &[u8],
 ) -> Option<()> {
     let found = board::levels(alloc, levels).ok()?;
+    let level = found.first()?;
     let records = answers::split(alloc, answers, LEVELS).ok()?;
     let mut scratch = report::Scratch::<S>::new(alloc);
-    let status = report::judge(alloc, found.first()?, records.first(), &mut scratch);
+    let status = report::judge(alloc, level, records.first(), &mut scratch);
     shown::inner(rt, &status);
     shown::text(rt, levels);
     shown::text(rt, answers);

@@ -54,7 +54,10 @@ pub fn index<S: CellSet>(
         return None;
     }
     match Index::build(alloc, board, patterns) {
-        Ok(mut index) => look_up(rt, board, &mut index, &mut boxes),
+        Ok(mut index) => {
+            look_up(rt, board, &mut index, &mut boxes);
+            drop(index);
+        }
         Err(fault) => shown::value(rt, &fault),
     }
     Some(())
