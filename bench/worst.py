@@ -1,7 +1,7 @@
 """The slowest inputs that are known. Each has a limit in units of a plain run, the same for all, so
 a change that makes one of them several times slower is seen whatever else it slows down."""
 import random
-from itertools import islice
+from itertools import combinations, islice
 from typing import Dict, Iterable, Iterator, List, NamedTuple, Tuple
 
 from tests.drawing import listed, walled
@@ -37,6 +37,8 @@ def worst() -> Iterator[Timed]:
     yield one_for_all(side=255, lines=12000, most=20)
     yield last_fails(side=60, lines=300, decoys=1000, most=4)
     yield many_fail(side=120, sets=60, lines=3000, most=4)
+    yield many_fail(side=120, sets=60, lines=3000, most=20, shut=True)
+    yield in_turn(side=120, big=1000, lines=3000, most=10)
     yield passage(side=255, big=100, lines=3000, boxes=150, most=8)
     yield pairs(side=255, lines=2, most=200)
     yield chambers(side=255, big=60, lines=1500, rooms=40, most=25)
@@ -167,16 +169,31 @@ def last_fails(side: int, lines: int, decoys: int, most: float) -> Timed:
                  hall.level(some + fixed), listed(texts + hall.decoys(some, decoys)), most)
 
 
-def many_fail(side: int, sets: int, lines: int, most: float) -> Timed:
+def many_fail(side: int, sets: int, lines: int, most: float, shut: bool = False) -> Timed:
     """Sets of 20 boxes, and each without one of them in turn, which cover the pushes of the set and
-    whose own pushes nothing covers, among decoys of the 18 boxes of all sets."""
+    whose own pushes nothing covers, among decoys of the 18 boxes of all sets. With `shut` a line of
+    each comes first whose player can't push, so that no fault ends the check before the others."""
     hall, every = Hall(side), grid(range(9, side - 4, 4), range(9, side - 4, 4))
     some, rest = every[:18], every[18:]
     wholes = [[*some, *rest[2 * it:2 * it + 2]] for it in range(sets)]
-    texts = [line([*it, hall.plug]) for whole in wholes for it in (whole, *less_one(whole))]
+    each = [[*it, hall.plug] for whole in wholes for it in (whole, *less_one(whole))]
+    texts = [line(it, hall.pocket) for it in each] * shut + [line(it) for it in each]
     level = hall.level([*wholes[0], hall.plug])
-    return Timed("many lines of which the pushes aren't covered", AUDIT, level,
-                 listed(texts + hall.decoys(some, lines)), most)
+    name = "many lines of which the pushes aren't covered" + ", after some that are" * shut
+    return Timed(name, AUDIT, level, listed(texts + hall.decoys(some, lines)), most)
+
+
+def in_turn(side: int, big: int, lines: int, most: float) -> Timed:
+    """Lines of 22 boxes, which two lines of two boxes in the last row cover in turn, among decoys
+    that come before these."""
+    hall, every = Hall(side), grid(range(9, side - 9, 4), range(9, side - 9, 4))
+    some, rest = every[:18], every[18:]
+    ends = [[(2, side - 1), (3, side - 1)], [(side - 2, side - 1), (side - 1, side - 1)]]
+    texts = [line([*some, *two, hall.plug, *ends[place % 2]], (5, 5))
+             for place, two in enumerate(islice(combinations(rest, 2), big))]
+    return Timed("lines that one of two lines in the last row covers", AUDIT,
+                 hall.level([*some, hall.plug, *ends[0], *ends[1]]),
+                 listed([*texts, *map(line, ends), *hall.decoys(some, lines)]), most)
 
 
 def passage(side: int, big: int, lines: int, boxes: int, most: float) -> Timed:

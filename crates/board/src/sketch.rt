@@ -62,21 +62,24 @@ pub(crate) fn blank<S: CellSet>(
 {
     let mut sketch = match last {
         Some(board) => board.sketch,
-        None => {
-            let sketch = Sketch {
-                shape,
-                walls: S::new(alloc, shape)?,
-                goals: S::new(alloc, shape)?,
-                boxes: S::new(alloc, shape)?,
-                room: S::new(alloc, shape)?,
-                floor: Rows::new(alloc, shape)?,
-                region: Rows::new(alloc, shape)?,
-            };
-            Box::new(alloc, sketch)?
-        }
+        None => memory(alloc, shape)?,
     };
     renew(alloc, shape, &mut sketch)?;
     Ok(sketch)
+}
+
+// Returns memory for a sketch.
+fn memory<S: CellSet>(alloc: Global, shape: Shape) -> Result<Box<Sketch<S>>, AllocError> {
+    let sketch = Sketch {
+        shape,
+        walls: S::new(alloc, shape)?,
+        goals: S::new(alloc, shape)?,
+        boxes: S::new(alloc, shape)?,
+        room: S::new(alloc, shape)?,
+        floor: Rows::new(alloc, shape)?,
+        region: Rows::new(alloc, shape)?,
+    };
+    Ok(Box::new(alloc, sketch)?)
 }
 
 // Removes all cells of a sketch and gives it another shape.

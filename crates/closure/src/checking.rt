@@ -35,9 +35,18 @@ pub(crate) fn check_lawful<S: CellSet>(
 {
     // For the proof: the board is well formed.
     let _shape = board.shape();
-    let mut trap = Rows::new(alloc, board.shape())?;
-    let are_trapped = find_trap(alloc, board, &arena, &mut trap)?;
+    let Ok(mut trap) = Rows::new(alloc, board.shape()) else {
+        drop(arena);
+        return Err(CheckFault::Memory);
+    };
+    let Ok(are_trapped) = find_trap(alloc, board, &arena, &mut trap) else {
+        drop(arena);
+        drop(trap);
+        return Err(CheckFault::Memory);
+    };
     if are_trapped && trap.meets(board.boxes()) {
+        drop(arena);
+        drop(trap);
         return Ok(());
     }
     let tables = Tables::build(alloc, board, arena, trap)?;
@@ -51,7 +60,10 @@ fn check_tables<S: CellSet>(alloc: Global, tables: Tables<S>) -> Result<(), Chec
     ensures exact { IfErr result (λ fault. fault ≢ CheckFault.Memory
         → IsFirstPatternFault tables.entry.board.now (lines_in tables.entry.groups.arena) fault) }
 {
-    let mut covered = vec![in alloc; false; tables.groups.spans.len()]?;
+    let Ok(mut covered) = vec![in alloc; false; tables.groups.spans.len()] else {
+        drop(tables);
+        return Err(CheckFault::Memory);
+    };
     note_hinted(&tables, &mut covered);
     if is_start_found(&tables) && are_all(&covered) {
         drop(tables);

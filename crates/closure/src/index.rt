@@ -52,8 +52,13 @@ impl<'a, S: CellSet> Index<'a, S> {
         let trap = Rows::new(alloc, board.shape())?;
         let tables = Tables::build(alloc, board, arena, trap)?;
         let filled = tables.fill(alloc)?;
-        let scratch = Scratch::new(alloc, &filled)?;
-        Ok(Index { filled, scratch })
+        match Scratch::new(alloc, &filled) {
+            Ok(scratch) => Ok(Index { filled, scratch }),
+            Err(error) => {
+                drop(filled);
+                Err(error)
+            }
+        }
     }
 }
 

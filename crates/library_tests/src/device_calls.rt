@@ -22,14 +22,24 @@ fn one_by_one(
     }))
 }
 
-// Writes the text to any sink.
-fn put_text<S: Sink>(sink: &mut S) -> Result<(), DeviceFault> {
-    write_whole(sink, TEXT)
+// Writes the text to any sink, and checks the answer.
+fn puts_text<S: Sink>(rt: &impl Abort, sink: &mut S, answer: Result<(), DeviceFault>) {
+    assert_eq!(rt; write_whole(sink, TEXT), answer);
 }
 
-// Reads once from any source.
-fn pull_once<S: Source>(source: &mut S, buffer: &mut [u8]) -> Result<usize, DeviceFault> {
-    source.pull(buffer)
+// Flushes any sink, and checks the answer.
+fn flushes<S: Sink>(rt: &impl Abort, sink: &mut S, answer: Result<(), DeviceFault>) {
+    assert_eq!(rt; sink.flush(), answer);
+}
+
+// Reads once from any source, and checks the answer.
+fn pulls<S: Source>(
+    rt: &impl Abort,
+    source: &mut S,
+    buffer: &mut [u8],
+    answer: Result<usize, DeviceFault>,
+) {
+    assert_eq!(rt; source.pull(buffer), answer);
 }
 
 // Checks that a sink that takes a number of bytes, one by one, holds them.
@@ -47,7 +57,7 @@ fn holds_what_it_took(
     } else {
         Err(DeviceFault)
     };
-    assert_eq!(rt; put_text(&mut sink), answer);
+    puts_text(rt, &mut sink, answer);
     assert_eq!(rt; sink.into_inner().inner.as_slice(), &TEXT[..taken]);
     Ok(())
 }
@@ -55,8 +65,8 @@ fn holds_what_it_took(
 // Checks that a sink over memory takes the text.
 fn memory_takes_all(rt: &impl Abort, alloc: Global) -> Result<(), Fail> {
     let mut sink = Device::new(Vec::with_capacity(alloc, TEXT.len())?);
-    assert_eq!(rt; put_text(&mut sink), Ok(()));
-    assert_eq!(rt; sink.flush(), Ok(()));
+    puts_text(rt, &mut sink, Ok(()));
+    flushes(rt, &mut sink, Ok(()));
     assert_eq!(rt; sink.into_inner().as_slice(), TEXT);
     Ok(())
 }
@@ -88,10 +98,10 @@ fn a_good_reader_gives_all_bytes(rt: HostRuntime) -> Result<(), Fail> {
     let mut source = Device::new(TEXT);
     let mut room = [0u8; 5];
     for (count, bytes) in READS {
-        assert_eq!(rt; pull_once(&mut source, &mut room), Ok(*count));
+        pulls(&rt, &mut source, &mut room, Ok(*count));
         assert_eq!(rt; room.as_slice(), *bytes);
     }
-    assert_eq!(rt; pull_once(&mut source, &mut room), Ok(0));
+    pulls(&rt, &mut source, &mut room, Ok(0));
     Ok(())
 }
 
@@ -104,16 +114,16 @@ fn a_blown_fuse_fails_each_read(rt: HostRuntime) -> Result<(), Fail> {
         blown: Blown::Nothing,
     });
     let mut room = [0u8; 5];
-    assert_eq!(rt; pull_once(&mut source, &mut room), Ok(2));
-    assert_eq!(rt; pull_once(&mut source, &mut room), Err(DeviceFault));
-    assert_eq!(rt; pull_once(&mut source, &mut room), Err(DeviceFault));
+    pulls(&rt, &mut source, &mut room, Ok(2));
+    pulls(&rt, &mut source, &mut room, Err(DeviceFault));
+    pulls(&rt, &mut source, &mut room, Err(DeviceFault));
     Ok(())
 }
 
 #[test]
 fn a_blown_fuse_fails_each_flush(rt: HostRuntime) -> Result<(), Fail> {
     let mut sink = one_by_one(rt.alloc(), 0, Blown::Nothing)?;
-    assert_eq!(rt; sink.flush(), Err(DeviceFault));
+    flushes(&rt, &mut sink, Err(DeviceFault));
     Ok(())
 }
 
@@ -126,16 +136,16 @@ fn no_read_is_tried_again(rt: HostRuntime) -> Result<(), Fail> {
         blown: Blown::Once,
     });
     let mut room = [0u8; 5];
-    assert_eq!(rt; pull_once(&mut source, &mut room), Err(DeviceFault));
-    assert_eq!(rt; pull_once(&mut source, &mut room), Ok(5));
+    pulls(&rt, &mut source, &mut room, Err(DeviceFault));
+    pulls(&rt, &mut source, &mut room, Ok(5));
     Ok(())
 }
 
 #[test]
 fn no_write_is_tried_again(rt: HostRuntime) -> Result<(), Fail> {
     let mut sink = one_by_one(rt.alloc(), 0, Blown::Once)?;
-    assert_eq!(rt; put_text(&mut sink), Err(DeviceFault));
-    assert_eq!(rt; put_text(&mut sink), Ok(()));
+    puts_text(&rt, &mut sink, Err(DeviceFault));
+    puts_text(&rt, &mut sink, Ok(()));
     assert_eq!(rt; sink.into_inner().inner.as_slice(), TEXT);
     Ok(())
 }
@@ -143,7 +153,7 @@ fn no_write_is_tried_again(rt: HostRuntime) -> Result<(), Fail> {
 #[test]
 fn no_flush_is_tried_again(rt: HostRuntime) -> Result<(), Fail> {
     let mut sink = one_by_one(rt.alloc(), 0, Blown::Once)?;
-    assert_eq!(rt; sink.flush(), Err(DeviceFault));
-    assert_eq!(rt; sink.flush(), Ok(()));
+    flushes(&rt, &mut sink, Err(DeviceFault));
+    flushes(&rt, &mut sink, Ok(()));
     Ok(())
 }

@@ -52,16 +52,19 @@ fn first_push_in<S: CellSet>(
     Ok(first_push_to(shape, &walls, &boxes, &region, cell))
 }
 
-// Of two pushes onto one cell, the one with the earlier player's cell comes first.
-#[test]
-fn finds_the_first_push_to_a_cell(rt: HostRuntime) -> Result<(), Fail> {
+// Checks which of two pushes onto one cell comes first, over sets of a kind.
+fn finds_the_first<S: CellSet>(rt: &impl Abort, alloc: Global) -> Result<(), Fail> {
     let shape = Shape::new(5, 5).ok_or("shape")?;
     let cell = shape.cell(1, 3).ok_or("cell")?;
     let picture = b"r    $     $r            ";
-    let first = ((1, 1), Dir::D);
-    let in_list = first_push_in::<ListSet>(rt.alloc(), shape, picture, cell)?.ok_or("push")?;
-    assert_eq!(rt; (place(in_list.player), in_list.dir), first);
-    let in_bits = first_push_in::<BitSet>(rt.alloc(), shape, picture, cell)?.ok_or("push")?;
-    assert_eq!(rt; (place(in_bits.player), in_bits.dir), first);
+    let push = first_push_in::<S>(alloc, shape, picture, cell)?.ok_or("push")?;
+    assert_eq!(rt; (place(push.player), push.dir), ((1, 1), Dir::D));
     Ok(())
+}
+
+// Of two pushes onto one cell, the one with the earlier player's cell comes first.
+#[test]
+fn finds_the_first_push_to_a_cell(rt: HostRuntime) -> Result<(), Fail> {
+    finds_the_first::<ListSet>(&rt, rt.alloc())?;
+    finds_the_first::<BitSet>(&rt, rt.alloc())
 }

@@ -29,6 +29,19 @@ fn every<S: CellSet>(alloc: Global, shape: Shape, n: u8) -> Result<S, AllocError
     Ok(set)
 }
 
+// Checks an answer of yes or no.
+fn agree(rt: &impl Abort, what: &str, said: bool, wanted: bool) {
+    assert_eq!(rt; said, wanted, "{what}");
+}
+
+// Checks whether a set has a cell, and which is the first one from it on.
+fn has<S: CellSet>(rt: &impl Abort, set: &S, cell: Cell, is_in: bool, first: Option<Cell>)
+    requires { IsOn (S.extent set.now) cell }
+{
+    let said = (set.contains(cell), set.next_from(cell));
+    assert_eq!(rt; said, (is_in, first), "{cell:?} of {:?}", set.shape());
+}
+
 // Checks that a set has every `n`th cell and every `m`th one, and which is the first from each cell on.
 fn has_every<S: CellSet>(rt: &impl Abort, set: &S, n: u8, m: u8) {
     let shape = set.shape();
@@ -42,8 +55,7 @@ fn has_every<S: CellSet>(rt: &impl Abort, set: &S, n: u8, m: u8) {
                     first = Some(cell);
                     count = usize::wrapping_add(count, 1);
                 }
-                assert_eq!(rt; set.contains(cell), is_in, "{cell:?} of {shape:?}");
-                assert_eq!(rt; set.next_from(cell), first, "{cell:?} of {shape:?}");
+                has(rt, set, cell, is_in, first);
             }
         }
     }
@@ -71,12 +83,13 @@ fn put<S: CellSet>(rt: &impl Abort, set: &mut S, cell: Cell, is_in: bool)
 {
     let was_in = set.contains(cell);
     let others = set.len().wrapping_sub(was_in as usize);
-    if is_in {
-        assert_eq!(rt; set.insert(cell), !was_in);
+    let is_new = if is_in {
+        set.insert(cell)
     } else {
-        assert_eq!(rt; set.remove(cell), was_in);
-    }
-    assert_eq!(rt; set.contains(cell), is_in);
+        set.remove(cell)
+    };
+    agree(rt, "another than before", is_new, is_in != was_in);
+    agree(rt, "is in", set.contains(cell), is_in);
     assert_eq!(rt; set.len(), others.wrapping_add(is_in as usize));
 }
 
@@ -98,15 +111,17 @@ fn with_ends<S: CellSet>(
     put(rt, set, first, has_first);
     put(rt, set, last, has_last);
     let has_first = if first == last { has_last } else { has_first };
-    assert_eq!(rt; set.contains(first), has_first);
-    assert_eq!(rt; set.next_from(first) == Some(first), has_first);
-    assert_eq!(rt; set.next_from(last) == Some(last), has_last);
-    assert_eq!(rt; set.next_from(last).is_some(), has_last);
+    agree(rt, "has the first", set.contains(first), has_first);
+    let from_first = set.next_from(first) == Some(first);
+    agree(rt, "begins with the first", from_first, has_first);
+    let from_last = set.next_from(last);
+    agree(rt, "ends with the last", from_last == Some(last), has_last);
+    agree(rt, "ends there", from_last.is_some(), has_last);
     let mut copy = S::new(alloc, shape)?;
     copy.union_with(set);
     put(rt, &mut copy, last, !has_last);
-    assert_eq!(rt; copy.is_subset(set), has_last);
-    assert_eq!(rt; set.is_subset(&copy), !has_last);
+    agree(rt, "the copy has no more", copy.is_subset(set), has_last);
+    agree(rt, "the copy has all", set.is_subset(&copy), !has_last);
     Ok(())
 }
 
@@ -161,7 +176,7 @@ fn rows<S: CellSet>(rt: &impl Abort, alloc: Global, shape: Shape) -> Result<(), 
     reads_rows(rt, &set, shape);
     let copy = rewritten(alloc, &set)?;
     assert_eq!(rt; copy.len(), set.len());
-    assert!(rt; copy.is_subset(&set));
+    agree(rt, "no more", copy.is_subset(&set), true);
     Ok(())
 }
 

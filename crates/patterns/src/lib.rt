@@ -16,10 +16,13 @@
 //!   bucket of one of its boxes, the one that the fewest lines have. A lookup goes through the buckets of the state's boxes.
 //! - **Pushes by lookups** (`push_lookups`): the group that covered the last result of a push from the same cell is asked first. Then one
 //!   look through the groups finds which boxes can be pushed by all players of one piece of the room less the boxes (`piece`, `subsets`). A
-//!   push that is still left is looked up by itself, first in the bucket of the cell ahead.
+//!   push that is still left is looked up by itself, first in the bucket of the cell ahead. The pushes of a whole group are looked up without
+//!   stale groups, which had the boxes of many states in a row and covered none. If a push stays open, the lines of the group decide, and
+//!   their pushes are looked up among all groups if the others don't settle them.
 //!
 //! A group costs a look at its boxes. If they match and the region is parted, the player's path to the root is walked, once for each lookup
-//! or look: at most as many steps as the room has cells. In the worst case a lookup or look goes through each group.
+//! or look: at most as many steps as the room has cells. In the worst case a lookup or look goes through each group. A stale group costs a few
+//! instructions.
 //!
 //! Suppose that a line without the pushed box covers each result. Then the pushes take groups × lines if the region of each group is one
 //! piece. Otherwise they also take pieces × those lines whose boxes are all there, where a piece counts again if the pushes come back to it.

@@ -3,6 +3,8 @@
 //! A group covers a state if the state has all its boxes and the player is in its region. If the region is all of the room but the
 //! boxes, the boxes decide. If it isn't, follow the player's path to the root of the tree. The first box of the group on it decides, by
 //! the side on which the path meets the box. If the path meets none of its boxes, the root decides.
+//!
+//! A group is stale if many states in a row had its boxes and it covered none. A lookup that may miss a group leaves stale groups out.
 ghost use Rattle.std.specs.Prelude.{◌≡◌, ◌≤◌, ◌<◌, ◌↔◌, ℕ, IfOk, IsTrue, MatchBool, length, slice_index, vec_capacity};
 ghost use Rattle.cellset.specs.{Cell.IsOn, CellSet.Has, CellSet.Lacks};
 ghost use Rattle.patterns.specs.Pattern.{InPatternRegion, Covers, IsCovered};
@@ -17,11 +19,12 @@ use cellset::{Cell, CellSet, MembersOf};
 use reach::Push;
 use std::alloc::{AllocError, Global};
 
-// A state to look up.
+// A state to look up, and whether all groups are asked, stale ones too.
 #[derive(Drop)]
 pub(crate) struct Query<'a, S: CellSet> {
     pub(crate) player: Cell,
     pub(crate) boxes: &'a S,
+    pub(crate) all: bool,
 }
 
 /// Scratch memory for lookups.
@@ -30,6 +33,8 @@ pub struct Scratch {
     /// The boxes on the player's path to the root, if the path was walked.
     pub hits: Vec<Hit>,
     pub walked: bool,
+    /// By group, how many states in a row had its boxes, with the player outside its region.
+    pub misses: Vec<u8>,
 }
 
 impl Scratch {
@@ -38,10 +43,30 @@ impl Scratch {
         ensures { IfOk result (IsRoomy filled.now) }
     {
         let hits = Vec::with_capacity(alloc, filled.tree.nodes.len())?;
+        let misses = vec![in alloc; 0; filled.tables.groups.spans.len()]?;
         Ok(Scratch {
             hits,
             walked: false,
+            misses,
         })
+    }
+
+    // Returns whether a group is stale.
+    pub(crate) fn is_stale(&self, group: usize) -> bool {
+        match self.misses.get(group) {
+            Some(misses) => *misses > 16,
+            None => false,
+        }
+    }
+
+    // Counts a state that had the boxes of a group.
+    fn count(&mut self, group: usize, covers: bool)
+        ensures hits { self.new.hits ≡ self.old.hits }
+        ensures walked { self.new.walked ≡ self.old.walked }
+    {
+        if let Some(misses) = self.misses.get_mut(group) {
+            *misses = if covers { 0 } else { misses.saturating_add(1) };
+        }
     }
 }
 
@@ -62,7 +87,8 @@ fn is_inside<S: CellSet>(filled: &FilledTables<S>, group: usize, player: Cell, h
     filled.tables.has_root(group)
 }
 
-// Returns whether a group covers the state. Its boxes come first, since they decide most often and cost least.
+// Returns true only if a group covers the state, and exactly then if all groups are asked. Its boxes come before its region, since they
+// decide most often and cost least.
 fn is_covering<S: CellSet>(
     filled: &FilledTables<S>,
     group: usize,
@@ -75,8 +101,12 @@ fn is_covering<S: CellSet>(
     requires extent { S.extent query.now.boxes.now ≡ filled.now.tables.board.now.shape }
     requires scratch { IsReadyFor filled.now (S.members query.now.boxes.now) query.now.player scratch.old }
     ensures scratch { IsReadyFor filled.now (S.members query.now.boxes.now) query.now.player scratch.new }
-    ensures exact { IsTrue result ↔ Covers filled.now.tables.board.now (position_at filled.now.tables.board.now filled.now.tables.groups group) (record { player = query.now.player; boxes = S.members query.now.boxes.now }) }
+    ensures covered { IsTrue result → Covers filled.now.tables.board.now (position_at filled.now.tables.board.now filled.now.tables.groups group) (record { player = query.now.player; boxes = S.members query.now.boxes.now }) }
+    ensures all { IsTrue query.now.all → Covers filled.now.tables.board.now (position_at filled.now.tables.board.now filled.now.tables.groups group) (record { player = query.now.player; boxes = S.members query.now.boxes.now }) → IsTrue result }
 {
+    if !query.all && scratch.is_stale(group) {
+        return false;
+    }
     are_in(filled.tables.groups.boxes(group), query.boxes)
         && is_subset_covering(filled, group, query, scratch)
 }
@@ -105,7 +135,9 @@ pub(crate) fn is_subset_covering<S: CellSet>(
         return true;
     }
     walk_to_root(filled, query, scratch);
-    is_inside(filled, group, query.player, &scratch.hits)
+    let covers = is_inside(filled, group, query.player, &scratch.hits);
+    scratch.count(group, covers);
+    covers
 }
 
 // Walks the player's path to the root and lists the boxes on it in order, unless it was walked. Allocates nothing.
@@ -159,7 +191,11 @@ pub fn is_any_covering<S: CellSet>(
     if !filled.tables.board.room().contains(player) {
         return false;
     }
-    let query = Query { player, boxes };
+    let query = Query {
+        player,
+        boxes,
+        all: true,
+    };
     scratch.walked = false;
     is_covered(filled, &query, scratch)
 }
@@ -190,6 +226,7 @@ pub(crate) fn covers_result<S: CellSet>(
     let query = Query {
         player: push.from,
         boxes: state,
+        all: true,
     };
     let covered = is_covering(filled, group, &query, lookup);
     state.remove(push.to);
@@ -197,9 +234,11 @@ pub(crate) fn covers_result<S: CellSet>(
     covered
 }
 
-// Returns whether the list covers the result of the push. The groups in the bucket of the cell ahead come first. The state stays as it is.
+// Returns true only if the list covers the result of the push, and exactly then if all groups are asked. The groups in the bucket of the
+// cell ahead come first. The state stays as it is.
 pub(crate) fn is_covered_after<S: CellSet>(
     push: Push,
+    all: bool,
     filled: &FilledTables<S>,
     lookup: &mut Scratch,
     state: &mut S,
@@ -211,7 +250,8 @@ pub(crate) fn is_covered_after<S: CellSet>(
     ensures extent { S.extent state.new ≡ filled.now.tables.board.now.shape }
     ensures same { S.members state.new ≡ S.members state.old }
     ensures lookup { IsRoomy filled.now lookup.new }
-    ensures exact { IsTrue result ↔ IsCovered filled.now.tables.board.now (list_of filled.now.tables.groups) (state_after (S.members state.old) push) }
+    ensures covered { IsTrue result → IsCovered filled.now.tables.board.now (list_of filled.now.tables.groups) (state_after (S.members state.old) push) }
+    ensures all { IsTrue all → IsCovered filled.now.tables.board.now (list_of filled.now.tables.groups) (state_after (S.members state.old) push) → IsTrue result }
 {
     state.remove(push.from);
     state.insert(push.to);
@@ -219,6 +259,7 @@ pub(crate) fn is_covered_after<S: CellSet>(
     let query = Query {
         player: push.from,
         boxes: state,
+        all,
     };
     let covered = is_covered_in_bucket(filled, push.to, &query, lookup)
         || is_covered(filled, &query, lookup);
@@ -227,15 +268,17 @@ pub(crate) fn is_covered_after<S: CellSet>(
     covered
 }
 
-// Returns whether some group covers the state.
+// Returns true only if some group covers the state, and exactly then if all groups are asked.
 fn is_covered<S: CellSet>(filled: &FilledTables<S>, query: &Query<S>, scratch: &mut Scratch) -> bool
     requires filled { AreFilled filled.now }
     requires player { Has filled.now.tables.board.now.room query.now.player }
     requires extent { S.extent query.now.boxes.now ≡ filled.now.tables.board.now.shape }
     requires scratch { IsReadyFor filled.now (S.members query.now.boxes.now) query.now.player scratch.old }
     ensures scratch { IsReadyFor filled.now (S.members query.now.boxes.now) query.now.player scratch.new }
-    ensures exact { IsTrue result ↔ IsCovered filled.now.tables.board.now (list_of filled.now.tables.groups)
+    ensures covered { IsTrue result → IsCovered filled.now.tables.board.now (list_of filled.now.tables.groups)
         (record { player = query.now.player; boxes = S.members query.now.boxes.now }) }
+    ensures all { IsTrue query.now.all → IsCovered filled.now.tables.board.now (list_of filled.now.tables.groups)
+        (record { player = query.now.player; boxes = S.members query.now.boxes.now }) → IsTrue result }
 {
     for cell in MembersOf::new(query.boxes) {
         if is_covered_in_bucket(filled, cell, query, scratch) {
@@ -245,7 +288,7 @@ fn is_covered<S: CellSet>(filled: &FilledTables<S>, query: &Query<S>, scratch: &
     false
 }
 
-// Returns true only if a group covers the state, and false only if none in the cell's bucket does.
+// Returns true only if a group covers the state, and false only if none in the cell's bucket does or not all groups are asked.
 #[tactic(auto, using(crate::proofs::Lists::length_more))]
 fn is_covered_in_bucket<S: CellSet>(
     filled: &FilledTables<S>,
@@ -261,7 +304,7 @@ fn is_covered_in_bucket<S: CellSet>(
     ensures scratch { IsReadyFor filled.now (S.members query.now.boxes.now) query.now.player scratch.new }
     ensures found { MatchBool result
         (IsCovered filled.now.tables.board.now (list_of filled.now.tables.groups) (record { player = query.now.player; boxes = S.members query.now.boxes.now }))
-        ((g : ℕ) → slice_index filled.now.buckets.keys.items g ≡ index_of cell → GroupCovers filled.now.tables.board.now filled.now.tables.groups g (record { player = query.now.player; boxes = S.members query.now.boxes.now }) → ⊥) }
+        (IsTrue query.now.all → (g : ℕ) → slice_index filled.now.buckets.keys.items g ≡ index_of cell → GroupCovers filled.now.tables.board.now filled.now.tables.groups g (record { player = query.now.player; boxes = S.members query.now.boxes.now }) → ⊥) }
 {
     let mut at = filled.buckets.chains.first[index_of(cell)] as usize;
     while at > 0 {

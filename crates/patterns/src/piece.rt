@@ -160,12 +160,13 @@ impl<S: CellSet> Piece<S> {
             if self.loose.contains(from) {
                 return;
             }
-            let Some(group) = self.subsets.next(filled, boxes, state) else {
+            let Some(group) = self.subsets.next(filled, boxes, state, &self.lookup) else {
                 return;
             };
             let query = Query {
                 player: self.player,
                 boxes: state,
+                all: self.subsets.all,
             };
             if !is_subset_covering(filled, group, &query, &mut self.lookup) {
                 continue;

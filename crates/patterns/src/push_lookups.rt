@@ -72,6 +72,21 @@ impl<S: CellSet> PushScratch<S> {
         ensures loaded { IsLoaded S.members filled.now (cells_in boxes.now) self.new }
         ensures exact { IsTrue result ↔ IsCovered filled.now.tables.board.now (list_of filled.now.tables.groups) (state_after (cells_in boxes.now) push) }
     {
+        self.finds(filled, boxes, push, false) || self.finds(filled, boxes, push, true)
+    }
+
+    // Returns true only if some group covers the result of a push of these boxes, and exactly then if all groups are asked.
+    fn finds(&mut self, filled: &FilledTables<S>, boxes: &[Cell], push: Push, all: bool) -> bool
+        requires boxes { (c : GridCell) → Has (cells_in boxes.now) c → IsOn filled.now.tables.board.now.shape c }
+        requires push { IsPushOf filled.now.tables.board.now (cells_in boxes.now) push }
+        requires ready { IsReady S.extent filled.now self.old }
+        requires loaded { IsLoaded S.members filled.now (cells_in boxes.now) self.old }
+        ensures ready { IsReady S.extent filled.now self.new }
+        ensures loaded { IsLoaded S.members filled.now (cells_in boxes.now) self.new }
+        ensures covered { IsTrue result → IsCovered filled.now.tables.board.now (list_of filled.now.tables.groups) (state_after (cells_in boxes.now) push) }
+        ensures all { IsTrue all → IsCovered filled.now.tables.board.now (list_of filled.now.tables.groups) (state_after (cells_in boxes.now) push) → IsTrue result }
+    {
+        self.piece.subsets.widen(all);
         if self.piece.is_loose(filled, &self.state, push) {
             return true;
         }
@@ -82,7 +97,7 @@ impl<S: CellSet> PushScratch<S> {
             self.remember(push.from);
             return true;
         }
-        is_covered_after(push, filled, &mut self.lookup, &mut self.state)
+        is_covered_after(push, all, filled, &mut self.lookup, &mut self.state)
     }
 
     // Returns true only if the group that covered the last result of a push from the same cell covers the result of this one.
@@ -179,5 +194,5 @@ fn is_found_toward<S: CellSet>(
     let Some(push) = push_of(&filled.tables, pushed, dir) else {
         return true;
     };
-    is_hinted(&filled.tables, pushed, push) || scratch.covers(filled, pushed.boxes, push)
+    is_hinted(&filled.tables, pushed, push) || scratch.finds(filled, pushed.boxes, push, false)
 }

@@ -1,27 +1,43 @@
 //! The groups whose boxes are among the boxes of a state, one after another: a search through the buckets of the boxes.
-ghost use Rattle.std.specs.Prelude.{◌≡◌, IfSome};
+ghost use Rattle.std.specs.Prelude.{◌≡◌, ◌≤◌, IfSome};
 ghost use Rattle.cellset.specs.{Cell.IsOn, CellSet.Has, declared.cell.Cell.Cell as GridCell};
 ghost use Rattle.patterns.specs.{Sides.cells_in, Subsets.IsSubset, Subsets.LeadsOn, Tables.AreFilled};
 
 use crate::cells::are_in;
+use crate::lookup::Scratch;
 use crate::tables::FilledTables;
 use crate::tree::index_of;
 use cellset::{Cell, CellSet};
 
-/// How far the search has come: how many boxes' buckets it has begun, and the link to the next group.
+/// How far the search has come: how many boxes' buckets it has begun, and the link to the next group; and whether it asks all groups.
 #[derive(Clone, Copy, Default)]
 pub struct Subsets {
     pub begun: usize,
     pub link: usize,
+    pub all: bool,
 }
 
 impl Subsets {
+    // Begins the search again with stale groups, if they are wanted and weren't.
+    pub(crate) fn widen(&mut self, all: bool)
+        ensures { self.new.link ≤ self.old.link }
+    {
+        if all && !self.all {
+            *self = Subsets {
+                begun: 0,
+                link: 0,
+                all: true,
+            };
+        }
+    }
+
     // Returns the next group whose boxes are among these boxes, and fewer. `state` has these boxes too.
     pub(crate) fn next<S: CellSet>(
         &mut self,
         filled: &FilledTables<S>,
         boxes: &[Cell],
         state: &S,
+        scratch: &Scratch,
     ) -> Option<usize>
         requires filled { AreFilled filled.now }
         requires extent { S.extent state.now ≡ filled.now.tables.board.now.shape }
@@ -30,13 +46,13 @@ impl Subsets {
         ensures link { LeadsOn filled.now.tables.groups self.new }
         ensures found { IfSome result (IsSubset filled.now.tables.groups (S.members state.now)) }
     {
-        if let Some(group) = self.search_bucket(filled, boxes, state) {
+        if let Some(group) = self.search_bucket(filled, boxes, state, scratch) {
             return Some(group);
         }
         while self.begun < boxes.len() {
             self.link = filled.buckets.chains.first[index_of(boxes[self.begun])] as usize;
             self.begun += 1;
-            if let Some(group) = self.search_bucket(filled, boxes, state) {
+            if let Some(group) = self.search_bucket(filled, boxes, state, scratch) {
                 return Some(group);
             }
         }
@@ -49,6 +65,7 @@ impl Subsets {
         filled: &FilledTables<S>,
         boxes: &[Cell],
         state: &S,
+        scratch: &Scratch,
     ) -> Option<usize>
         requires filled { AreFilled filled.now }
         requires extent { S.extent state.now ≡ filled.now.tables.board.now.shape }
@@ -60,6 +77,9 @@ impl Subsets {
         while self.link > 0 {
             let group = self.link - 1;
             self.link = filled.buckets.chains.next[group] as usize;
+            if !self.all && scratch.is_stale(group) {
+                continue;
+            }
             let kept = filled.tables.groups.boxes(group);
             // A group that covers the player and has as many boxes lacks none.
             if kept.len() < boxes.len() && are_in(kept, state) {

@@ -131,8 +131,11 @@ loop-line-preserved-then-are_pushes_found g c =
           (own_pushes g at (found.covered c.if-are_pushes_found.true));
     }
 
-pub load_group-requires-clause-loaded : goal.load_group-requires-clause-loaded
-load_group-requires-clause-loaded g c = c.loop-line.invariant.loaded
+pub index-requires-in-loop-line : goal.index-requires-in-loop-line
+index-requires-in-loop-line g c =
+    let low = is_noted g (goal.at.index-requires-in-loop-line g c).After-index in
+    let ok = c.loop-line.covered.ok in
+    omega arith
 
-pub are_pushes_found-requires-clause-loaded : goal.are_pushes_found-requires-clause-loaded
-are_pushes_found-requires-clause-loaded g c = c.load_group.ensures.loaded
+pub load_group-requires-clause-group : goal.load_group-requires-clause-group
+load_group-requires-clause-group g c = rw c.loop-line.invariant.noted.long at (is_noted g (goal.at.load_group-requires-clause-group g c).After-index)

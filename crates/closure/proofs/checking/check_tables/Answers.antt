@@ -15,7 +15,7 @@ returns-clause-exact g c = rw (c.in_ok-filled.ensures.level, c.in_ok-filled.ensu
 
 pub note_hinted-requires-clause-covered : goal.note_hinted-requires-clause-covered
 note_hinted-requires-clause-covered g c =
-    let all = c.in_ok-covered.ensures.items_if_clones_equal (λ _ e. e) in
+    let all = c.in-Ok.ensures.items_if_clones_equal (λ _ e. e) in
     record {
       long = ap (λ l. length l) all ∙ length-replicate _ _ ∙ c.len.ensures ∙ c.args.tables.groups.spans.ok.0;
       covers = λ h lt yes. let low = rw (all, length-replicate) at lt in absurd (false≢true (rw (all, get_or-replicate) at yes));

@@ -11,4 +11,4 @@ pub returns-clause-covered : goal.returns-clause-covered
 returns-clause-covered g c = λ yes.
     covered_of_group c.args.filled.now.tables.board.now c.args.filled.now.tables.groups c.requires.filled.are.grouped
     (state_after (g.S.CellSet.members c.args.state.now) c.args.push) c.args.group
-    (rw (c.insert.ensures.members, c.remove.ensures.members) at (c.is_covering-covered.ensures.exact.0 yes))
+    (rw (c.insert.ensures.members, c.remove.ensures.members) at (c.is_covering-covered.ensures.covered yes))

@@ -1,4 +1,4 @@
--- The invariant says that no group in the bucket of a box that came covers the state. A group that covers it has a box of the state for its
+-- The invariant says that no group in the bucket of a box that came covers the state if all groups are asked. A group that covers it has a box of the state for its
 -- bucket, so once all boxes of the state have come, no group covers it.
 use Rattle.std.proofs.{Common.◌∙◌, Common.ap, Common.sym, Common.subst, lemmas.Bool.false≢true, lemmas.List.Elements.Contains-push_cases}
 use Rattle.cellset.{specs.Cell.IsOn, proofs.MemberLists.all_came, proofs.MemberLists.next_has, proofs.MemberLists.next_came, proofs.Truth.either}
@@ -12,25 +12,23 @@ loop-cell-preserved g c =
       can_next = tt;
       is_finite = tt;
       all = next_came c.loop-cell.yielded c.next.new.self c.in-Some.cell whole;
-      passed = λ q k came key. either (Contains-push_cases c.loop-cell.yielded c.in-Some.cell q came)
-          (λ old. c.loop-cell.invariant.passed q k old key)
-          (λ here. c.if-is_covered_in_bucket.ensures.found k (key ∙ sym (ap index_of here)));
+      passed = λ all q k came key. either (Contains-push_cases c.loop-cell.yielded c.in-Some.cell q came)
+          (λ old. c.loop-cell.invariant.passed all q k old key)
+          (λ here. c.if-is_covered_in_bucket.ensures.found all k (key ∙ sym (ap index_of here)));
       scratch = c.is_covered_in_bucket.ensures.scratch;
     }
 
-pub returns-clause-exact : goal.returns-clause-exact
-returns-clause-exact g c =
+pub returns-clause-all : goal.returns-clause-all
+returns-clause-all g c = λ all covered.
     let shape = g.S.CellSet.extent c.args.query.now.boxes.now in
     let boxes = g.S.CellSet.members c.args.query.now.boxes.now in
-    let whole = rw c.in-None.ensures.steps.0 at c.loop-cell.invariant.all in (
-      λ h. absurd (false≢true h),
-      λ covered. absurd (no_group_covers c.args.filled.now.tables c.requires.filled.are _
-          (λ k covers.
-          let bucket = c.requires.filled.buckets.each k covers.0 in
-          c.loop-cell.invariant.passed bucket.cell k (((all_came shape boxes c.loop-cell.yielded whole).exact bucket.cell).1
-          (covers.1.boxes bucket.cell bucket.has)) bucket.key covers)
-          covered),
-    )
+    let whole = rw c.in-None.ensures.steps.0 at c.loop-cell.invariant.all in
+    absurd (no_group_covers c.args.filled.now.tables c.requires.filled.are _
+    (λ k covers.
+    let bucket = c.requires.filled.buckets.each k covers.0 in
+    c.loop-cell.invariant.passed all bucket.cell k (((all_came shape boxes c.loop-cell.yielded whole).exact bucket.cell).1
+    (covers.1.boxes bucket.cell bucket.has)) bucket.key covers)
+    covered)
 
 pub is_covered_in_bucket-requires-clause-cell : goal.is_covered_in_bucket-requires-clause-cell
 is_covered_in_bucket-requires-clause-cell g c =

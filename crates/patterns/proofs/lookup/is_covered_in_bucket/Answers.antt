@@ -1,5 +1,5 @@
 -- The loop follows the chain of the bucket from its last group to its first. The invariant says that no group of the bucket from `at` on
--- covers the state, and that group `at` - 1 is in the bucket if there is one. If this group doesn't cover the state, the chain leads to
+-- covers the state if all groups are asked, and that group `at` - 1 is in the bucket if there is one. If this group doesn't cover the state, the chain leads to
 -- the last group of the bucket before it, so none is skipped (`none_more`). At the end of the chain none is left, so no group of the
 -- bucket covers the state.
 use Rattle.std.proofs.Common.{◌≡◌, ℕ, ◌-◌, ◌<◌, ◌≤◌, List, sym, ◌∙◌, arith}
@@ -27,7 +27,7 @@ loop-at-init g c =
     record {
       within = omega arith;
       key = last.has_key;
-      passed = λ k past key covers.
+      passed = λ _ k past key covers.
           let has = covers.0 in
           last.others k past (omega arith) key;
       scratch = c.requires.scratch;
@@ -52,9 +52,9 @@ loop-at-preserved g c =
     record {
       within = omega arith;
       key = last.has_key;
-      passed = none_more filled.buckets.keys.items filled.buckets.chains.first.items filled.buckets.chains.next.items _ (index_of c.args.cell) all.chained
+      passed = λ asked. none_more filled.buckets.keys.items filled.buckets.chains.first.items filled.buckets.chains.next.items _ (index_of c.args.cell) all.chained
           Covers c.loop-at.at c.index-in-loop-at.result.now
-          test last (λ covers. false≢true (sym c.if-is_covering.false ∙ c.is_covering.ensures.exact.1 covers.1)) inv.passed;
+          test last (λ covers. false≢true (sym c.if-is_covering.false ∙ c.is_covering.ensures.all asked covers.1)) (inv.passed asked);
       scratch = c.is_covering.ensures.scratch;
     }
 
@@ -62,4 +62,4 @@ pub returns-then-is_covering-clause-found : goal.returns-then-is_covering-clause
 returns-then-is_covering-clause-found g c =
     covered_of_group c.args.filled.now.tables.board.now c.args.filled.now.tables.groups c.requires.filled.are.grouped
     (record { player = c.args.query.now.player; boxes = g.S.CellSet.members c.args.query.now.boxes.now }) (c.loop-at.at - 1)
-    (c.is_covering.ensures.exact.0 c.if-is_covering.true)
+    (c.is_covering.ensures.covered c.if-is_covering.true)

@@ -15,13 +15,13 @@ returns-then-is_among-clause-exact g c =
           (region_lacks c.args.filled.now.tables.board.now position player covers.player)),
     )
 
-pub is_inside-requires-clause-hits : goal.is_inside-requires-clause-hits
-is_inside-requires-clause-hits g c = λ pattern within lacks.
+pub is_inside-covers-requires-clause-hits : goal.is_inside-covers-requires-clause-hits
+is_inside-covers-requires-clause-hits g c = λ pattern within lacks.
     subst (λ l. HitsDecide c.args.filled.now.tables.board.now c.args.query.now.player c.args.filled.now.tables.board.now.player l pattern) (sym c.deref.ensures.value)
     (c.walk_to_root.ensures.scratch.walked c.walk_to_root.ensures.walked pattern (λ q has. c.requires.group.has q (within q has)) lacks)
 
 pub returns-clause-exact : goal.returns-clause-exact
-returns-clause-exact g c = (λ yes. record { boxes = c.requires.group.has; player = c.is_inside.ensures.0 yes }, λ covers. c.is_inside.ensures.1 covers.player)
+returns-clause-exact g c = (λ yes. record { boxes = c.requires.group.has; player = c.is_inside-covers.ensures.0 yes }, λ covers. c.is_inside-covers.ensures.1 covers.player)
 
 pub returns-then-is_whole-clause-exact : goal.returns-then-is_whole-clause-exact
 returns-then-is_whole-clause-exact g c = (

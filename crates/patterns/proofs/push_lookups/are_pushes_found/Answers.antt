@@ -28,11 +28,3 @@ loop-number-preserved g c =
       covered = below_more (λ i. CoversFrom level (list_of groups) (position_at level groups c.args.group) (cell_no c.boxes-boxes.result.now i)) c.loop-number.number
           c.loop-number.invariant.covered (after.covered c.if-not-is_found_each_way.false);
     }
-
-pub is_found_each_way-requires-clause-pushed : goal.is_found_each_way-requires-clause-pushed
-is_found_each_way-requires-clause-pushed g c = record {
-  group = c.requires.group;
-  boxes = c.boxes-boxes.ensures;
-  number = c.loop-number-test.true;
-  sides = rw c.boxes-boxes.ensures c.sides_of-sides.ensures;
-}

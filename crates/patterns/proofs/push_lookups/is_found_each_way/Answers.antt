@@ -28,6 +28,3 @@ returns-then-is_found_toward-3-clause-covered g c = λ down.
       | else-is_found_toward w ↦ absurd (false≢true (sym w.if-is_found_toward.false ∙ (sym w.value-is ∙ right.0)))
     ] in
     covered_each_way level list position cell two.0 two.1 right.1 (c.is_found_toward-then-is_found_toward-3.ensures.covered down)
-
-pub is_found_toward-requires-clause-loaded : goal.is_found_toward-requires-clause-loaded
-is_found_toward-requires-clause-loaded g c = c.requires.loaded

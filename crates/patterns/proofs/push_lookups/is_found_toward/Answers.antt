@@ -9,12 +9,12 @@ use Rattle.patterns.proofs.push_lookups.is_found_toward.Goals as goal
 pub is_hinted-requires-clause-off : goal.is_hinted-requires-clause-off
 is_hinted-requires-clause-off g c = λ q _. rw c.requires.ready.filled.off (empty_lacks q)
 
-pub covers-requires-clause-boxes : goal.covers-requires-clause-boxes
-covers-requires-clause-boxes g c = boxes_on c.args.filled.now.tables.board.now c.args.filled.now.tables.groups c.requires.ready.filled.are.lawful c.requires.ready.filled.are.grouped
+pub finds-requires-clause-boxes : goal.finds-requires-clause-boxes
+finds-requires-clause-boxes g c = boxes_on c.args.filled.now.tables.board.now c.args.filled.now.tables.groups c.requires.ready.filled.are.lawful c.requires.ready.filled.are.grouped
     c.args.pushed.now.group c.requires.pushed.group c.args.pushed.now.boxes.now c.requires.pushed.boxes
 
-pub covers-requires-clause-push : goal.covers-requires-clause-push
-covers-requires-clause-push g c =
+pub finds-requires-clause-push : goal.finds-requires-clause-push
+finds-requires-clause-push g c =
     let pushed = c.args.pushed.now in
     let level = c.args.filled.now.tables.board.now in
     let groups = c.args.filled.now.tables.groups in
@@ -36,4 +36,4 @@ returns-else-is_hinted-clause-covered g c = λ found.
     let level = c.args.filled.now.tables.board.now in
     let groups = c.args.filled.now.tables.groups in
     covered_one level (position_at level groups c.args.pushed.now.group) (pushed_cell c.args.pushed.now) c.args.dir (list_of groups) c.in-Some.push
-    c.in-Some.ensures.found (rw c.requires.pushed.boxes at (c.covers.ensures.exact.0 found))
+    c.in-Some.ensures.found (rw c.requires.pushed.boxes at (c.finds.ensures.covered found))
