@@ -52,13 +52,11 @@ impl<'a, S: CellSet> Index<'a, S> {
         let trap = Rows::new(alloc, board.shape())?;
         let tables = Tables::build(alloc, board, arena, trap)?;
         let filled = tables.fill(alloc)?;
-        match Scratch::new(alloc, &filled) {
-            Ok(scratch) => Ok(Index { filled, scratch }),
-            Err(error) => {
-                drop(filled);
-                Err(error)
-            }
-        }
+        let Ok(scratch) = Scratch::new(alloc, &filled) else {
+            drop(filled);
+            return Err(AllocError);
+        };
+        Ok(Index { filled, scratch })
     }
 }
 

@@ -5,7 +5,7 @@
 //! the side on which the path meets the box. If the path meets none of its boxes, the root decides.
 //!
 //! A group is stale if many states in a row had its boxes and it covered none. A lookup that may miss a group leaves stale groups out.
-ghost use Rattle.std.specs.Prelude.{◌≡◌, ◌≤◌, ◌<◌, ◌↔◌, ℕ, IfOk, IsTrue, MatchBool, length, slice_index, vec_capacity};
+ghost use Rattle.std.specs.Prelude.{◌≡◌, ◌≤◌, ◌<◌, ◌↔◌, ℕ, None, IfOk, IsTrue, MatchBool, length, slice_index, vec_capacity};
 ghost use Rattle.cellset.specs.{Cell.IsOn, CellSet.Has, CellSet.Lacks};
 ghost use Rattle.patterns.specs.Pattern.{InPatternRegion, Covers, IsCovered};
 ghost use Rattle.patterns.specs.{Subsets.IsSubset, Sides.cells_in, CellIndex.index_of, GroupPushes.IsPushOf};
@@ -24,6 +24,13 @@ use std::alloc::{AllocError, Global};
 pub(crate) struct Query<'a, S: CellSet> {
     pub(crate) player: Cell,
     pub(crate) boxes: &'a S,
+    pub(crate) all: bool,
+}
+
+// Which groups are asked: one, or if there is none, all or those that aren't stale.
+#[derive(Clone, Copy)]
+pub(crate) struct Asked {
+    pub(crate) one: Option<usize>,
     pub(crate) all: bool,
 }
 
@@ -53,10 +60,7 @@ impl Scratch {
 
     // Returns whether a group is stale.
     pub(crate) fn is_stale(&self, group: usize) -> bool {
-        match self.misses.get(group) {
-            Some(misses) => *misses > 16,
-            None => false,
-        }
+        matches!(self.misses.get(group), Some(misses) if *misses > 16)
     }
 
     // Counts a state that had the boxes of a group.
@@ -200,45 +204,11 @@ pub fn is_any_covering<S: CellSet>(
     is_covered(filled, &query, scratch)
 }
 
-// Returns true only if a group covers the result of the push. The state stays as it is.
-pub(crate) fn covers_result<S: CellSet>(
-    group: usize,
-    push: Push,
-    filled: &FilledTables<S>,
-    lookup: &mut Scratch,
-    state: &mut S,
-) -> bool
-    requires filled { AreFilled filled.now }
-    requires lookup { IsRoomy filled.now lookup.old }
-    requires extent { S.extent state.old ≡ filled.now.tables.board.now.shape }
-    requires push { IsPushOf filled.now.tables.board.now (S.members state.old) push }
-    ensures extent { S.extent state.new ≡ filled.now.tables.board.now.shape }
-    ensures same { S.members state.new ≡ S.members state.old }
-    ensures lookup { IsRoomy filled.now lookup.new }
-    ensures covered { IsTrue result → IsCovered filled.now.tables.board.now (list_of filled.now.tables.groups) (state_after (S.members state.old) push) }
-{
-    if group >= filled.tables.groups.spans.len() {
-        return false;
-    }
-    state.remove(push.from);
-    state.insert(push.to);
-    lookup.walked = false;
-    let query = Query {
-        player: push.from,
-        boxes: state,
-        all: true,
-    };
-    let covered = is_covering(filled, group, &query, lookup);
-    state.remove(push.to);
-    state.insert(push.from);
-    covered
-}
-
 // Returns true only if the list covers the result of the push, and exactly then if all groups are asked. The groups in the bucket of the
 // cell ahead come first. The state stays as it is.
 pub(crate) fn is_covered_after<S: CellSet>(
     push: Push,
-    all: bool,
+    asked: Asked,
     filled: &FilledTables<S>,
     lookup: &mut Scratch,
     state: &mut S,
@@ -251,7 +221,7 @@ pub(crate) fn is_covered_after<S: CellSet>(
     ensures same { S.members state.new ≡ S.members state.old }
     ensures lookup { IsRoomy filled.now lookup.new }
     ensures covered { IsTrue result → IsCovered filled.now.tables.board.now (list_of filled.now.tables.groups) (state_after (S.members state.old) push) }
-    ensures all { IsTrue all → IsCovered filled.now.tables.board.now (list_of filled.now.tables.groups) (state_after (S.members state.old) push) → IsTrue result }
+    ensures all { IsTrue asked.all → asked.one ≡ None → IsCovered filled.now.tables.board.now (list_of filled.now.tables.groups) (state_after (S.members state.old) push) → IsTrue result }
 {
     state.remove(push.from);
     state.insert(push.to);
@@ -259,10 +229,17 @@ pub(crate) fn is_covered_after<S: CellSet>(
     let query = Query {
         player: push.from,
         boxes: state,
-        all,
+        all: asked.all,
     };
-    let covered = is_covered_in_bucket(filled, push.to, &query, lookup)
-        || is_covered(filled, &query, lookup);
+    let covered = match asked.one {
+        Some(group) => {
+            group < filled.tables.groups.spans.len() && is_covering(filled, group, &query, lookup)
+        }
+        None => {
+            is_covered_in_bucket(filled, push.to, &query, lookup)
+                || is_covered(filled, &query, lookup)
+        }
+    };
     state.remove(push.to);
     state.insert(push.from);
     covered

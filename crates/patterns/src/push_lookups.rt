@@ -10,7 +10,7 @@ ghost use Rattle.patterns.specs.Tables.{AreFilled};
 
 use crate::cells::load;
 use crate::hints::{hash_of, hash_without};
-use crate::lookup::{Scratch, covers_result, is_covered_after};
+use crate::lookup::{Asked, Scratch, is_covered_after};
 use crate::piece::Piece;
 use crate::pushes::{PushedBox, is_hinted, push_of};
 use crate::tables::FilledTables;
@@ -97,7 +97,8 @@ impl<S: CellSet> PushScratch<S> {
             self.remember(push.from);
             return true;
         }
-        is_covered_after(push, all, filled, &mut self.lookup, &mut self.state)
+        let asked = Asked { one: None, all };
+        is_covered_after(push, asked, filled, &mut self.lookup, &mut self.state)
     }
 
     // Returns true only if the group that covered the last result of a push from the same cell covers the result of this one.
@@ -112,7 +113,11 @@ impl<S: CellSet> PushScratch<S> {
         let Some(group) = self.covering.get(index_of(push.from)) else {
             return false;
         };
-        covers_result(*group, push, filled, &mut self.lookup, &mut self.state)
+        let asked = Asked {
+            one: Some(*group),
+            all: true,
+        };
+        is_covered_after(push, asked, filled, &mut self.lookup, &mut self.state)
     }
 
     // Keeps the group that the piece found for a push from a cell.
@@ -171,10 +176,16 @@ fn is_found_each_way<S: CellSet>(
     ensures loaded { IsLoaded S.members filled.now (cells_in pushed.now.boxes.now) scratch.new }
     ensures covered { IsTrue result → CoversFrom filled.now.tables.board.now (list_of filled.now.tables.groups) (position_at filled.now.tables.board.now filled.now.tables.groups pushed.now.group) (pushed_cell pushed.now) }
 {
-    is_found_toward(filled, pushed, Dir::L, scratch)
-        && is_found_toward(filled, pushed, Dir::U, scratch)
-        && is_found_toward(filled, pushed, Dir::R, scratch)
-        && is_found_toward(filled, pushed, Dir::D, scratch)
+    if !is_found_toward(filled, pushed, Dir::L, scratch) {
+        return false;
+    }
+    if !is_found_toward(filled, pushed, Dir::U, scratch) {
+        return false;
+    }
+    if !is_found_toward(filled, pushed, Dir::R, scratch) {
+        return false;
+    }
+    is_found_toward(filled, pushed, Dir::D, scratch)
 }
 
 // Returns true only if the list covers the push of a box in a direction, or the push doesn't go out of its group.

@@ -75,10 +75,16 @@ fn is_hinted_each_way<S: CellSet>(tables: &Tables<S>, pushed: &PushedBox) -> boo
     requires off { AreOff tables.now.trap.members pushed.now.boxes.now }
     ensures { IsTrue result → CoversFrom tables.now.board.now (list_of tables.now.groups) (position_at tables.now.board.now tables.now.groups pushed.now.group) (pushed_cell pushed.now) }
 {
-    is_hinted_toward(tables, pushed, Dir::L)
-        && is_hinted_toward(tables, pushed, Dir::U)
-        && is_hinted_toward(tables, pushed, Dir::R)
-        && is_hinted_toward(tables, pushed, Dir::D)
+    if !is_hinted_toward(tables, pushed, Dir::L) {
+        return false;
+    }
+    if !is_hinted_toward(tables, pushed, Dir::U) {
+        return false;
+    }
+    if !is_hinted_toward(tables, pushed, Dir::R) {
+        return false;
+    }
+    is_hinted_toward(tables, pushed, Dir::D)
 }
 
 // Returns true only if the list covers the push of a box in a direction, or the push doesn't go out of its group.

@@ -23,11 +23,9 @@ impl Subsets {
         ensures { self.new.link ≤ self.old.link }
     {
         if all && !self.all {
-            *self = Subsets {
-                begun: 0,
-                link: 0,
-                all: true,
-            };
+            self.begun = 0;
+            self.link = 0;
+            self.all = true;
         }
     }
 

@@ -63,7 +63,11 @@ impl<'a, S: CellSet> Tables<'a, S> {
         // For the proof: the board is well formed.
         let _shape = board.shape();
         let groups = group(alloc, arena)?;
-        let regions = find_regions(alloc, board, &groups, &trap)?;
+        let Ok(regions) = find_regions(alloc, board, &groups, &trap) else {
+            drop(groups);
+            drop(trap);
+            return Err(AllocError);
+        };
         Ok(Tables {
             board,
             trapless: trap.is_empty(),
@@ -88,8 +92,7 @@ impl<'a, S: CellSet> Tables<'a, S> {
         })
     }
 
-    // Empties the trap, and returns what lookups need. It is a function of its own, so that `fill` drops the tables in one place only: each
-    // such place makes the proof some seconds longer.
+    // Empties the trap, and returns what lookups need. Here nothing drops the tables, so the proof is shorter than in `fill`.
     fn make_lookups(&mut self, alloc: Global) -> Result<(Tree, Buckets), AllocError>
         requires { AreTables self.old }
         ensures same { OnOk result (self.new.groups ≡ self.old.groups) }

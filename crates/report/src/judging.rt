@@ -94,11 +94,28 @@ fn judge_certificate<S: CellSet>(
     let mut left = lines;
     let mut list = PatternList::new(alloc, board);
     loop {
-        match left.next(alloc)? {
-            CertificateLine::Pattern(pattern) => list.add(alloc, &pattern)?,
+        let Ok(next) = left.next(alloc) else {
+            drop(list);
+            return Err(AllocError);
+        };
+        match next {
+            CertificateLine::Pattern(pattern) => {
+                let added = list.add(alloc, &pattern);
+                drop(pattern);
+                let Ok(()) = added else {
+                    drop(list);
+                    return Err(AllocError);
+                };
+            }
             CertificateLine::End => return judge_patterns(alloc, list),
-            CertificateLine::Zone(zone) => return judge_zone(alloc, board, &zone),
+            CertificateLine::Zone(zone) => {
+                drop(list);
+                let status = judge_zone(alloc, board, &zone);
+                drop(zone);
+                return status;
+            }
             CertificateLine::BadLine { line, why } => {
+                drop(list);
                 return Ok(Status::Refused(Refusal::BadLine { line, why }));
             }
         }

@@ -1,5 +1,5 @@
 -- A player outside the room is in no region, so no pattern covers the state (`player_in_room` in `Lookups.antt`).
-use Rattle.std.proofs.{Common.sym, lemmas.Bool.false≢true}
+use Rattle.std.proofs.{Common.refl, Common.sym, lemmas.Bool.false≢true}
 use Rattle.cellset.proofs.Members.{not_both}
 use Rattle.patterns.proofs.{Lookups.player_in_room}
 use Rattle.patterns.proofs.lookup.is_any_covering.Goals as goal
@@ -11,3 +11,6 @@ returns-then-not-contains-clause-exact g c = (
       let inside = player_in_room c.args.filled.now.tables c.requires.filled.are _ c.shape-shape.ensures.formed covered in
       absurd (not_both (g.S.CellSet.members c.room.result.now) c.args.player (rw c.room.ensures.members inside) (sym c.if-not-contains.ensures)),
 )
+
+pub returns-clause-exact : goal.returns-clause-exact
+returns-clause-exact g c = (c.is_covered.ensures.covered, c.is_covered.ensures.all refl)

@@ -5,11 +5,11 @@ use Rattle.closure.specs.PatternList.{IsListOf}
 use Rattle.report.proofs.judging.judge_certificate.Given as goal
 
 -- these lines were read and added
-abbrev pub invariant-loop-list : goal.invariant-loop-list
-invariant-loop-list g l = record {
+abbrev pub invariant-loop-next : goal.invariant-loop-next
+invariant-loop-next g l = record {
   level : l.list.board.now ≡ l.board;
   read : (lines : List PatternLine) × (length lines ≡ l.left.patterns) × (certificate_body [] l.lines ≡ certificate_body lines l.left) × IsListOf lines l.list;
 }
 
-abbrev pub decreases-loop-list : goal.decreases-loop-list
-decreases-loop-list g l = length (lines_left l.left)
+abbrev pub decreases-loop-next : goal.decreases-loop-next
+decreases-loop-next g l = length (lines_left l.left)

@@ -1,5 +1,5 @@
 -- Each lookup leaves the boxes of the state as they are.
-use Rattle.std.proofs.Common.{◌∙◌}
+use Rattle.std.proofs.Common.{refl, ◌∙◌}
 use Rattle.patterns.proofs.push_lookups.PushScratch.finds.Goals as goal
 
 pub returns-then-is_loose-clause-covered : goal.returns-then-is_loose-clause-covered
@@ -17,4 +17,4 @@ pub returns-clause-covered : goal.returns-clause-covered
 returns-clause-covered g c = rw (c.is_remembered.ensures.state ∙ c.requires.loaded.state) at c.is_covered_after.ensures.covered
 
 pub returns-clause-all : goal.returns-clause-all
-returns-clause-all g c = rw (c.is_remembered.ensures.state ∙ c.requires.loaded.state) at c.is_covered_after.ensures.all
+returns-clause-all g c = λ all. rw (c.is_remembered.ensures.state ∙ c.requires.loaded.state) at (c.is_covered_after.ensures.all all refl)

@@ -15,5 +15,5 @@ returns-clause-tables g c = record {
   trap = rw c.in_ok-groups.ensures.same c.requires.trap;
   trapless = λ h. if_true c.is_empty.result _ _ h c.is_empty.ensures;
   grouped = c.in_ok-groups.ensures.groups;
-  regions = c.in_ok-regions.ensures;
+  regions = c.in-Ok.ensures;
 }
