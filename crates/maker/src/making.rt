@@ -53,11 +53,11 @@ pub fn make<S: CellSet>(alloc: Global, board: &Board<S>) -> Result<Option<Made>,
     ensures lawful { IfOk result (λ made. IfSome made (λ m. IsLawfulBody (body_of m))) }
 {
     match find(alloc, board)? {
-        Some(Found::Dead(cells)) => Ok(Some(Made::Patterns(lone_patterns(
-            alloc,
-            &cells,
-            cells.len(),
-        )?))),
+        Some(Found::Dead(cells)) => {
+            let patterns = lone_patterns(alloc, &cells, cells.len());
+            drop(cells);
+            Ok(Some(Made::Patterns(patterns?)))
+        }
         Some(Found::Other(made)) => Ok(Some(made)),
         None => Ok(None),
     }
