@@ -6,7 +6,12 @@ use answers::{Blown, Device, Fuse};
 use std::alloc::Global;
 
 // The largest numbers of bytes in one call.
-const MOST: [usize; 6] = [1, 2, 7, 163, 164, 1000];
+const MOST: &[usize] = &[1, 2, 7, 163, 164, 1000];
+
+// The devices that fail, and how.
+const FAILING: &[&str] = &["levels", "answers", "sink"];
+
+const BLOWN: &[Blown] = &[Blown::Error, Blown::Nothing, Blown::Once];
 
 // More calls than any device gets.
 const MANY: u64 = 100_000;
@@ -29,14 +34,14 @@ pub fn call(
     levels: &[u8],
     answers: &[u8],
 ) -> Option<()> {
-    for failing in ["levels", "answers", "sink"] {
-        for blown in [Blown::Error, Blown::Nothing, Blown::Once] {
+    for failing in FAILING {
+        for blown in BLOWN {
             for most in MOST {
                 let texts = Fused {
                     levels,
                     answers,
-                    most,
-                    blown,
+                    most: *most,
+                    blown: *blown,
                 };
                 until_it_succeeds(rt, alloc, name, texts, failing)?;
             }

@@ -88,7 +88,7 @@ fn on_board<S: CellSet>(
         "replay" => solutions::replay(rt, alloc, board, answers)?,
         "replay_lines" => solutions::replay_lines(rt, alloc, board, answers)?,
         "replayer" => solutions::replayer(rt, alloc, board, answers)?,
-        _ => judge(rt, alloc, name, board, &answers_of(alloc, answers)?)?,
+        _ => judge(rt, alloc, name, board, answers)?,
     }
     Some(())
 }
@@ -109,7 +109,10 @@ fn read_board<S: CellSet>(rt: &impl Print, alloc: Global, text: &[u8]) -> Option
     let found = board::levels(alloc, text).ok()?;
     let level = found.first()?;
     match board::read_board::<S>(alloc, level) {
-        Ok(board) => shown::board(rt, &board),
+        Ok(board) => {
+            shown::board(rt, &board);
+            drop(board);
+        }
         Err(fault) => shown::value(rt, &fault),
     }
     shown::text(rt, text);
@@ -265,9 +268,10 @@ fn judge<S: CellSet>(
     alloc: Global,
     name: &str,
     board: &Board<S>,
-    answers: &Answers<'_>,
+    answers: &[u8],
 ) -> Option<()> {
-    match &answers.records.first()?.1 {
+    let read = answers_of(alloc, answers)?;
+    match &read.records.first()?.1 {
         Record::Patterns(patterns) => judge_patterns(rt, alloc, name, board, patterns),
         Record::Zone(zone) => judge_zone(rt, alloc, name, board, zone),
         Record::Solution(_) => None,

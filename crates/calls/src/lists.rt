@@ -36,7 +36,10 @@ pub fn scan<S: CellSet>(
         return None;
     }
     match Scan::build(alloc, board, patterns) {
-        Ok(mut scan) => look_up(rt, board, &mut scan, &mut boxes),
+        Ok(mut scan) => {
+            look_up(rt, board, &mut scan, &mut boxes);
+            drop(scan);
+        }
         Err(fault) => shown::value(rt, &fault),
     }
     Some(())

@@ -58,12 +58,23 @@ pub fn through<L: Source, A: Source, S: Sink>(
             Some(shown::result(rt, &outcome))
         }
         "make_answers" => Some(shown::result(rt, &make_answers(alloc, levels, sink))),
-        "dead_map" => Some(shown::result(rt, &dead_map(alloc, levels, 1, sink))),
+        "dead_map" => map(rt, alloc, levels, 1, sink),
         // Numbers that the program's words can't name.
-        "dead_map 0" => Some(shown::result(rt, &dead_map(alloc, levels, 0, sink))),
-        "dead_map most" => Some(shown::result(rt, &dead_map(alloc, levels, usize::MAX, sink))),
+        "dead_map 0" => map(rt, alloc, levels, 0, sink),
+        "dead_map most" => map(rt, alloc, levels, usize::MAX, sink),
         _ => None,
     }
+}
+
+// Makes the map of a level, prints the result, and returns whether that succeeds.
+fn map<L: Source, S: Sink>(
+    rt: &impl Print,
+    alloc: Global,
+    levels: &mut L,
+    number: usize,
+    sink: &mut S,
+) -> Option<bool> {
+    Some(shown::result(rt, &dead_map(alloc, levels, number, sink)))
 }
 
 // Prints the report of two texts, which is made without a sink.
