@@ -8,6 +8,9 @@ use std::test::Fail;
 
 const TEXT: &[u8] = b"level 1\n";
 
+/// How a device fails.
+pub const BLOWN: &[Blown] = &[Blown::Error, Blown::Nothing, Blown::Once];
+
 // Returns a sink that takes `calls` writes of one byte each.
 fn one_by_one(
     alloc: Global,
@@ -74,17 +77,17 @@ fn memory_takes_all(rt: &impl Abort, alloc: Global) -> Result<(), Fail> {
 #[test]
 fn a_good_writer_takes_all_bytes(rt: HostRuntime) -> Result<(), Fail> {
     memory_takes_all(&rt, rt.alloc())?;
-    for blown in [Blown::Error, Blown::Nothing, Blown::Once] {
-        holds_what_it_took(&rt, rt.alloc(), TEXT.len(), blown)?;
+    for blown in BLOWN {
+        holds_what_it_took(&rt, rt.alloc(), TEXT.len(), *blown)?;
     }
     Ok(())
 }
 
 #[test]
 fn a_cut_text_stands_up_to_the_cut(rt: HostRuntime) -> Result<(), Fail> {
-    for blown in [Blown::Error, Blown::Nothing, Blown::Once] {
+    for blown in BLOWN {
         for taken in 0..TEXT.len() {
-            holds_what_it_took(&rt, rt.alloc(), taken, blown)?;
+            holds_what_it_took(&rt, rt.alloc(), taken, *blown)?;
         }
     }
     Ok(())

@@ -180,18 +180,21 @@ fn rows<S: CellSet>(rt: &impl Abort, alloc: Global, shape: Shape) -> Result<(), 
     Ok(())
 }
 
-// Checks shapes of 1, 1, 2, 4, 9, 256 and 1,017 words of bits.
+// Shapes of 1, 1, 2, 4, 9, 256 and 1,017 words of bits.
+const SHAPES: &[(usize, usize)] = &[
+    (1, 1),
+    (8, 8),
+    (13, 5),
+    (16, 16),
+    (103, 5),
+    (128, 128),
+    (255, 255),
+];
+
+// Checks sets on each shape.
 fn on_each_shape<S: CellSet>(rt: &impl Abort, alloc: Global) -> Result<(), Fail> {
-    for (width, height) in [
-        (1, 1),
-        (8, 8),
-        (13, 5),
-        (16, 16),
-        (103, 5),
-        (128, 128),
-        (255, 255),
-    ] {
-        let shape = Shape::new(width, height).ok_or("a shape")?;
+    for (width, height) in SHAPES {
+        let shape = Shape::new(*width, *height).ok_or("a shape")?;
         wholes::<S>(rt, alloc, shape)?;
         ends::<S>(rt, alloc, shape, 0)?;
         ends::<S>(rt, alloc, shape, 3)?;

@@ -1,6 +1,7 @@
 //! Tests of writes that are cut short.
 ghost use Rattle.std.specs.Prelude.{◌≤◌};
 
+use crate::device_calls::BLOWN;
 use answers::{Blown, Device, Fuse, MadeBody, MadeRecord, Sink, WriteFault, write};
 use std::alloc::{AllocError, Global};
 use std::process::Abort;
@@ -55,9 +56,9 @@ fn holds_what_it_took(
 #[test]
 fn a_cut_text_stands_up_to_the_cut(rt: HostRuntime) -> Result<(), Fail> {
     let made = records(rt.alloc())?;
-    for blown in [Blown::Error, Blown::Nothing, Blown::Once] {
+    for blown in BLOWN {
         for taken in 0..=TEXT.len() {
-            holds_what_it_took(&rt, rt.alloc(), &made, taken, blown)?;
+            holds_what_it_took(&rt, rt.alloc(), &made, taken, *blown)?;
         }
     }
     Ok(())
