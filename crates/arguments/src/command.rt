@@ -34,13 +34,22 @@ pub fn parse<'a>(alloc: Global, words: &'a [&'a str]) -> Result<Command<'a>, Err
         → MatchResult result (λ command. request_of command ≡ request) (λ error. kind_of error ≡ ErrorKind.OutOfMemory) }
 {
     let mut program = program_command(alloc)?;
-    let matches = program.try_get_matches_from_mut(words)?;
+    let matches = match program.try_get_matches_from_mut(words) {
+        Ok(matches) => matches,
+        Err(error) => {
+            drop(program);
+            return Err(error);
+        }
+    };
     let command = asked(&matches);
     drop(matches);
-    match command {
-        Some(command) => Ok(command),
-        None => Err(no_request(&mut program)),
-    }
+    let Some(command) = command else {
+        let error = no_request(&mut program);
+        drop(program);
+        return Err(error);
+    };
+    drop(program);
+    Ok(command)
 }
 
 /// Returns the error of words that ask for no command.

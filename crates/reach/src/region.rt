@@ -32,7 +32,9 @@ pub fn flood<S: CellSet>(
         (S.members walls.now) (S.members barrier.now) (S.members seeds.now) (S.members s)) }
 {
     let mut region = S::new(alloc, shape)?;
-    Flooder::new(alloc, shape)?.flood_into(walls, barrier, seeds, &mut region);
+    let mut flooder = Flooder::new(alloc, shape)?;
+    flooder.flood_into(walls, barrier, seeds, &mut region);
+    drop(flooder);
     Ok(region)
 }
 

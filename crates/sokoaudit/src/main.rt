@@ -12,7 +12,7 @@ mod laws;
 mod program;
 mod words;
 
-use devices::Device;
+use devices::{Device, Sink};
 use files::Files;
 use program::{refuse, run};
 use std::io::BufWriter;
@@ -23,32 +23,23 @@ use std::{env, io};
 const BUFFER: usize = 65_536;
 
 fn main(rt: HostRuntime) -> ExitCode {
-    let alloc = rt.alloc();
     let mut faults = Device::new(rt.stderr());
-    let mut output = match BufWriter::with_capacity(alloc, BUFFER, rt.stdout()) {
-        Ok(output) => Device::new(output),
-        Err(error) => return ExitCode::from(refuse(&error, &mut faults)),
+    let status = match run_on(&rt, &mut faults) {
+        Ok(status) => status,
+        Err(error) => refuse(&error, &mut faults),
     };
-    let args = match args_of(&rt) {
-        Ok(args) => args,
-        Err(error) => return ExitCode::from(refuse(&error, &mut faults)),
-    };
-    let words = match args
-        .iter()
-        .map(|word| word.as_str())
-        .collect::<Vec<&str>>(alloc)
-    {
-        Ok(words) => words,
-        Err(error) => return ExitCode::from(refuse(&io::Error::from(error), &mut faults)),
-    };
-    let mut files = Files::new(&rt, rt.stdin());
-    let status = run(alloc, &words, &mut files, &mut output, &mut faults);
-    // Drops what a failed write left in the buffer, so that it isn't written after all.
-    let (_output, _left) = output.into_inner().into_parts();
     ExitCode::from(status)
 }
 
-fn args_of(rt: &HostRuntime) -> io::Result<Vec<String>> {
-    let words = env::args(rt)?.collect(rt.alloc())?;
-    Ok(words)
+// Runs the program on the words and the streams that the system hands over.
+fn run_on<E: Sink>(rt: &HostRuntime, faults: &mut E) -> io::Result<u8> {
+    let alloc = rt.alloc();
+    let args: Vec<String> = env::args(rt)?.collect(alloc)?;
+    let words: Vec<&str> = args.iter().map(|word| word.as_str()).collect(alloc)?;
+    let mut output = Device::new(BufWriter::with_capacity(alloc, BUFFER, rt.stdout())?);
+    let mut files = Files::new(rt, rt.stdin());
+    let status = run(alloc, &words, &mut files, &mut output, faults);
+    // Drops what a failed write left in the buffer, so that it isn't written after all.
+    let (_output, _left) = output.into_inner().into_parts();
+    Ok(status)
 }

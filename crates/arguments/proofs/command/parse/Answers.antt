@@ -16,61 +16,56 @@ returns-in_err-program c =
     let p = err_from_is_err_and c.from_residual.result c.from_residual.ensures.1 in
     rw p.1 (record { found = tt; only = λ _ _. p.2; kinds = inl (inl p.2); spelled = λ _ _. p.2 })
 
-pub returns-in_err-matches-clause-only : goal.returns-in_err-matches-clause-only
-returns-in_err-matches-clause-only c request h =
-    let kinds = c.in_err-matches.ensures.kinds (ap is_simple_and_free c.in_ok-program.ensures ∙ free) in
-    let memory = only_memory _ c.in_err-matches.field-0.0 kinds (ap (λ app. fault_of app (texts c.args.words.now)) c.in_ok-program.ensures ∙ h.0) in
-    let p = err_from_is_err_and c.from_residual-in_err-matches.result c.from_residual-in_err-matches.ensures.1 in
-    rw (p.1, p.2) memory
+pub returns-in-Err-clause-only : goal.returns-in-Err-clause-only
+returns-in-Err-clause-only c request h =
+    let kinds = c.in-Err.ensures.kinds (ap is_simple_and_free c.in_ok-program.ensures ∙ free) in
+    only_memory _ c.in-Err.error kinds (ap (λ app. fault_of app (texts c.args.words.now)) c.in_ok-program.ensures ∙ h.0)
 
-pub returns-in_err-matches-clause-spelled : goal.returns-in_err-matches-clause-spelled
-returns-in_err-matches-clause-spelled c request h =
-    let kinds = c.in_err-matches.ensures.kinds (ap is_simple_and_free c.in_ok-program.ensures ∙ free) in
+pub returns-in-Err-clause-spelled : goal.returns-in-Err-clause-spelled
+returns-in-Err-clause-spelled c request h =
+    let kinds = c.in-Err.ensures.kinds (ap is_simple_and_free c.in_ok-program.ensures ∙ free) in
     let same = spelled {words = (texts c.args.words.now)} request h in
-    let memory = only_memory _ c.in_err-matches.field-0.0 kinds (ap (λ app. fault_of app (texts c.args.words.now)) c.in_ok-program.ensures ∙ same.faultless) in
-    let p = err_from_is_err_and c.from_residual-in_err-matches.result c.from_residual-in_err-matches.ensures.1 in
-    rw (p.1, p.2) memory
+    only_memory _ c.in-Err.error kinds (ap (λ app. fault_of app (texts c.args.words.now)) c.in_ok-program.ensures ∙ same.faultless)
 
-pub returns-in_err-matches-clause-kinds : goal.returns-in_err-matches-clause-kinds
-returns-in_err-matches-clause-kinds c =
-    let kinds = c.in_err-matches.ensures.kinds (ap is_simple_and_free c.in_ok-program.ensures ∙ free) in
-    let p = err_from_is_err_and c.from_residual-in_err-matches.result c.from_residual-in_err-matches.ensures.1 in
-    rw (p.1, p.2) (inl (rw (ap (λ app. fault_of app (texts c.args.words.now)) c.in_ok-program.ensures) at kinds))
+pub returns-in-Err-clause-kinds : goal.returns-in-Err-clause-kinds
+returns-in-Err-clause-kinds c =
+    let kinds = c.in-Err.ensures.kinds (ap is_simple_and_free c.in_ok-program.ensures ∙ free) in
+    inl (rw (ap (λ app. fault_of app (texts c.args.words.now)) c.in_ok-program.ensures) at kinds)
 
-pub returns-in-Some-clause-found : goal.returns-in-Some-clause-found
-returns-in-Some-clause-found c =
-    let rows = rows_found _ (texts c.args.words.now) _ c.in_ok-program.ensures c.in_ok-matches.ensures.ok.2 in (
+pub returns-clause-found : goal.returns-clause-found
+returns-clause-found c =
+    let rows = rows_found _ (texts c.args.words.now) _ c.in_ok-program.ensures c.in-Ok.ensures.ok.2 in (
       sym (ap (λ app. fault_of app (texts c.args.words.now)) c.in_ok-program.ensures)
-          ∙ c.in_ok-matches.ensures.kinds (ap is_simple_and_free c.in_ok-program.ensures ∙ free),
+          ∙ c.in-Ok.ensures.kinds (ap is_simple_and_free c.in_ok-program.ensures ∙ free),
       found_in (texts c.args.words.now) (request_of c.in-Some.command) _ rows c.in-Some.ensures.some,
     )
 
-pub returns-in-Some-clause-only : goal.returns-in-Some-clause-only
-returns-in-Some-clause-only c request h =
-    let rows = rows_found _ (texts c.args.words.now) _ c.in_ok-program.ensures c.in_ok-matches.ensures.ok.2 in
+pub returns-clause-only : goal.returns-clause-only
+returns-clause-only c request h =
+    let rows = rows_found _ (texts c.args.words.now) _ c.in_ok-program.ensures c.in-Ok.ensures.ok.2 in
     found_once (texts c.args.words.now) (request_of c.in-Some.command) request
     (found_in (texts c.args.words.now) (request_of c.in-Some.command) _ rows c.in-Some.ensures.some) h.1
 
-pub returns-in-Some-clause-spelled : goal.returns-in-Some-clause-spelled
-returns-in-Some-clause-spelled c request h =
-    let rows = rows_found _ (texts c.args.words.now) _ c.in_ok-program.ensures c.in_ok-matches.ensures.ok.2 in
+pub returns-clause-spelled : goal.returns-clause-spelled
+returns-clause-spelled c request h =
+    let rows = rows_found _ (texts c.args.words.now) _ c.in_ok-program.ensures c.in-Ok.ensures.ok.2 in
     found_once (texts c.args.words.now) (request_of c.in-Some.command) request
     (found_in (texts c.args.words.now) (request_of c.in-Some.command) _ rows c.in-Some.ensures.some) (spelled request h).found
 
-pub returns-clause-only : goal.returns-clause-only
-returns-clause-only c request (_, found) =
-    let rows = rows_found _ (texts c.args.words.now) _ c.in_ok-program.ensures c.in_ok-matches.ensures.ok.2 in
-    let met : option_map given_of (subcommand_rows_of c.in_ok-matches.matches) ≡ Some found.0 = ap (option_map given_of) rows ∙ found.1 in
-    let asked = c.in-None.ensures.none found.0 request met found.2 in
+pub returns-in_default-clause-only : goal.returns-in_default-clause-only
+returns-in_default-clause-only c request (_, found) =
+    let rows = rows_found _ (texts c.args.words.now) _ c.in_ok-program.ensures c.in-Ok.ensures.ok.2 in
+    let met : option_map given_of (subcommand_rows_of c.in-Ok.matches) ≡ Some found.0 = ap (option_map given_of) rows ∙ found.1 in
+    let asked = c.in_default.ensures.none found.0 request met found.2 in
     absurd (false≢true asked)
 
-pub returns-clause-spelled : goal.returns-clause-spelled
-returns-clause-spelled c request h =
+pub returns-in_default-clause-spelled : goal.returns-in_default-clause-spelled
+returns-in_default-clause-spelled c request h =
     let same = spelled request h in
-    let rows = rows_found _ (texts c.args.words.now) _ c.in_ok-program.ensures c.in_ok-matches.ensures.ok.2 in
-    let met : option_map given_of (subcommand_rows_of c.in_ok-matches.matches) ≡ Some same.found.0 = ap (option_map given_of) rows ∙ same.found.1 in
-    let asked = c.in-None.ensures.none same.found.0 request met same.found.2 in
+    let rows = rows_found _ (texts c.args.words.now) _ c.in_ok-program.ensures c.in-Ok.ensures.ok.2 in
+    let met : option_map given_of (subcommand_rows_of c.in-Ok.matches) ≡ Some same.found.0 = ap (option_map given_of) rows ∙ same.found.1 in
+    let asked = c.in_default.ensures.none same.found.0 request met same.found.2 in
     absurd (false≢true asked)
 
-pub returns-clause-kinds : goal.returns-clause-kinds
-returns-clause-kinds c = ⊎_elim (λ missing. inr missing) (λ memory. inl (inl memory)) c.no_request.ensures
+pub returns-in_default-clause-kinds : goal.returns-in_default-clause-kinds
+returns-in_default-clause-kinds c = ⊎_elim (λ missing. inr missing) (λ memory. inl (inl memory)) c.no_request-error.ensures

@@ -1,8 +1,11 @@
 use Rattle.std.proofs.Common.{◌∙◌, arith}
 use Rattle.std.proofs.Math.ListN.{length-set}
 use Rattle.cellset.specs.Cell.{cell_at}
-use Rattle.reach.proofs.Loads.{done_more}
+use Rattle.reach.proofs.Loads.{done_more, done_all}
 use Rattle.reach.proofs.rows.complement.Goals as goal
+
+pub loop-y-init : goal.loop-y-init
+loop-y-init g c = grind arith
 
 pub loop-y-preserved : goal.loop-y-preserved
 loop-y-preserved g c =
@@ -16,3 +19,6 @@ loop-y-preserved g c =
             (λ (_, _, on, none). (c.without.ensures k).1 (on, λ here. none (old.0 here))),
           ));
     }
+
+pub returns-clause-cells : goal.returns-clause-cells
+returns-clause-cells g c = grind (arith, done_all)
