@@ -83,9 +83,10 @@ fn wait_around<S: CellSet>(frozen: &S, work: &mut Vec<Cell>, cell: Cell)
     ensures more { length work.new.items ≤ length work.old.items + 4 }
     ensures capacity { vec_capacity work.new ≡ vec_capacity work.old }
 {
-    for dir in [Dir::L, Dir::U, Dir::R, Dir::D] {
-        wait_toward(frozen, work, cell, dir);
-    }
+    wait_toward(frozen, work, cell, Dir::L);
+    wait_toward(frozen, work, cell, Dir::U);
+    wait_toward(frozen, work, cell, Dir::R);
+    wait_toward(frozen, work, cell, Dir::D);
 }
 
 // Removes a box from the set if it isn't held, and then queues its neighbours.

@@ -49,15 +49,29 @@ pub fn least_zone<S: CellSet>(
     ensures extent { IfOk result (λ zone. IfSome zone (λ z. S.extent z ≡ board.now.shape)) }
     ensures exact { IfOk result (λ zone. MatchOption zone (SomeZoneRefutes board.now → ⊥) (λ z. IsLeastZone board.now (S.members z))) }
 {
+    let mut relay = Relay::new(alloc, board, scratch)?;
+    let zone = search_zone(alloc, board, &mut relay);
+    drop(relay);
+    zone
+}
+
+// Does the work of `least_zone` with a relay that has no sources.
+fn search_zone<S: CellSet>(
+    alloc: Global,
+    board: &Board<S>,
+    relay: &mut Relay<'_>,
+) -> Result<Option<S>, AllocError>
+    requires { IsRelay board.now relay.old }
+    ensures extent { IfOk result (λ zone. IfSome zone (λ z. S.extent z ≡ board.now.shape)) }
+    ensures exact { IfOk result (λ zone. MatchOption zone (SomeZoneRefutes board.now → ⊥) (λ z. IsLeastZone board.now (S.members z))) }
+{
     let shape = board.shape();
     let cells = shape.width() as usize * shape.height() as usize;
     let mut matching = vec![in alloc; None; cells]?;
     let queue = Vec::with_capacity(alloc, cells)?;
     let visited = S::new(alloc, shape)?;
     let mut search = Search { visited, queue };
-    let mut relay = Relay::new(alloc, board, scratch)?;
-    let are_matched = match_all(board, &mut matching, &mut relay, &mut search);
-    drop(relay);
+    let are_matched = match_all(board, &mut matching, relay, &mut search);
     drop(matching);
     if are_matched {
         return Ok(None);

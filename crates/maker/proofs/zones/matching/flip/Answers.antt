@@ -50,3 +50,6 @@ returns-clause-valid g c =
     c.index_of-2.ensures.value ∙ ap (λ (x : Extent). index x c.loop-freed.freed.cell) c.shape-shape.ensures.value in
     rw to (flipping_end level c.args.matching.now c.args.start visited c.args.queue.now c.loop-freed.matching c.loop-freed.freed found.search inv.entries
     inv.flipping c.in_default.is)
+
+pub returns-clause-entries : goal.returns-clause-entries
+returns-clause-entries g c = length-set c.loop-freed.matching c.index_of-2.result _ ∙ c.loop-freed.invariant.entries

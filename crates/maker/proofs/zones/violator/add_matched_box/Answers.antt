@@ -5,11 +5,15 @@ use Rattle.std.proofs.Common.{sym, ◌∙◌, ap, arith}
 use Rattle.std.proofs.lemmas.Bool.{not-true, not-false}
 use Rattle.cellset.specs.Shape.{Extent}
 use Rattle.cellset.specs.SortedList.{index}
-use Rattle.cellset.proofs.Members.{kept_by_insert, insert_again}
+use Rattle.cellset.proofs.Members.{not_both, kept_by_insert, insert_again}
 use Rattle.patterns.proofs.Counts.{len-insert_new, len-within}
 use Rattle.maker.proofs.Searches.{pairs_read}
+use Rattle.maker.proofs.Flipping.{one_match}
 use Rattle.maker.proofs.Violators.{searched_matched}
 use Rattle.maker.proofs.zones.violator.add_matched_box.Goals as goal
+
+pub insert-requires : goal.insert-requires
+insert-requires g c = grind (arith, pairs_read)
 
 pub returns-clause-searched : goal.returns-clause-searched
 returns-clause-searched g c = λ start searched.
@@ -28,3 +32,9 @@ returns-clause-more g c = grind (arith, len-insert_new, not-true)
 
 pub returns-clause-same : goal.returns-clause-same
 returns-clause-same g c = grind (arith, insert_again, not-false)
+
+pub returns-clause-matched_box : goal.returns-clause-matched_box
+returns-clause-matched_box g c = grind (arith, pairs_read, one_match, not-false)
+
+pub returns-then-not-contains-clause-matched_box : goal.returns-then-not-contains-clause-matched_box
+returns-then-not-contains-clause-matched_box g c = grind (arith, not_both)
