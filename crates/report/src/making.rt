@@ -138,10 +138,16 @@ fn draft_levels(alloc: Global, levels: &[LevelText<'_>]) -> Result<Vec<Draft>, A
     let mut drafts = Vec::with_capacity(alloc, levels.len())?;
     let mut last = None;
     for (before, level) in levels.iter().enumerate() {
-        if let Some(draft) = draft_for(alloc, level, before + 1, &mut last)? {
+        let Ok(draft) = draft_for(alloc, level, before + 1, &mut last) else {
+            drop(last);
+            drop(drafts);
+            return Err(AllocError);
+        };
+        if let Some(draft) = draft {
             drafts.push_reserved(draft);
         }
     }
+    drop(last);
     Ok(drafts)
 }
 
@@ -169,7 +175,9 @@ fn draft_for(
                 level: number,
                 body: MadeBody::Patterns(patterns),
             };
-            Ok(Some(Draft::Text(text_of(alloc, &one)?)))
+            let text = text_of(alloc, &one);
+            drop(one);
+            Ok(Some(Draft::Text(text?)))
         }
         None => Ok(None),
     }
@@ -206,6 +214,6 @@ fn found_for<S: CellSet>(
         }
     };
     let found = find(alloc, &board);
-    *last = Some(board);
+    drop(last.replace(board));
     found
 }

@@ -67,7 +67,9 @@ fn map_text<S: CellSet>(alloc: Global, levels: &[u8], n: usize) -> Result<Vec<u8
     let Some(level) = level_at(&levels, n) else {
         return Err(DeadError::NoLevel);
     };
-    let board = match read_board::<S>(alloc, level) {
+    let board = read_board::<S>(alloc, level);
+    drop(levels);
+    let board = match board {
         Ok(board) => board,
         Err(fault) => return Err(board_error(fault)),
     };

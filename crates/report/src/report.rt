@@ -60,10 +60,14 @@ pub fn judge_levels(
     let mut next = 0;
     for (before, level) in levels.iter().enumerate() {
         let answer = answer_to(answers, &mut next, before);
-        let status = judge(alloc, level, answer, &mut scratch)?;
-        statuses.push(status)?;
+        let Ok(status) = judge(alloc, level, answer, &mut scratch) else {
+            drop(scratch);
+            return Err(AllocError);
+        };
+        statuses.push_reserved(status);
         summary.add(status);
     }
+    drop(scratch);
     Ok((statuses, summary))
 }
 

@@ -84,7 +84,10 @@ fn statuses_in(
         Ok(records) => records,
         Err(fault) => return Err(answers_error(fault)),
     };
-    match judge_levels(alloc, &levels, &records) {
+    let told = judge_levels(alloc, &levels, &records);
+    drop(records);
+    drop(levels);
+    match told {
         Ok(told) => Ok(told),
         Err(_) => Err(AuditError::Memory),
     }

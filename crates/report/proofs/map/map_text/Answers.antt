@@ -8,7 +8,7 @@ returns-in-Ok-text-clause-ok g c = record {
   collection = record { short = c.requires; levels_are = c.in-Ok.ensures.ok; few = c.in-Ok.ensures.few };
   rows = c.in-Some.level.now;
   level_is = ap (λ levels. level_at levels c.args.n) (sym c.deref.ensures.value) ∙ sym c.in-Some.ensures;
-  level = c.in-Ok-read_board.board;
-  legal = c.in-Ok-read_board.ensures.ok;
+  level = c.in-Ok-board.board;
+  legal = c.in-Ok-board.ensures.ok;
   map = c.in-Ok-text.ensures;
 }

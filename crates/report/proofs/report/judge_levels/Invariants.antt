@@ -1,5 +1,5 @@
 -- The statuses so far, put before any statuses of the other levels, are the statuses of all levels.
-use Rattle.std.proofs.Common.{◌≡◌, ℕ, ◌+◌, ◌<◌, List, ◌++◌, drop, map}
+use Rattle.std.proofs.Common.{◌≡◌, ℕ, ◌+◌, ◌<◌, List, ◌++◌, drop, length, map, vec_capacity}
 use Rattle.answers.specs.Reading.{entry_of}
 use Rattle.report.specs.Judging.{RiseFrom}
 use Rattle.report.specs.Answer.{answer_to}
@@ -15,6 +15,7 @@ invariant-loop-before l =
     let entries = map entry_of l.answers in
     record {
       adds_up : AddsUp l.summary;
+      room : vec_capacity l.statuses ≡ length l.levels;
       count : l.summary.levels ≡ l.before;
       rise : RiseFrom l.before (drop l.next entries);
       later : (n : ℕ) → l.before < n → answer_to n (drop l.next entries) ≡ answer_to n entries;

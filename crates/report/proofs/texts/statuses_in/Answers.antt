@@ -2,10 +2,10 @@ use Rattle.std.proofs.Common.{arith}
 use Rattle.report.proofs.Splits.{spells_records}
 use Rattle.report.proofs.texts.statuses_in.Goals as goal
 
-pub judge_levels-requires-clause-rise : goal.judge_levels-requires-clause-rise
-judge_levels-requires-clause-rise c =
+pub judge_levels-told-requires-clause-rise : goal.judge_levels-told-requires-clause-rise
+judge_levels-told-requires-clause-rise c =
     let spelled = spells_records c.args.answers.now _ c.in-Ok.records.items c.deref-2.result.now c.deref-2.ensures.value c.in-Ok.ensures.found in
     (_, spelled.rise)
 
-pub returns-in-Ok-judge_levels-clause-ok : goal.returns-in-Ok-judge_levels-clause-ok
-returns-in-Ok-judge_levels-clause-ok c = grind (arith, spells_records)
+pub returns-in-Ok-told-clause-ok : goal.returns-in-Ok-told-clause-ok
+returns-in-Ok-told-clause-ok c = grind (arith, spells_records)
