@@ -27,10 +27,14 @@ pub fn dead_rows<S: CellSet>(alloc: Global, board: &Board<S>) -> Result<Rows, Al
     let mut live = Rows::new(alloc, shape)?;
     add_cells(board.goals(), &mut live);
     live.grow::<ByPull>(board.rows());
-    let mut dead = Rows::new(alloc, shape)?;
+    let Ok(mut dead) = Rows::new(alloc, shape) else {
+        drop(live);
+        return Err(AllocError);
+    };
     dead.copy_from(board.rows());
     add_cells(board.boxes(), &mut dead);
     dead.subtract(&live);
+    drop(live);
     Ok(dead)
 }
 

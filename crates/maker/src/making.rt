@@ -76,7 +76,9 @@ pub fn find<S: CellSet>(alloc: Global, board: &Board<S>) -> Result<Option<Found>
     let _shape = board.shape();
     let dead = dead_rows(alloc, board)?;
     if dead.meets(board.boxes()) {
-        return Ok(Some(Found::Dead(coords_in(alloc, &dead)?)));
+        let cells = coords_in(alloc, &dead);
+        drop(dead);
+        return Ok(Some(Found::Dead(cells?)));
     }
     match find_other(alloc, board, dead)? {
         Some(made) => Ok(Some(Found::Other(made))),
@@ -123,8 +125,6 @@ fn frozen_list<S: CellSet>(
     ensures list { IfOk result (λ list. MatchOption list (HasNoList board.now) (λ patterns. IsMadeList board.now (map said_pattern patterns.items))) }
     ensures lawful { IfOk result (λ list. IfSome list (λ patterns. IsLawfulBody (Patterns patterns))) }
 {
-    // For the proof: the board is well formed.
-    let _shape = board.shape();
     let held = frozen_among(alloc, board, dead)?;
     let list = list_off_goals(alloc, board, dead, &held);
     drop(held);
@@ -151,7 +151,9 @@ fn list_off_goals<S: CellSet>(
         return Ok(None);
     }
     let cells = coords_in(alloc, dead)?;
-    let mut patterns = lone_patterns(alloc, &cells, cells.len() + 1)?;
+    let patterns = lone_patterns(alloc, &cells, cells.len() + 1);
+    drop(cells);
+    let mut patterns = patterns?;
     patterns.push_reserved(whole_pattern(alloc, held)?);
     Ok(Some(patterns))
 }

@@ -12,13 +12,6 @@ use itoa::Buffer;
 use play::{MoveWhy, ReplayFault};
 use std::alloc::AllocError;
 
-// Adds words.
-fn push(text: &mut Vec<u8>, words: &[u8]) -> Result<(), AllocError>
-    ensures ok { OnOk result (text.new.items ≡ text.old.items ++ words.now) }
-{
-    text.extend_from_slice(words)
-}
-
 // Adds a word and then a number.
 fn push_number(text: &mut Vec<u8>, word: &[u8], number: u64) -> Result<(), AllocError>
     ensures ok { OnOk result (text.new.items ≡ text.old.items ++ (word.now ++ decimal number)) }
@@ -92,8 +85,8 @@ fn push_fault(text: &mut Vec<u8>, line: usize, word: &[u8]) -> Result<(), AllocE
     ensures ok { OnOk result (text.new.items ≡ text.old.items ++ (codes "line " ++ decimal line ++ codes " " ++ word.now)) }
 {
     push_number(text, b"line ", line as u64)?;
-    push(text, b" ")?;
-    push(text, word)
+    text.extend_from_slice(b" ")?;
+    text.extend_from_slice(word)
 }
 
 // Adds a word, and then a cell and a direction.
@@ -108,7 +101,7 @@ fn push_cell(text: &mut Vec<u8>, word: &[u8], cell: Cell, dir: Dir) -> Result<()
         Dir::R => b" r",
         Dir::D => b" d",
     };
-    push(text, letter)
+    text.extend_from_slice(letter)
 }
 
 // Adds the words of a solution's fault.
@@ -118,8 +111,8 @@ fn push_solution(text: &mut Vec<u8>, fault: ReplayFault) -> Result<(), AllocErro
     match fault {
         ReplayFault::Move { number, why } => {
             push_number(text, b"move ", number)?;
-            push(text, b" ")?;
-            push(text, move_word_of(why))
+            text.extend_from_slice(b" ")?;
+            text.extend_from_slice(move_word_of(why))
         }
         ReplayFault::Unsolved { boxes } => push_number(text, b"unsolved ", boxes),
         ReplayFault::Memory => Ok(()),
@@ -132,7 +125,7 @@ fn push_patterns(text: &mut Vec<u8>, fault: CheckFault) -> Result<(), AllocError
 {
     match fault {
         CheckFault::Line { line, why } => push_fault(text, line, line_word_of(why)),
-        CheckFault::Start => push(text, b"start"),
+        CheckFault::Start => text.extend_from_slice(b"start"),
         CheckFault::Push { line, player, dir } => {
             push_number(text, b"line ", line as u64)?;
             push_cell(text, b" push ", player, dir)
@@ -162,8 +155,8 @@ fn push_refusal(text: &mut Vec<u8>, refusal: Refusal) -> Result<(), AllocError>
 {
     match refusal {
         Refusal::Board(fault) => {
-            push(text, b"board ")?;
-            push(text, board_words_of(fault))
+            text.extend_from_slice(b"board ")?;
+            text.extend_from_slice(board_words_of(fault))
         }
         Refusal::BadLine { line, why } => push_fault(text, line, bad_line_word_of(why)),
         Refusal::Solution(fault) => push_solution(text, fault),
@@ -187,10 +180,10 @@ fn push_status(text: &mut Vec<u8>, status: Status) -> Result<(), AllocError>
         }
         Status::UnsolvableZone { cells } => push_number(text, b"unsolvable zone ", cells as u64),
         Status::Refused(refusal) => {
-            push(text, b"refused ")?;
+            text.extend_from_slice(b"refused ")?;
             push_refusal(text, refusal)
         }
-        Status::Missing => push(text, b"missing"),
+        Status::Missing => text.extend_from_slice(b"missing"),
     }
 }
 
@@ -199,9 +192,9 @@ pub fn push_line(text: &mut Vec<u8>, number: usize, status: Status) -> Result<()
     ensures ok { OnOk result (text.new.items ≡ text.old.items ++ line_of number status) }
 {
     push_number(text, b"level ", number as u64)?;
-    push(text, b" ")?;
+    text.extend_from_slice(b" ")?;
     push_status(text, status)?;
-    push(text, b"\n")
+    text.extend_from_slice(b"\n")
 }
 
 /// Adds the last line, with the totals.
@@ -213,5 +206,5 @@ pub fn push_total(text: &mut Vec<u8>, summary: Summary) -> Result<(), AllocError
     push_number(text, b" unsolvable ", summary.unsolvable as u64)?;
     push_number(text, b" refused ", summary.refused as u64)?;
     push_number(text, b" missing ", summary.missing as u64)?;
-    push(text, b"\n")
+    text.extend_from_slice(b"\n")
 }

@@ -80,17 +80,23 @@ impl<'r> Relay<'r> {
     {
         // For the proof: the board is well formed.
         let _shape = board.shape();
-        self.renew(board, matching, cell);
-        if self.free.is_none() {
+        let Some(goal) = next_free(board, matching, &self.targets, self.free) else {
+            self.move_to(board, matching, cell);
+            if let Some(goal) = self.goal_for(cell) {
+                return Some(goal);
+            }
             // The relay has moved to the cell, so the targets are the cell's reach. Another flood would take `make` up to 2 % more.
             self.reach.copy_from(&self.targets);
             return None;
-        }
-        if let Some(goal) = self.goal_for(cell) {
+        };
+        self.free = Some(goal);
+        if self.sources.has(cell) {
             return Some(goal);
         }
         flood::<ByPush>(&mut self.reach, self.room, cell);
-        let goal = self.goal_reached()?;
+        if !self.reach.has(goal) {
+            return None;
+        }
         self.move_toward(board, matching, goal);
         Some(goal)
     }
@@ -110,21 +116,6 @@ impl<'r> Relay<'r> {
         let goal = next_free(board, matching, &self.reach, board.shape().cell(1, 1))?;
         self.move_toward(board, matching, goal);
         Some(goal)
-    }
-
-    // Finds the next free goal among the targets. If there is none, moves the relay to the cell.
-    fn renew<S: CellSet>(&mut self, board: &Board<S>, matching: &[Option<Cell>], cell: Cell)
-        requires relay { IsRelay board.now self.old }
-        requires entries { HasEntries board.now.shape matching.now }
-        requires floor { IsFloor board.now cell }
-        ensures relay { IsRelay board.now self.new }
-        ensures free { HasFreeGoal board.now matching.now self.new }
-        ensures reach { self.new.free ≡ None → IsReachOf board.now cell self.new.targets.members }
-    {
-        self.free = next_free(board, matching, &self.targets, self.free);
-        if self.free.is_none() {
-            self.move_to(board, matching, cell);
-        }
     }
 
     // Moves the relay to a cell, and finds the first free goal among the targets.
@@ -253,18 +244,6 @@ impl<'r> Relay<'r> {
     {
         let goal = self.free?;
         if self.sources.has(cell) {
-            Some(goal)
-        } else {
-            None
-        }
-    }
-
-    // Returns the free goal, if there is one and the last box can be pushed to it.
-    fn goal_reached(&self) -> Option<Cell>
-        ensures { IfSome result (λ goal. (self.now.free ≡ Some goal) × Has self.now.reach.members goal) }
-    {
-        let goal = self.free?;
-        if self.reach.has(goal) {
             Some(goal)
         } else {
             None

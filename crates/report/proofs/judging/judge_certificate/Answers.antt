@@ -1,4 +1,4 @@
-use Rattle.std.proofs.Common.{◌≡◌, List, [], ◌∷◌, ◌++◌, length, length-append, refl, sym, arith, ◌∙◌}
+use Rattle.std.proofs.Common.{◌≡◌, List, [], ◌∷◌, ◌++◌, length, length-append, sym, arith, ◌∙◌}
 use Rattle.answers.specs.{Grammar.said_pattern, Body.PatternLine, Certificates.certificate_body}
 use Rattle.closure.specs.PatternList.{IsListOf}
 use Rattle.report.specs.Status.{bad_line}

@@ -12,9 +12,6 @@ use Rattle.maker.proofs.Flipping.{one_match}
 use Rattle.maker.proofs.Violators.{searched_matched}
 use Rattle.maker.proofs.zones.violator.add_matched_box.Goals as goal
 
-pub insert-requires : goal.insert-requires
-insert-requires g c = grind (arith, pairs_read)
-
 pub returns-clause-searched : goal.returns-clause-searched
 returns-clause-searched g c = λ start searched.
     let level = c.args.board.now in

@@ -10,9 +10,11 @@ use Rattle.cellset.specs.SortedList.{index}
 use Rattle.cellset.specs.declared.cell.Cell.{Cell}
 use Rattle.cellset.proofs.Members.{not_both}
 use Rattle.board.specs.Game.{Level}
-use Rattle.maker.specs.Search.{visit_at, cell_visited, IsFreeGoal}
+use Rattle.maker.specs.Search.{Pairs, visit_at, cell_visited, IsFreeGoal}
 use Rattle.maker.specs.declared.zones.search.Visit.{Visit}
 use Rattle.maker.proofs.Searches.{further_itself, queued_further, queued_here, matched_keeps, read_visit, pairs_visited}
+use Rattle.maker.proofs.zones.search.Search.enqueue_matched.Given.{Over}
+use Rattle.maker.proofs.zones.search.Search.enqueue_matched.Goals.{In-Some}
 use Rattle.maker.proofs.zones.search.Search.enqueue_matched.Goals as goal
 
 -- a goal at a visit is free if its entry in the table is None
@@ -32,14 +34,18 @@ index_of-requires g c =
     let is_v = read_visit c.args.self.now.queue.items c.args.at c.index.result.now c.requires.at c.index.ensures in
     rw (c.shape.ensures.value, is_v) ((is_search.floor _ (is_search.listed c.args.at c.requires.at)).0)
 
-pub enqueue-requires-clause-on : goal.enqueue-requires-clause-on
-enqueue-requires-clause-on g c =
+-- the goal at the visit is matched to the box
+the_pair : (g : Over) (c : In-Some g) → Pairs c.args.board.now.shape c.args.matching.now (cell_visited c.args.self.now.queue.items c.args.at)
+    c.in-Some.matched_box
+the_pair g c =
     let queue = c.args.self.now.queue.items in
     let (start, is_search) = c.requires.search in
     let is_v = read_visit queue c.args.at c.index.result.now c.requires.at c.index.ensures in
-    let pair = pairs_visited c.args.board.now.shape c.shape.result c.args.matching.now queue c.args.at c.index.result.now c.index_of.result
-    c.in-Some.matched_box is_v c.shape.ensures.value c.index_of.ensures.value (is_search.floor _ (is_search.listed c.args.at c.requires.at)).0 c.in-Some.is in
-    rw c.requires.ready.grid ((c.requires.matching (cell_visited queue c.args.at) c.in-Some.matched_box pair).0)
+    pairs_visited c.args.board.now.shape c.shape.result c.args.matching.now queue c.args.at c.index.result.now c.index_of.result
+    c.in-Some.matched_box is_v c.shape.ensures.value c.index_of.ensures.value (is_search.floor _ (is_search.listed c.args.at c.requires.at)).0 c.in-Some.is
+
+pub enqueue-requires-clause-on : goal.enqueue-requires-clause-on
+enqueue-requires-clause-on g c = rw c.requires.ready.grid ((c.requires.matching _ c.in-Some.matched_box (the_pair g (goal.at.enqueue-requires-clause-on g c).In-Some)).0)
 
 pub returns-then-not-contains-clause-further : goal.returns-then-not-contains-clause-further
 returns-then-not-contains-clause-further g c = further_itself _ _ _
@@ -70,24 +76,9 @@ returns-clause-further g c = queued_further c.args.board.now _ _ _ _ _ c.enqueue
 
 pub returns-clause-search : goal.returns-clause-search
 returns-clause-search g c = λ start is_search.
-    let queue = c.args.self.now.queue.items in
-    let is_v = read_visit queue c.args.at c.index.result.now c.requires.at c.index.ensures in
-    let pair = pairs_visited c.args.board.now.shape c.shape.result c.args.matching.now queue c.args.at c.index.result.now c.index_of.result
-    c.in-Some.matched_box is_v c.shape.ensures.value c.index_of.ensures.value (is_search.floor _ (is_search.listed c.args.at c.requires.at)).0 c.in-Some.is in
-    matched_keeps c.args.board.now c.args.matching.now start _ queue c.args.at c.in-Some.matched_box _ _ c.requires.at pair
-    (c.requires.matching (cell_visited queue c.args.at) c.in-Some.matched_box pair) c.enqueue.ensures.queued is_search
+    let pair = the_pair g (goal.at.returns-clause-search g c).In-Some in
+    matched_keeps c.args.board.now c.args.matching.now start _ _ c.args.at c.in-Some.matched_box _ _ c.requires.at pair
+    (c.requires.matching _ c.in-Some.matched_box pair) c.enqueue.ensures.queued is_search
 
 pub returns-clause-exact : goal.returns-clause-exact
-returns-clause-exact g c = λ _.
-    let queue = c.args.self.now.queue.items in
-    let (start, is_search) = c.requires.search in
-    let is_v = read_visit queue c.args.at c.index.result.now c.requires.at c.index.ensures in
-    let pair = pairs_visited c.args.board.now.shape c.shape.result c.args.matching.now queue c.args.at c.index.result.now c.index_of.result
-    c.in-Some.matched_box is_v c.shape.ensures.value c.index_of.ensures.value (is_search.floor _ (is_search.listed c.args.at c.requires.at)).0 c.in-Some.is in
-    (c.in-Some.matched_box, pair, queued_here _ _ _ _ _ c.enqueue.ensures.queued)
-
-pub returns-then-not-contains-clause-search : goal.returns-then-not-contains-clause-search
-returns-then-not-contains-clause-search g c = λ start h. h
-
-pub returns-clause-ready : goal.returns-clause-ready
-returns-clause-ready g c = c.enqueue.ensures.ready c.args.board.now.shape c.requires.ready
+returns-clause-exact g c = λ _. (c.in-Some.matched_box, the_pair g (goal.at.returns-clause-exact g c).In-Some, queued_here _ _ _ _ _ c.enqueue.ensures.queued)

@@ -39,21 +39,3 @@ returns-clause-exact g c =
       around = rw same at c.enqueue_pushes.ensures.around;
       matched_box = λ goal. let (b, pair, has) = c.if-enqueue_matched.ensures.exact goal in (b, pair, c.enqueue_pushes.ensures.further.kept b has);
     }
-
-pub returns-in-Some-clause-ready : goal.returns-in-Some-clause-ready
-returns-in-Some-clause-ready g c = c.requires.ready
-
-pub returns-then-enqueue_matched-clause-ready : goal.returns-then-enqueue_matched-clause-ready
-returns-then-enqueue_matched-clause-ready g c = c.enqueue_matched.ensures.ready
-
-pub returns-then-enqueue_matched-clause-further : goal.returns-then-enqueue_matched-clause-further
-returns-then-enqueue_matched-clause-further g c = c.enqueue_matched.ensures.further
-
-pub returns-then-enqueue_matched-clause-search : goal.returns-then-enqueue_matched-clause-search
-returns-then-enqueue_matched-clause-search g c = c.enqueue_matched.ensures.search
-
-pub returns-clause-ready : goal.returns-clause-ready
-returns-clause-ready g c = c.enqueue_pushes.ensures.ready
-
-pub returns-clause-traced : goal.returns-clause-traced
-returns-clause-traced g c = tt
