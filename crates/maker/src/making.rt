@@ -209,16 +209,8 @@ fn made_zone<S: CellSet>(
     let Some(cells) = least_zone(alloc, board, scratch)? else {
         return Ok(None);
     };
-    Ok(Some(zone_of(alloc, &cells)?))
-}
-
-// Returns the zone of the cells of a set, in reading order.
-fn zone_of<S: CellSet>(alloc: Global, cells: &S) -> Result<Zone, AllocError>
-    ensures list { IfOk result (λ zone. IsListOf (S.members cells.now) zone.cells.items) }
-    ensures line { IfOk result (λ zone. zone.line ≡ 0) }
-{
-    Ok(Zone {
+    Ok(Some(Zone {
         line: 0,
-        cells: coords_of(alloc, cells)?,
-    })
+        cells: coords_of(alloc, &cells)?,
+    }))
 }

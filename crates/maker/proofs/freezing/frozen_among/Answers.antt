@@ -14,3 +14,6 @@ overflow_mul-len g c =
     let count = c.len.ensures in
     let same = ap set.len c.boxes-boxes.ensures.members in
     omega arith
+
+pub returns-clause-exact : goal.returns-clause-exact
+returns-clause-exact g c = c.thaw.ensures.exact

@@ -1,9 +1,12 @@
 use Rattle.std.proofs.Common.{refl, sym, inl, inr, arith}
-use Rattle.cellset.proofs.Members.{has_remove}
+use Rattle.cellset.proofs.Members.{has_remove, not_both}
 use Rattle.cellset.proofs.Truth.{either}
 use Rattle.patterns.proofs.Counts.{len-remove_member}
 use Rattle.maker.proofs.Thawing.{reviewed_held, reviewed_gone}
 use Rattle.maker.proofs.freezing.review.Goals as goal
+
+pub returns-then-not-contains-clause-reviewed : goal.returns-then-not-contains-clause-reviewed
+returns-then-not-contains-clause-reviewed g c = grind (arith, not_both)
 
 pub wait_around-requires-clause-room : goal.wait_around-requires-clause-room
 wait_around-requires-clause-room g c =

@@ -1,6 +1,6 @@
-use Rattle.std.proofs.Common.{◌+◌, [], ◌∷◌, length, get_or, take, ap, sym, ◌∙◌, arith}
+use Rattle.std.proofs.Common.{◌+◌, ◌≤◌, [], ◌∷◌, length, get_or, take, ap, sym, ◌∙◌, arith}
 use Rattle.std.specs.Prelude.{map}
-use Rattle.std.proofs.lemmas.List.{length-append, take_more}
+use Rattle.std.proofs.lemmas.List.{length-append, take_all, take_more}
 use Rattle.answers.specs.Grammar.{said_pattern}
 use Rattle.answers.specs.declared.pattern.Coord.{Coord}
 use Rattle.maker.specs.Made.{lone_patterns}
@@ -22,3 +22,8 @@ loop-cell-preserved c =
       count = ap length c.push_reserved.ensures.items ∙ length-append l.patterns.items (c.lone_pattern.result ∷ []) ∙ ap (λ n. n + 1) l.invariant.count;
       capacity = c.push_reserved.ensures.capacity ∙ l.invariant.capacity;
     }
+
+pub returns-clause-list : goal.returns-clause-list
+returns-clause-list c =
+    let all : length c.args.cells.now ≤ c.loop-cell.cell-index = omega arith in
+    rw take_all at c.loop-cell.invariant.list

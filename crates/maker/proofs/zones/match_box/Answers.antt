@@ -10,13 +10,6 @@ use Rattle.maker.proofs.Violators.{free_matched}
 use Rattle.maker.proofs.Relays.{pushed_reach, relay_kept}
 use Rattle.maker.proofs.zones.match_box.Goals as goal
 
-pub goal_in_reach-requires : goal.goal_in_reach-requires
-goal_in_reach-requires g c =
-    record { relay = c.requires.relay; entries = c.requires.entries; floor = c.shape-shape.ensures.formed.boxes c.args.start c.requires.start }
-
-pub index_of-requires : goal.index_of-requires
-index_of-requires g c = rw c.shape-shape.ensures.value c.in-Some.ensures.exact.0.on
-
 pub returns-in-Some : goal.returns-in-Some
 returns-in-Some g c =
     let level = c.args.board.now in
@@ -94,6 +87,3 @@ returns g c =
       relay = c.move_after.ensures.relay;
       exact = rw matching at c.flip.ensures.valid;
     }
-
-pub bounds-matching-index_of : goal.bounds-matching-index_of
-bounds-matching-index_of g c = rw c.requires.entries (rw c.shape-shape.ensures.value at c.index_of.ensures.within)

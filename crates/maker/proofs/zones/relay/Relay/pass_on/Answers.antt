@@ -1,4 +1,5 @@
 use Rattle.std.proofs.Common.{◌≡◌, ◌∙◌, ap}
+use Rattle.std.proofs.lemmas.List.{length-set}
 use Rattle.cellset.specs.Shape.{Extent}
 use Rattle.cellset.specs.CellSet.{Has}
 use Rattle.cellset.specs.SortedList.{index}
@@ -21,3 +22,6 @@ returns-clause-exact g c =
     let at : (q : Cell) → index c.shape-shape.result q ≡ index level.shape q = λ q. ap (λ (x : Extent). index x q) c.shape-shape.ensures.value in
     rw (c.index_of.ensures.value ∙ at to, c.index_of-2.ensures.value ∙ at free, c.index_of-3.ensures.value ∙ at to)
     (passed_on level matching c.args.start given.box to free c.requires.entries is_free (near given.box given.source) given.on given.pair near_start)
+
+pub returns-clause-entries : goal.returns-clause-entries
+returns-clause-entries g c = length-set _ _ _ ∙ length-set c.args.matching.now _ _ ∙ c.requires.entries

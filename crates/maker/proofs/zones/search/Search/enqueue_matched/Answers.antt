@@ -12,7 +12,7 @@ use Rattle.cellset.proofs.Members.{not_both}
 use Rattle.board.specs.Game.{Level}
 use Rattle.maker.specs.Search.{Pairs, visit_at, cell_visited, IsFreeGoal}
 use Rattle.maker.specs.declared.zones.search.Visit.{Visit}
-use Rattle.maker.proofs.Searches.{further_itself, queued_further, queued_here, matched_keeps, read_visit, pairs_visited}
+use Rattle.maker.proofs.Searches.{queued_further, queued_here, matched_keeps, read_visit, pairs_visited}
 use Rattle.maker.proofs.zones.search.Search.enqueue_matched.Given.{Over}
 use Rattle.maker.proofs.zones.search.Search.enqueue_matched.Goals.{In-Some}
 use Rattle.maker.proofs.zones.search.Search.enqueue_matched.Goals as goal
@@ -46,12 +46,6 @@ the_pair g c =
 
 pub enqueue-requires-clause-on : goal.enqueue-requires-clause-on
 enqueue-requires-clause-on g c = rw c.requires.ready.grid ((c.requires.matching _ c.in-Some.matched_box (the_pair g (goal.at.enqueue-requires-clause-on g c).In-Some)).0)
-
-pub returns-then-not-contains-clause-further : goal.returns-then-not-contains-clause-further
-returns-then-not-contains-clause-further g c = further_itself _ _ _
-
-pub returns-in_default-clause-further : goal.returns-in_default-clause-further
-returns-in_default-clause-further g c = further_itself _ _ _
 
 pub returns-then-not-contains-clause-exact : goal.returns-then-not-contains-clause-exact
 returns-then-not-contains-clause-exact g c = λ goal_here.
