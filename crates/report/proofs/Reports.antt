@@ -2,7 +2,7 @@
 -- The numbers of the records rise. So the record of a level is the next one or there is none, and the records before it
 -- answer no later level. The loop keeps a function: put the statuses so far before any statuses of the levels that are
 -- left, and you have the statuses of all levels. With each level the function needs the statuses of one level fewer.
-use Rattle.std.proofs.Common.{◌≡◌, ◌≢◌, ℕ, zero, suc, ◌+◌, ◌<◌, ◌≤◌, nat_eq, Bool, true, cond, Option, List, [], ◌∷◌, ◌++◌, length, get_or, take, drop, Some, None, refl, sym, ◌∙◌, ap, subst, arith, append_assoc}
+use Rattle.std.proofs.Common.{◌≡◌, ◌≢◌, ℕ, zero, suc, ◌+◌, ◌<◌, ◌≤◌, Bool, cond, Option, List, [], ◌∷◌, ◌++◌, length, get_or, take, drop, Some, None, refl, sym, ◌∙◌, ap, subst, arith, append_assoc}
 use Rattle.std.specs.Prelude.{count_by, map}
 use Rattle.std.specs.List.{slice_get}
 use Rattle.std.proofs.Math.Seq.{drop-cons}
@@ -33,12 +33,9 @@ pub next_record : (records : List RecordText) (k : ℕ) (r : RecordText) → k <
     → drop k (map entry_of records) ≡ entry_of r ∷ drop (k + 1) (map entry_of records)
 next_record records k r h e = grind (arith, drop-map, drop_at)
 
-same_number : (a b : ℕ) → a ≡ b → nat_eq a b ≡ true
-same_number a b e = grind (arith, eqb_tells)
-
 -- the first record answers its own level
 pub answered : (n : ℕ) (e : Entry) (es : List Entry) → e.level ≡ n → answer_to n (e ∷ es) ≡ Some e.body
-answered n e es is = search (same_number)
+answered n e es is = grind (arith, eqb_tells)
 
 -- an entry of another level is passed over
 pub passed : (n : ℕ) (e : Entry) (es : List Entry) → e.level ≢ n → answer_to n (e ∷ es) ≡ answer_to n es
@@ -55,9 +52,6 @@ pub rise_on : (low high : ℕ) (e : Entry) (es : List Entry) → RiseWithin low 
 rise_on low high e es (above, within, rest) other = (omega arith, within, rest)
 
 -- ---- the lines and the numbers
-single : (k : ℕ) → 0 + k ≡ k
-single k = omega arith
-
 pub lines_more : (n : ℕ) (ss : List Status) (s : Status) → lines_from n (ss ++ s ∷ []) ≡ lines_from n ss ++ line_of (n + length ss) s
 lines_more n [] s = grind (arith, append-nil)
 lines_more n (x ∷ ss) s =
@@ -77,7 +71,7 @@ line_added statuses k d old new below so_far added =
     ∙ ap (λ n. lines_from 1 (take k statuses) ++ line_of n status) number)
 
 count_more : (p : Status → Bool) (ss : List Status) (s : Status) (k : ℕ) → cond (p s) 1 0 ≡ k → count_by p (ss ++ s ∷ []) ≡ count_by p ss + k
-count_more p ss s k one = grind (arith, sum_by-append, single)
+count_more p ss s k one = grind (arith, sum_by-append)
 
 summary_is : (a b c d e a' b' c' d' e' : ℕ) → a ≡ a' → b ≡ b' → c ≡ c' → d ≡ d' → e ≡ e' →
     (let s : Summary = record { levels = a; solved = b; unsolvable = c; refused = d; missing = e } in

@@ -2,8 +2,9 @@
 -- at its place in the order of work, because a text that was read before isn't too long. The texts that were read are the bytes of the
 -- sources, if these are known, so what `audit_texts` says of the texts holds of the bytes. The count of a device rises only in the way
 -- out that returns its error. Nothing is written before the last two.
-use Rattle.std.proofs.Common.{◌≡◌, ◌<◌, ℕ, List, length, subst, Some, IfSome, Err, ap, refl}
+use Rattle.std.proofs.Common.{◌≡◌, ◌<◌, ℕ, List, length, Some, IfSome, Err, ap, refl}
 use Rattle.std.specs.Prelude.{Option}
+use Rattle.std.proofs.lemmas.Option.{MatchOption-at_some}
 use Rattle.std.proofs.lemmas.Result.{err_from_is_err_and}
 use Rattle.report.specs.Audit.{IsDue}
 use Rattle.report.specs.Report.{IsReport}
@@ -12,26 +13,18 @@ use Rattle.report.proofs.ReadErrors.{at_known, counts_answers, counts_levels, du
 use Rattle.devices.specs.Reading.{most_bytes}
 use Rattle.report.proofs.jobs.audit.Goals as goal
 
--- the bytes that were read are those that the source had, if they are known
-known_text : (o : Option (List ℕ)) (text bytes : List ℕ) → IfSome o (λ b. text ≡ b) → o ≡ Some bytes → text ≡ bytes
-known_text o text bytes h is = subst (λ p. IfSome p (λ b. text ≡ b)) is h
-
 -- what holds of the two texts that were read holds of the bytes that the sources had, if they are known
 at_both : (P : List ℕ → List ℕ → Type 0) (o p : Option (List ℕ)) (text_l text_a lt at lent_l lent_a : List ℕ) → lent_l ≡ text_l → lent_a ≡ text_a
     → IfSome o (λ b. text_l ≡ b) → IfSome p (λ b. text_a ≡ b) → o ≡ Some lt → p ≡ Some at → P lent_l lent_a → P lt at
 at_both P o p text_l text_a lt at lent_l lent_a is_l is_a value_l value_a known_l known_a h =
     at_known (λ a. P lt a) p text_a at lent_a is_a value_a known_a (at_known (λ l. P l lent_a) o text_l lt lent_l is_l value_l known_l h)
 
--- what holds of the bytes of a source, if they are known, holds of the bytes that are known
-said : (P : List ℕ → Type 0) (o : Option (List ℕ)) (bytes : List ℕ) → o ≡ Some bytes → IfSome o P → P bytes
-said P o bytes is h = subst (λ p. IfSome p P) is h
-
 pub returns-in-Err : goal.returns-in-Err
 returns-in-Err g c =
     let is = c.read_error.ensures in
     record {
       ok = λ _ _ _ _. tt;
-      refused = λ lt at is_lt is_at. rw is (due_levels lt at _ (λ long. said (λ b. most_bytes < length b) _ lt is_lt (c.in-Err.ensures.too_long (ap Err long))));
+      refused = λ lt at is_lt is_at. rw is (due_levels lt at _ (λ long. MatchOption-at_some _ (λ (b : List ℕ). most_bytes < length b) lt is_lt (c.in-Err.ensures.too_long (ap Err long))));
       beginning = λ _ _ _ _ failed. absurd (no_write _ _ (rw is at (same_error _ _ failed)));
       untouched = λ _. keeps_same _;
       cause = rw is (counts_levels (Unit {0}) (Unit {0}) _ _ _ _ c.in-Err.ensures.cause refl refl);
@@ -44,8 +37,8 @@ returns-in-Err-read_whole g c =
     let fits = c.in-Ok.ensures.limit in
     record {
       ok = λ _ _ _ _. tt;
-      refused = λ lt at is_lt is_at. rw is (due_answers lt at _ (rw (known_text _ _ lt c.in-Ok.ensures.value is_lt) at fits)
-          (λ long. said (λ b. most_bytes < length b) _ at is_at (c.in-Err-read_whole.ensures.too_long (ap Err long))));
+      refused = λ lt at is_lt is_at. rw is (due_answers lt at _ (rw (MatchOption-at_some _ (λ (b : List ℕ). c.in-Ok.text.items ≡ b) lt is_lt c.in-Ok.ensures.value) at fits)
+          (λ long. MatchOption-at_some _ (λ (b : List ℕ). most_bytes < length b) at is_at (c.in-Err-read_whole.ensures.too_long (ap Err long))));
       beginning = λ _ _ _ _ failed. absurd (no_write _ _ (rw is at (same_error _ _ failed)));
       untouched = λ _. keeps_same _;
       cause = rw is (counts_answers (Unit {0}) (Unit {0}) _ _ _ _ c.in-Ok.ensures.cause c.in-Err-read_whole.ensures.cause refl);
