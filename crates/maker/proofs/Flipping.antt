@@ -18,9 +18,6 @@ use Rattle.maker.specs.Search.{Pairs, HasEntries, visit_at, cell_visited, IsTrac
 use Rattle.maker.specs.declared.zones.search.Visit.{Visit}
 use Rattle.maker.proofs.Flipped.{IsRematched, IsFreed, freed_start, freed_next, all_matched}
 
-some_same : (b k : Cell) → Some b ≡ Some k → b ≡ k
-some_same b k e = cc
-
 -- a table matches a goal to one box at most
 pub one_match : (shape : Extent) (matching : List (Option Cell)) (g b k : Cell) → Pairs shape matching g b → Pairs shape matching g k → b ≡ k
 one_match shape matching g b k p q = search
@@ -35,7 +32,7 @@ table_matched shape matching g k entry on entries is =
     let apart : (h : Cell) → h ≢ g → IsOn shape h → index shape h ≢ index shape g = λ h ne on_h e. index_apart shape h g on_h on (other_false h g ne) e in
     record {
       here = record { on = on; entry = there };
-      only = λ b pair. some_same b k (sym pair.entry ∙ there);
+      only = λ b pair. let e = sym pair.entry ∙ there in cc;
       was = λ h b ne pair. record {
         on = pair.on;
         entry = sym (get_or-set_other matching (index shape g) (index shape h) entry None (apart h ne pair.on)) ∙ pair.entry;

@@ -24,6 +24,7 @@ use Rattle.maker.specs.Dead.{IsRelaxedPush}
 use Rattle.maker.specs.Matching.{ConfinesPaths, IsHallViolator}
 use Rattle.maker.specs.Search.{Pairs, visit_at, cell_visited, no_visit, IsTraced, IsSearch, IsQueued, IsFurther, KeepsSearches, IsExpanded}
 use Rattle.maker.specs.declared.zones.search.Visit.{Visit}
+use Rattle.maker.proofs.Flipping.{one_match}
 
 -- ---- what a search keeps
 pub further_itself : (level : Level) (visited : Cells) (queue : List Visit) → IsFurther level visited queue visited queue
@@ -197,12 +198,6 @@ search_violator level matching start visited queue is_search goals expanded =
       floor = is_search.floor;
       least = λ other c confines h. is_search.least other c confines h;
     }
-  where
-    some_same : (b k : Cell) → Some b ≡ Some k → b ≡ k
-    some_same b k e = cc
-
-    one_match : (shape : Extent) (matching : List (Option Cell)) (g b k : Cell) → Pairs shape matching g b → Pairs shape matching g k → b ≡ k
-    one_match shape matching g b k p q = some_same b k (sym p.entry ∙ q.entry)
 
 -- the queue has no more visits than the grid has cells
 pub queue_fits : (level : Level) (matching : List (Option Cell)) (start : Cell) (visited : Cells) (queue : List Visit)

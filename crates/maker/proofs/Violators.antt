@@ -3,7 +3,7 @@
 -- matched to the goals among them. If no push leads out of these cells, the boxes matched to their goals are among them, and none of
 -- their goals is free, then they confine the paths themselves, and are the least such set.
 use Rattle.std.proofs.Common.{◌≡◌, Bool, true, false, List, refl, sym, ◌∙◌, subst}
-use Rattle.std.specs.Prelude.{◌↔◌, ◌||◌, Option, None, Some}
+use Rattle.std.specs.Prelude.{◌↔◌, ◌||◌, Option, Some}
 use Rattle.std.proofs.lemmas.Bool.{true≢false}
 use Rattle.std.specs.FinSet as set
 use Rattle.std.proofs.Math.ListN.{set as set_at}
@@ -92,16 +92,13 @@ pub free_matched : (level : Level) (matching : List (Option Cell)) (start goal :
     → InReach level start goal → MatchesOneMore level matching start (set_at matching (index level.shape goal) (Some start))
 free_matched level matching start goal entries free near matched is box lacks =
     let new = set_at matching (index level.shape goal) (Some start) in
-    let unmatched : (b : Cell) → Pairs level.shape matching goal b → ⊥ = λ b pair. none_some b (sym free.unmatched ∙ pair.entry) in
+    let unmatched : (b : Cell) → Pairs level.shape matching goal b → ⊥ = λ b pair. let e = sym free.unmatched ∙ pair.entry in cc in
     record {
       boxes = λ c h. either (has_insert matched start c h) (λ e. rw e box) (is.boxes c);
       pairs = all_matched level matched (Pairs level.shape matching) (Pairs level.shape new) (one_match level.shape new) goal start
           (freed_start level matched (Pairs level.shape matching) goal is.pairs free.goal unmatched)
           (table_matched level.shape matching goal start (Some start) free.on entries refl) near lacks;
     }
-  where
-    none_some : (b : Cell) → None ≡ Some b → ⊥
-    none_some b e = cc
 
 pub none_of : (a b : Bool) → (a || b) ≡ false → (a ≡ false) × (b ≡ false)
 none_of true b e = absurd (true≢false e)

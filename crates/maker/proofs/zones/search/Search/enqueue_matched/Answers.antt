@@ -1,7 +1,7 @@
 -- The visit lies on the grid, because the visited cells are floor, so its index is within the table. If no goal is there, nothing has to
 -- be queued. If the entry is None, the goal is free. If the entry is a box, the table matches the goal to that box, which is on floor.
 -- So the search stays one if the box is queued, with the visit at the goal as the last goal on its path.
-use Rattle.std.proofs.Common.{◌≡◌, ℕ, List, get_or, sym, ◌∙◌, ap}
+use Rattle.std.proofs.Common.{◌≡◌, ℕ, List, get_or, sym, ◌∙◌, arith}
 use Rattle.std.specs.Prelude.{Option, None}
 use Rattle.cellset.specs.Shape.{Extent}
 use Rattle.cellset.specs.Cell.{IsOn}
@@ -21,12 +21,7 @@ use Rattle.maker.proofs.zones.search.Search.enqueue_matched.Goals as goal
 free_visited : (level : Level) (s : Extent) (matching : List (Option Cell)) (queue : List Visit) (at : ℕ) (v : Visit) (i : ℕ)
     → v ≡ visit_at queue at → s ≡ level.shape → i ≡ index s v.cell → IsOn level.shape (cell_visited queue at)
     → Has level.goals v.cell → get_or matching i None ≡ None → IsFreeGoal level matching (cell_visited queue at)
-free_visited level s matching queue at v i is_v is_s is_i on goal none = record {
-  on = on;
-  goal = rw is_v at goal;
-  unmatched = sym (ap (λ (k : ℕ). get_or matching k None)
-      (is_i ∙ (ap (λ (x : Extent). index x v.cell) is_s ∙ ap (λ (x : Visit). index level.shape x.cell) is_v))) ∙ none;
-}
+free_visited level s matching queue at v i is_v is_s is_i on goal none = grind arith
 
 pub index_of-requires : goal.index_of-requires
 index_of-requires g c =
