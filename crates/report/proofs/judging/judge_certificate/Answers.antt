@@ -20,12 +20,6 @@ loop-next-preserved g c = record {
   read = read_on g (goal.at.loop-next-preserved g c).After-add-added c.in-Ok-added.ensures.added;
 }
 
-pub loop-next-smaller : goal.loop-next-smaller
-loop-next-smaller g c = c.in-Ok.ensures.shorter c.in-Pattern.pattern c.in-Pattern.is
-
-pub judge_patterns-requires : goal.judge_patterns-requires
-judge_patterns-requires g c = (c.loop-next.invariant.read.0, c.loop-next.invariant.read.3)
-
 pub returns-in-End-clause-says : goal.returns-in-End-clause-says
 returns-in-End-clause-says g c =
     let (lines, long, read, added) = c.loop-next.invariant.read in
