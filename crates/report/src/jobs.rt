@@ -52,13 +52,8 @@ pub fn audit<L: Source, A: Source, W: Sink>(
         Ok(text) => text,
         Err(fault) => return Err(read_error(fault, Which::Answers)),
     };
-    let told = audit_texts(alloc, &levels_text, &answers_text);
-    drop(levels_text);
-    drop(answers_text);
-    let (text, summary) = told?;
-    let written = write_whole(report, &text);
-    drop(text);
-    match written {
+    let (text, summary) = audit_texts(alloc, &levels_text, &answers_text)?;
+    match write_whole(report, &text) {
         Ok(()) => Ok(summary),
         Err(_) => Err(AuditError::Write),
     }

@@ -58,7 +58,7 @@ pub fn judge<S: CellSet>(
         }
     };
     let status = judge_board(alloc, &board, answer, &mut scratch.replayer);
-    drop(scratch.board.replace(board));
+    scratch.board = Some(board);
     status
 }
 
@@ -77,12 +77,7 @@ fn judge_board<S: CellSet>(
     };
     match record.certificate() {
         Some(lines) => judge_certificate(alloc, board, lines),
-        None => {
-            let pieces = record.letters(alloc)?;
-            let status = judge_solution(replayer, board, &pieces);
-            drop(pieces);
-            status
-        }
+        None => judge_solution(replayer, board, &record.letters(alloc)?),
     }
 }
 

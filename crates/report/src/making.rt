@@ -138,16 +138,10 @@ fn draft_levels(alloc: Global, levels: &[LevelText<'_>]) -> Result<Vec<Draft>, A
     let mut drafts = Vec::with_capacity(alloc, levels.len())?;
     let mut last = None;
     for (before, level) in levels.iter().enumerate() {
-        let Ok(draft) = draft_for(alloc, level, before + 1, &mut last) else {
-            drop(last);
-            drop(drafts);
-            return Err(AllocError);
-        };
-        if let Some(draft) = draft {
+        if let Some(draft) = draft_for(alloc, level, before + 1, &mut last)? {
             drafts.push_reserved(draft);
         }
     }
-    drop(last);
     Ok(drafts)
 }
 
@@ -175,9 +169,7 @@ fn draft_for(
                 level: number,
                 body: MadeBody::Patterns(patterns),
             };
-            let text = text_of(alloc, &one);
-            drop(one);
-            Ok(Some(Draft::Text(text?)))
+            Ok(Some(Draft::Text(text_of(alloc, &one)?)))
         }
         None => Ok(None),
     }
@@ -214,6 +206,6 @@ fn found_for<S: CellSet>(
         }
     };
     let found = find(alloc, &board);
-    drop(last.replace(board));
+    *last = Some(board);
     found
 }

@@ -107,11 +107,19 @@ fn map_of<S: CellSet>(alloc: Global, board: &Board<S>) -> Result<Vec<u8>, AllocE
     ensures { IfOk result (λ text. IsMap board.now text.items) }
 {
     let dead = dead_squares(alloc, board)?;
+    rows_with(alloc, board, &dead)
+}
+
+// Returns the lines of all rows.
+fn rows_with<S: CellSet>(alloc: Global, board: &Board<S>, dead: &S) -> Result<Vec<u8>, AllocError>
+    requires { S.extent dead.now ≡ board.now.shape }
+    ensures { IfOk result (λ text. text.items ≡ rows_text board.now (S.members dead.now) board.now.shape.height) }
+{
     let shape = board.shape();
     let line = shape.width() as usize + 1;
     let mut text = Vec::with_capacity(alloc, line * shape.height() as usize)?;
     for row in 0..shape.height() as u16 {
-        push_row(board, &dead, row + 1, &mut text);
+        push_row(board, dead, row + 1, &mut text);
     }
     Ok(text)
 }

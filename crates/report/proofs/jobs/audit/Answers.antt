@@ -54,8 +54,8 @@ returns-in_err-text-clause-refused g c = λ lt at is_lt is_at.
     rw (p.1, p.2) (at_both (λ l a. IsDue l a error) _ _ _ _ lt at _ _ c.deref.ensures.value c.deref-2.ensures.value
     c.in-Ok.ensures.value c.in-Ok-read_whole.ensures.value is_lt is_at (error_due levels answers error c.in_err-text.ensures.refused))
 
-pub returns-in-Ok-written : goal.returns-in-Ok-written
-returns-in-Ok-written g c =
+pub returns-in-Ok-write_whole : goal.returns-in-Ok-write_whole
+returns-in-Ok-write_whole g c =
     let numbers = c.in_ok-text.summary in
     let report = rw (← c.deref-3.ensures.value) at c.in_ok-text.ensures.ok in
     record {
@@ -63,17 +63,17 @@ returns-in-Ok-written g c =
         _,
         at_both (λ l a. IsReport l a c.deref-3.result.now numbers) _ _ _ _ lt at _ _ c.deref.ensures.value c.deref-2.ensures.value
             c.in-Ok.ensures.value c.in-Ok-read_whole.ensures.value is_lt is_at report,
-        c.in-Ok-written.ensures.wrote,
+        c.in-Ok-write_whole.ensures.wrote,
       );
       refused = λ _ _ _ _. tt;
       beginning = λ _ _ _ _ failed. absurd (no_error _ _ failed);
       untouched = tt;
-      cause = (c.in-Ok.ensures.cause, c.in-Ok-read_whole.ensures.cause, c.in-Ok-written.ensures.cause);
+      cause = (c.in-Ok.ensures.cause, c.in-Ok-read_whole.ensures.cause, c.in-Ok-write_whole.ensures.cause);
       taken = (c.read_whole.ensures.taken, c.read_whole-2.ensures.taken);
     }
 
-pub returns-in-Err-written : goal.returns-in-Err-written
-returns-in-Err-written g c =
+pub returns : goal.returns
+returns g c =
     let numbers = c.in_ok-text.summary in
     let text = c.deref-3.result.now in
     let report = rw (← c.deref-3.ensures.value) at c.in_ok-text.ensures.ok in
@@ -83,8 +83,8 @@ returns-in-Err-written g c =
     record {
       ok = λ _ _ _ _. tt;
       refused = λ lt at is_lt is_at. (text, (numbers, is_report lt at is_lt is_at));
-      beginning = λ lt at is_lt is_at _. (text, (numbers, is_report lt at is_lt is_at), c.in-Err-written.ensures.beginning);
+      beginning = λ lt at is_lt is_at _. (text, (numbers, is_report lt at is_lt is_at), c.in-Err-write_whole.ensures.beginning);
       untouched = λ other. absurd (other refl);
-      cause = (c.in-Ok.ensures.cause, c.in-Ok-read_whole.ensures.cause, c.in-Err-written.ensures.cause);
+      cause = (c.in-Ok.ensures.cause, c.in-Ok-read_whole.ensures.cause, c.in-Err-write_whole.ensures.cause);
       taken = (c.read_whole.ensures.taken, c.read_whole-2.ensures.taken);
     }

@@ -15,10 +15,10 @@ returns-in-Some-certificate-clause-says g c =
     let says = rw c.in-Some-certificate.is at c.certificate.ensures.some in
     rw (c.in-Some.is, sym (says_one_body c.in-Some.record.now (certificate_body [] c.in-Some-certificate.lines) says)) c.judge_certificate.ensures.says
 
-pub returns-in_ok-pieces-in-None-clause-says : goal.returns-in_ok-pieces-in-None-clause-says
-returns-in_ok-pieces-in-None-clause-says g c =
+pub returns-in_ok-letters-in-None-clause-says : goal.returns-in_ok-letters-in-None-clause-says
+returns-in_ok-letters-in-None-clause-says g c =
     let record_text = c.in-Some.record.now in
     let (lines, says) = rw c.in-None.is at c.certificate.ensures.none in
-    rw c.in-Some.is (says_pieces c.judge_solution-status.result c.args.board.now lines c.deref.result.now (entry_of record_text).body
+    rw c.in-Some.is (says_pieces c.judge_solution.result c.args.board.now lines c.deref.result.now (entry_of record_text).body
     (says_one_body record_text (LetterLines lines) says)
-    (rw c.deref.ensures.value (c.in_ok-pieces-in-None.ensures.letters lines says)) c.judge_solution-status.ensures.says)
+    (rw c.deref.ensures.value (c.in_ok-letters-in-None.ensures.letters lines says)) c.judge_solution.ensures.says)

@@ -26,10 +26,10 @@ returns-in-Some-Other-Zone-clause-some c =
     let found = rw other.field-0-0-is at (rw other.field-0-is at some) in
     (_, found_made rows (Zone other.zone) found, record { text = refl; zone = refl })
 
-pub returns-in_ok-text-in-Some-Other-Patterns-clause-some : goal.returns-in_ok-text-in-Some-Other-Patterns-clause-some
-returns-in_ok-text-in-Some-Other-Patterns-clause-some c =
+pub returns-in_ok-text_of-in-Some-Other-Patterns-clause-some : goal.returns-in_ok-text_of-in-Some-Other-Patterns-clause-some
+returns-in_ok-text_of-in-Some-Other-Patterns-clause-some c =
     let rows = c.args.level.now in
     let other = c.in-Some-Other-Patterns in
     let some = MatchOption-at_some _ (IsFoundFor rows) other.field-0 other.is c.in_ok-cells.ensures.some in
     let found = rw other.field-0-0-is at (rw other.field-0-is at some) in
-    (_, found_made rows (Patterns other.patterns) found, record { text = c.in_ok-text-in-Some-Other-Patterns.ensures; zone = refl })
+    (_, found_made rows (Patterns other.patterns) found, record { text = c.in_ok-text_of-in-Some-Other-Patterns.ensures; zone = refl })

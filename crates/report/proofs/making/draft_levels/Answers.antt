@@ -9,7 +9,7 @@ use Rattle.report.specs.Making.{IsDraftFor}
 use Rattle.report.proofs.Reports.{drop_at}
 use Rattle.report.proofs.MadeRecords.{drafts_more, made_all, none_more, record_more}
 use Rattle.report.proofs.making.draft_levels.Goals as goal
-use Rattle.report.proofs.making.draft_levels.Goals.{in-Some, in_default-draft}
+use Rattle.report.proofs.making.draft_levels.Goals.{in-Some, in_default}
 
 pub loop-before-preserved : goal.loop-before-preserved
 loop-before-preserved c =
@@ -19,10 +19,10 @@ loop-before-preserved c =
     let so_far = c.loop-before.invariant in
     let next = drop_at levels k rows c.loop-before-test.true c.index-levels-before.is in
     let (records, up_to, drafts_are) = so_far.records in
-    elim c.match-draft.branch [
+    elim c.match-branch-3.branch [
       | in-Some w ↦
           let draft = w.in-Some.draft in
-          let (body, made, is) = MatchOption-at_some _ (IsDraftFor (k + 1) rows) draft w.in-Some.is c.in-Ok.ensures.some in
+          let (body, made, is) = MatchOption-at_some _ (IsDraftFor (k + 1) rows) draft w.in-Some.is c.in_ok-draft.ensures.some in
           let one : MadeRecord = record { level = k + 1; body = body } in
           let pushed = ap (λ v. v.items) w.drafts-is ∙ w.push_reserved.ensures.items in
           record {
@@ -34,8 +34,8 @@ loop-before-preserved c =
             few = omega (arith, ap length pushed, length-append c.loop-before.drafts.items (draft ∷ []), so_far.few);
             room = ap vec_capacity w.drafts-is ∙ w.push_reserved.ensures.capacity ∙ so_far.room;
           }
-      | in_default-draft w ↦
-          let none = rw w.in_default-draft.is at c.in-Ok.ensures.none in
+      | in_default w ↦
+          let none = rw w.in_default.is at c.in_ok-draft.ensures.none in
           let same = ap (λ v. v.items) w.drafts-is in
           record {
             records = (records, none_more levels k rows records next none up_to, rw same drafts_are);

@@ -1,19 +1,5 @@
-use Rattle.std.proofs.Common.{◌≡◌, ◌<◌, ap, arith}
-use Rattle.report.proofs.MapRows.{room_for_row}
+use Rattle.std.proofs.lemmas.Result.{IfOk-weaker}
 use Rattle.report.proofs.map.map_of.Goals as goal
 
-pub push_row-requires-clause-room : goal.push_row-requires-clause-room
-push_row-requires-clause-room g c =
-    let high = ap (λ e. e.height) c.shape-shape.ensures.value in
-    let above : c.loop-row.row < c.args.board.now.shape.height = omega arith in
-    room_for_row c.args.board.now (g.S.CellSet.members c.in_ok-dead.dead) c.loop-row.row _ c.loop-row.text.items c.loop-row.invariant.text above
-    c.loop-row.invariant.capacity
-
-pub loop-row-preserved : goal.loop-row-preserved
-loop-row-preserved g c = record { text = grind arith; capacity = rw c.push_row.ensures.capacity c.loop-row.invariant.capacity }
-
 pub returns : goal.returns
-returns g c =
-    let high = ap (λ e. e.height) c.shape-shape.ensures.value in
-    let all : c.loop-row.row ≡ c.args.board.now.shape.height = omega arith in
-    (g.S.CellSet.members c.in_ok-dead.dead, c.in_ok-dead.ensures.exact, rw all at c.loop-row.invariant.text)
+returns g c = IfOk-weaker c.rows_with.result _ _ (λ text is. (g.S.CellSet.members c.in_ok-dead.dead, c.in_ok-dead.ensures.exact, is)) c.rows_with.ensures

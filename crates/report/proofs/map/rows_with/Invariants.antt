@@ -1,7 +1,7 @@
 -- So far the text has the lines of the rows before this one.
 use Rattle.std.proofs.Common.{◌≡◌, ◌≤◌, ◌+◌, ◌*◌, vec_capacity}
 use Rattle.report.specs.DeadMap.{rows_text}
-use Rattle.report.proofs.map.map_of.Given as goal
+use Rattle.report.proofs.map.rows_with.Given as goal
 
 abbrev pub invariant-loop-row : goal.invariant-loop-row
 invariant-loop-row g l = record {
