@@ -151,9 +151,7 @@ fn list_off_goals<S: CellSet>(
         return Ok(None);
     }
     let cells = coords_in(alloc, dead)?;
-    let patterns = lone_patterns(alloc, &cells, cells.len() + 1);
-    drop(cells);
-    let mut patterns = patterns?;
+    let mut patterns = lone_patterns(alloc, &cells, cells.len() + 1)?;
     patterns.push_reserved(whole_pattern(alloc, held)?);
     Ok(Some(patterns))
 }

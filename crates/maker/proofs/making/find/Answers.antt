@@ -34,6 +34,13 @@ returns-then-meets-clause-lawful g c =
     dead_lawful c.args.board.now c.shape-shape.ensures.formed c.in_ok-dead.dead.members c.in_ok-dead.ensures.exact
     c.in_ok-cells.field-0.items c.in_ok-cells.ensures.list c.in_ok-cells.ensures.count
 
+pub find_other-requires : goal.find_other-requires
+find_other-requires g c = record {
+  extent = c.in_ok-dead.ensures.extent;
+  exact = c.in_ok-dead.ensures.exact;
+  apart = rw c.boxes.ensures.members at c.if-meets.ensures;
+}
+
 pub returns-in-Some : goal.returns-in-Some
 returns-in-Some g c =
     let level = c.args.board.now in
