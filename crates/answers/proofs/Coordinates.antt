@@ -48,10 +48,8 @@ module _ (text : List ℕ) (at number n : ℕ) (rest : List ℕ) (h : BeginsWith
   no_sooner = ⊎_elim
       (λ low.
       let within : at < length text = omega (arith, size) in
-      let digit : is_ascii_digit (get_or text at 0) ≡ true =
-      grind (arith, get_or_append_left, digit_at, digits-numeral) in
-      let same : take (at + 1) text ≡ take (at + 1) (numeral n) =
-      ap (take (at + 1)) there.spelled ∙ take-append-le (at + 1) (numeral n) rest (omega arith) in
+      let digit : is_ascii_digit (get_or text at 0) ≡ true = grind (arith, get_or_append_left, digit_at, digits-numeral) in
+      let same : take (at + 1) text ≡ take (at + 1) (numeral n) = ap (take (at + 1)) there.spelled ∙ take-append-le (at + 1) (numeral n) rest (omega arith) in
       absurd (omega (arith, number_in-more text at within, ap number_in same, number_in-take-le (numeral n) (at + 1), number_in-numeral n)))
       (λ h. h) (cases_lt at (length (numeral n)))
 
@@ -60,8 +58,7 @@ module _ (text : List ℕ) (at number n : ℕ) (rest : List ℕ) (h : BeginsWith
       (λ low.
       let m = length (numeral n) in
       let long : m < length (take at text) = omega (arith, length-take at text) in
-      let next : get_or (take at text) m 0 ≡ get_or rest 0 0 =
-      grind (arith, get_or-append_right, get_or-take) in
+      let next : get_or (take at text) m 0 ≡ get_or rest 0 0 = grind (arith, get_or-append_right, get_or-take) in
       absurd (false≢true (sym ends ∙ ap is_ascii_digit (sym next) ∙ digit_at (take at text) m h.digits long)))
       (λ h. h) (cases_lt (length (numeral n)) at)
 

@@ -31,7 +31,7 @@ kept_both : (n : ℕ) {m : ℕ} (all front rest : List ℕ) → lines_of all ≡
     → kept_after n all ≡ kept_after n front ++ kept_after m rest
 kept_both n all front rest both is = grind (arith, length-map, map-append, numbered-append, filter-append)
 
-count_both : {text front rest : List ℕ} → IsLineCut text front rest → length (lines_in text) ≡ length (lines_of front) + length (lines_in rest)
+pub count_both : {text front rest : List ℕ} → IsLineCut text front rest → length (lines_in text) ≡ length (lines_of front) + length (lines_in rest)
 count_both {text} {front} {rest} cut =
     omega (arith, length-map (lines_of text) without_terminator, length-map (lines_of rest) without_terminator, ap length (cut_lines text front rest cut), length-append (lines_of front) (lines_of rest))
 
@@ -72,8 +72,7 @@ all_comments lines others = search (comments_left)
 
 module _ (class : ℕ → Bool) (lines found : Left) (line : NumberedLine) (rest : Left) (f : IsFound class lines found line rest) where
   pub found_count : line_count rest ≡ line_count lines
-  found_count =
-      omega (arith, ap length (first_lines found.text.now line.text.now rest.text.now f.first), skipped_count class lines found f.skipped)
+  found_count = omega (arith, ap length (first_lines found.text.now line.text.now rest.text.now f.first), skipped_count class lines found f.skipped)
 
   pub found_shorter : length rest.text.now < length lines.text.now
   found_shorter = omega (arith, first_shorter found.text.now line.text.now rest.text.now f.first, skipped_no_longer class lines found f.skipped)

@@ -212,13 +212,6 @@ looked {bs} {from} within before none k below comment = ⊎_elim
     none (k - from) (omega arith) (omega arith) (eq-eqb _ _ (same ∙ comment.mark)))
     (cases_lt k from)
 
--- the first `;` among the next bytes is one of the text
-pub found_mark : (bs : List ℕ) (from next : ℕ) → from ≤ length bs → Passes (is_byte 59) (take (length bs - from) (drop from bs)) next
-    → slice_index bs (from + next) ≡ 59
-found_mark bs from next within here =
-    sym (ap (λ l. slice_index l next) (take_all (length bs - from) (drop from bs) (omega (arith, length-drop from bs))) ∙ get_or-drop from bs next 0)
-    ∙ eqb-true _ _ here
-
 -- no comment begins at a `;` that isn't first in its line
 pub looked_past : (bs : List ℕ) (at : ℕ) → NoCommentBelow at bs → at ≢ 0 → slice_index bs (at - 1) ≢ 10 → NoCommentBelow (at + 1) bs
 looked_past bs at before some other k below comment = grind (arith, early, cases_lt)

@@ -38,14 +38,6 @@ module _ (version levels last : ℕ) (entries : List Entry) (after : last_level 
   abbrev pub comes_to : ℕ → List Line → Result (List Entry) AnswersFault
   comes_to count kept = on_ok (run version levels entries LevelDue kept) (closed count)
 
-  pub level_refused : (count : ℕ) (kept : List Line) (level : Line) (more : List Line) (f : AnswersFault)
-      → kept ≡ level ∷ more → level_after last levels level ≡ Err f → comes_to count kept ≡ Err f
-  level_refused count kept level more f is e = search
-
-  pub kind_refused : (count : ℕ) (kept : List Line) (level kind : Line) (more : List Line) (n : ℕ) (f : AnswersFault)
-      → kept ≡ level ∷ kind ∷ more → level_after last levels level ≡ Ok n → body_after kind ≡ Err f → comes_to count kept ≡ Err f
-  kind_refused count kept level kind more n f is at_level e = search
-
   pub end_missing : (count : ℕ) (kept : List Line) (level kind : Line) (more : List Line) (n : ℕ) (b : Body)
       → kept ≡ level ∷ kind ∷ more → level_after last levels level ≡ Ok n → body_after kind ≡ Ok b → NoneEnds more
       → comes_to count kept ≡ Err (Unclosed (count + 1))

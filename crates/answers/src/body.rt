@@ -22,8 +22,14 @@ fn certificate<'a>(alloc: Global, lines: CertificateLines<'_>) -> Result<Record<
         match left.next(alloc)? {
             CertificateLine::Pattern(pattern) => patterns.push(pattern)?,
             CertificateLine::End => return Ok(Record::Patterns(patterns)),
-            CertificateLine::Zone(zone) => return Ok(Record::Zone(zone)),
-            CertificateLine::BadLine { line, why } => return Ok(Record::BadLine { line, why }),
+            CertificateLine::Zone(zone) => {
+                drop(patterns);
+                return Ok(Record::Zone(zone));
+            }
+            CertificateLine::BadLine { line, why } => {
+                drop(patterns);
+                return Ok(Record::BadLine { line, why });
+            }
         }
     }
 }
@@ -36,7 +42,10 @@ fn letter_lines<'a>(alloc: Global, lines: Left<'a>) -> Result<Vec<&'a [u8]>, All
     let mut letters = Vec::new(alloc);
     let mut left = lines;
     while let Some((line, rest)) = next_kept(left) {
-        letters.push(line.text)?;
+        let Ok(()) = letters.push(line.text) else {
+            drop(letters);
+            return Err(AllocError);
+        };
         left = rest;
     }
     Ok(letters)
@@ -66,6 +75,6 @@ impl<'a> RecordText<'a> {
         // For callers: a `u64` can count the letters of all lines.
         ensures letters { IfOk result (HasLettersWithin (2 ^ 64 - 1)) }
     {
-        Ok(said_of(alloc, self)?)
+        said_of(alloc, self)
     }
 }

@@ -87,10 +87,7 @@ pub(crate) fn after_comments(lines: Left<'_>) -> Left<'_>
     ensures count { line_count result ≡ line_count lines.entry }
     ensures no_longer { length result.text.now ≤ length lines.entry.text.now }
 {
-    match skip_to(lines, NotByte(b';')) {
-        Some(left) => left,
-        None => lines,
-    }
+    skip_to(lines, NotByte(b';')).unwrap_or(lines)
 }
 
 // Returns the lines before the first `end`, and the rest of the text after it.

@@ -156,9 +156,11 @@ fn cells_of(alloc: Global, text: &[u8]) -> Result<Option<SmallVec<Coord, 8>>, Al
 {
     let mut cells = SmallVec::new(alloc);
     let Some(rest) = take_cells(text, &mut cells)? else {
+        drop(cells);
         return Ok(None);
     };
     if !rest.is_empty() {
+        drop(cells);
         return Ok(None);
     }
     Ok(Some(cells))
@@ -186,12 +188,15 @@ pub(crate) fn pattern_of(
     };
     let mut boxes = SmallVec::new(alloc);
     let Some(rest) = take_cells(text, &mut boxes)? else {
+        drop(boxes);
         return Ok(None);
     };
     let Some(text) = rest.strip_prefix(b" @ ") else {
+        drop(boxes);
         return Ok(None);
     };
     let Some(seeds) = seeds_of(alloc, text)? else {
+        drop(boxes);
         return Ok(None);
     };
     Ok(Some(Pattern {

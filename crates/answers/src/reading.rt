@@ -34,7 +34,10 @@ fn read_each<'a>(
 {
     let mut records = Vec::with_capacity(alloc, texts.len())?;
     for text in texts {
-        read_more(alloc, text, &mut records)?;
+        let Ok(()) = read_more(alloc, text, &mut records) else {
+            drop(records);
+            return Err(AllocError);
+        };
     }
     Ok(records)
 }

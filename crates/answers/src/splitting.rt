@@ -123,7 +123,10 @@ fn records_in<'a>(
     let mut left = lines;
     while let Some((found, rest)) = next_record(version, levels, last, left)? {
         last = found.level;
-        records.push(found)?;
+        let Ok(()) = records.push(found) else {
+            drop(records);
+            return Err(AnswersFault::Memory);
+        };
         left = rest;
     }
     Ok(records)

@@ -1,8 +1,7 @@
 use Rattle.std.proofs.Common.{append_assoc, arith}
 use Rattle.std.proofs.lemmas.List.{drop-set, length-set}
 use Rattle.answers.proofs.CellBuffers.{digits_put}
-use Rattle.answers.proofs.Numerals.{some_digits}
-use Rattle.answers.proofs.Numerals.{numeral_step}
+use Rattle.answers.proofs.Numerals.{some_digits, numeral_step}
 use Rattle.answers.proofs.cells.put_digits.Goals as goal
 
 pub overflow_sub-at : goal.overflow_sub-at

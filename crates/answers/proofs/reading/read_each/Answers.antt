@@ -10,7 +10,7 @@ loop-text-preserved c =
     let text = c.text-item.result in
     let front : take (i + 1) texts ≡ take i texts ++ text ∷ [] = take_more texts i text c.loop-text-test.true
     ∙ ap (λ x. take i texts ++ x ∷ []) (sym c.text-item.is) in
-    c.in_ok-read_more.ensures ∙ ap (λ es. es ++ entry_of text ∷ []) c.loop-text.invariant
+    c.in-Ok.ensures ∙ ap (λ es. es ++ entry_of text ∷ []) c.loop-text.invariant
     ∙ sym (ap (map entry_of) front ∙ map_push entry_of (take i texts) text)
 
 pub returns : goal.returns

@@ -14,7 +14,7 @@ loop-records-preserved c =
     let read = rw c.in-Some.is at c.in_ok-found.ensures.some in
     let count = rw c.in-Some.is at c.in_ok-found.ensures.count in
     let more : map entry_of c.push.new.self.items ≡ before ++ found ∷ [] =
-    ap (map entry_of) c.in_ok-push.ensures.items ∙ map_push entry_of c.loop-records.records.items c.in-Some.found in
+    ap (map entry_of) c.in-Ok.ensures.items ∙ map_push entry_of c.loop-records.records.items c.in-Some.found in
     record {
       so_far = same.so_far ∙ read before same.last ∙ ap (λ es. run c.args.version c.args.levels es LevelDue (kept_in c.in-Some.rest)) (sym more);
       last = ap last_level more ∙ last_level-push before found;
