@@ -1,8 +1,7 @@
 -- The numbers of the pushed boxes, as a replay finds them. Each box is on a cell of its own, so the box that is pushed
 -- from a cell has the number of the last one exactly if the last push led to that cell.
 -- A push moves one box and keeps every number, and a walk moves none.
-use Rattle.std.proofs.Common.{◌≡◌, ℕ, zero, suc, ◌+◌, ◌≤◌, false, cond, None, Some, List, [], ◌∷◌, ◌++◌, length, refl, sym, ◌∙◌, ap}
-use Rattle.std.proofs.Common.{arith}
+use Rattle.std.proofs.Common.{◌≡◌, ℕ, zero, suc, ◌+◌, ◌≤◌, false, cond, None, Some, List, [], ◌∷◌, ◌++◌, length, refl, sym, ◌∙◌, ap, arith}
 use Rattle.std.specs.Prelude.{map, slice_get, ◌==◌, if◌then◌else◌}
 use Rattle.std.specs.List.{position_from}
 use Rattle.std.specs.Ordering.{eq_by_cmp}

@@ -93,10 +93,8 @@ module _ (level : Level) (done field : List ℕ) (run : Run) (before : Progress 
 
   pub ahead_within : IsRead letter → ahead < length field
   ahead_within (inl (blank, step, kind_is)) = grind (arith, still, near_on)
-  ahead_within (inr (inl (d, named, step, kind_is))) =
-      rw (ahead_is d step) (before.shown.places _ (near_neighbor level.shape d before.stands.player.0))
-  ahead_within (inr (inr (inl (d, named, step, kind_is)))) =
-      rw (ahead_is d step) (before.shown.places _ (near_neighbor level.shape d before.stands.player.0))
+  ahead_within (inr (inl (d, named, step, kind_is))) = rw (ahead_is d step) (before.shown.places _ (near_neighbor level.shape d before.stands.player.0))
+  ahead_within (inr (inr (inl (d, named, step, kind_is)))) = rw (ahead_is d step) (before.shown.places _ (near_neighbor level.shape d before.stands.player.0))
   ahead_within (inr (inr (inr (_, _, step, _)))) = grind (arith, still, near_on)
 
   ahead_shown : (d : Dir) → letter.step ≡ stride d → IsShown level before.state.boxes (neighbor before.state.player d) (get_or field ahead 0)

@@ -328,8 +328,7 @@ played_more {text} inside before moves one = record {
 -- a fault in the next byte, after bytes that are played, is a fault of the text
 pub fault_next : {f g : List ℕ} {a b : Run} {text : List ℕ} {i : ℕ} (fault : ReplayFault) → i < length text → IsPlayed f a text i g b
     → FailsOn g b (letters (get_or text i 0 ∷ [])) fault → FailsOn f a (letters text) fault
-fault_next {f} {a} {text} {i} fault inside before fails =
-    rw (letters_around text inside) (grind (arith, fault_before, fault_then))
+fault_next {f} {a} {text} {i} fault inside before fails = rw (letters_around text inside) (grind (arith, fault_before, fault_then))
 
 -- ---- a whole text
 pub fails_first : (level : Level) (field : List ℕ) (run : Run) (text : List ℕ) (fault : ReplayFault) → Progress level [] field run

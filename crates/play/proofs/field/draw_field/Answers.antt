@@ -13,3 +13,8 @@ returns-clause-masked g c =
     let long = subst (λ n. length (take n (new ++ rest)) ≡ 256 * c.rows_for.result) same
     (ap length (take-append_seam new rest) ∙ same ∙ c.in_ok-resize.ensures.len) in
     (8 + k, omega arith, long ∙ ap (λ n. 256 * n) is ∙ sym (pow-add 2 8 k))
+
+pub returns-clause-shown : goal.returns-clause-shown
+returns-clause-shown g c =
+    let same : length c.draw_board.new.field ≡ c.resize.new.self.len = c.draw_board.auto.field ∙ c.deref_mut.ensures.len in
+    rw (← same, take-append_seam) c.draw_board.ensures

@@ -17,3 +17,6 @@ returns-then-letter-eq-WALK-clause-ok c = λ level done before.
     ∙ rw above refl in omega arith)
     (λ blank. let below : ltb 32 c.args.byte ≡ false = blank_below c.args.byte (rw byte at blank) in let none : c.from.result ≡ 0 = c.from.ensures
     ∙ rw below refl in omega arith))
+
+pub returns-in-Ok-clause-ok : goal.returns-in-Ok-clause-ok
+returns-in-Ok-clause-ok c = rw c.read-letter.ensures.byte at c.in-Ok.ensures.ok

@@ -2,7 +2,7 @@
 -- each letter that is played after them (`played_more`). A letter that fails makes the whole line fail there, because the bytes before it
 -- were played. There is room for a move per byte of the line, so the moves don't overflow. The first letter after the groups is small or it
 -- isn't, so each turn plays a letter.
-use Rattle.std.proofs.Common.{arith}
+use Rattle.std.proofs.Common.{take_all, arith}
 use Rattle.std.proofs.lemmas.Result.{err_from_is_err_and}
 use Rattle.play.proofs.Replays.{under_way_then, played_on, played_more, fault_next}
 use Rattle.play.proofs.solution.play_line.Goals as goal
@@ -12,6 +12,9 @@ small-preserved c = (played_more (omega arith) c.small.invariant.0 c.in_ok-play_
 
 pub others-preserved : goal.others-preserved
 others-preserved c = (played_more (omega arith) c.others.invariant.0 c.in_ok-play_letter-2.ensures.moves c.in_ok-play_letter-2.ensures.ok, omega arith)
+
+pub returns-clause-ok : goal.returns-clause-ok
+returns-clause-ok c = rw (take_all c.groups.at c.args.line.now (omega arith)) at c.groups.invariant.continues
 
 pub small-init : goal.small-init
 small-init c = (played_on _ c.groups.invariant c.walk_groups-at.ensures, omega arith)

@@ -2,7 +2,7 @@
 -- free and all letters are walks. The number of bytes of the field is a power of two, so the mask keeps each place within the field
 -- (`masked`). A letter adds little, so the sum doesn't overflow. If in the end all cells met are free and the sum is small, all letters
 -- were walks.
-use Rattle.std.proofs.Common.{◌≡◌, ℕ, ◌+◌, ◌-◌, ◌%◌, ◌<◌, List, length, get_or, sym, ◌∙◌, ap, subst, arith}
+use Rattle.std.proofs.Common.{◌≡◌, ℕ, ◌+◌, ◌-◌, ◌%◌, ◌<◌, List, length, get_or, sym, ◌∙◌, ap, subst, take_all, arith}
 use Rattle.std.specs.Prelude.{bit_and, bit_or}
 use Rattle.std.proofs.Math.Nat.{mod-lt}
 use Rattle.play.specs.Field.{HasMask}
@@ -30,3 +30,6 @@ loop-byte-preserved c =
     (sym (low_bits field c.requires.masked c.args.mask sum c.requires.mask))
     (walked_more c.requires.masked c.args.player c.args.group.now c.loop-byte.byte-index c.loop-byte.sum c.loop-byte.met c.added-sum.result
     c.requires.few (omega arith) c.added-sum.ensures c.loop-byte.invariant)
+
+pub returns-then-sum-lt-NO_WALK : goal.returns-then-sum-lt-NO_WALK
+returns-then-sum-lt-NO_WALK c = grind (arith, take_all)
