@@ -14,8 +14,7 @@ use Rattle.cellset.specs.Shape.{Extent, HasSides}
 use Rattle.cellset.specs.Cell.{IsOn, cell_at, cell_cmp, neighbor}
 use Rattle.cellset.specs.CellSet.{Cells, Has, IsFirstFrom, only}
 use Rattle.cellset.specs.declared.cell.Cell.{Cell}
-use Rattle.cellset.proofs.Members.{cells_total, same_cells, has_or_lacks, same_itself, same_or_other, inserted, kept_by_remove, has_empty, has_only}
-use Rattle.cellset.proofs.Members.{lacks_only}
+use Rattle.cellset.proofs.Members.{cells_total, same_cells, has_or_lacks, same_itself, same_or_other, inserted, kept_by_remove, has_empty, has_only, lacks_only}
 use Rattle.cellset.proofs.ReadingOrder.{none_past}
 use Rattle.reach.specs.Reached.{Reached, WalksTo}
 use Rattle.reach.specs.Region.{Joined, at_seed, beside}

@@ -34,10 +34,6 @@ pub too_large : (rows : List (List ℕ)) (width height : ℕ) → IsRun rows →
     → FitsGrid rows → ⊥
 too_large rows width height run wide high none fits = grind (arith, run_sides)
 
-pub sides_of : (width height : ℕ) (shape : Extent) → HasSides width height → shape ≡ record { width = width; height = height }
-    → HasSides shape.width shape.height
-sides_of width height shape sides e = grind arith
-
 module _ (rows : List (List ℕ)) (shape : Extent) (walls goals boxes players room : Cells) (player : Cell)
     (r : PassesTests rows shape walls goals boxes players room player) where
   fits : FitsGrid rows
