@@ -19,8 +19,7 @@ returns-then-bits-eq0-clause-members c = row_empty c.args.self.now.members c.arg
 -- The first cell of a part with a bit is on the grid.
 there : (shape extent : Extent) (row part bits : ℕ) → shape ≡ extent → bits < 2 ^ 64 → bits ≢ 0 → IsRowOn extent row part bits
     → IsOn shape (first_cell row part)
-there shape extent row part bits same fits some row_on =
-    first_there shape row part bits fits some (rw same row_on)
+there shape extent row part bits same fits some row_on = first_there shape row part bits fits some (rw same row_on)
 
 pub overflow_mul-first : goal.overflow_mul-first
 overflow_mul-first c =

@@ -5,3 +5,9 @@ use Rattle.cellset.proofs.bit_set.BitSetCellSet.renew.Goals as goal
 
 pub returns-clause-empty : goal.returns-clause-empty
 returns-clause-empty c = grind (arith, empty_members, none_in_zeros)
+
+pub invariant_of-self : goal.invariant_of-self
+invariant_of-self c = rw c.in_err-resize.ensures.items c.self.invariant
+
+pub invariant_of-self-2 : goal.invariant_of-self-2
+invariant_of-self-2 c = grind (arith, none_in_zeros)
