@@ -64,10 +64,6 @@ passed_on s t a e (Err f) failed p = search
 pub handed_as : {W : Type 0} {w : sink.Ghosts W} (s t : W) (a b : List ℕ) (r : Answer) → a ≡ b → Writes w s t a r → Writes w s t b r
 handed_as s t a b r e p = grind arith
 
--- Writing nothing writes the whole empty text.
-pub handed_nothing : {W : Type 0} {w : sink.Ghosts W} (s : W) (x : Unit {0}) → Whole w s s [] x
-handed_nothing {w = w} s x = record { wrote = Appends-nil (w.held s); beginning = tt; cause = refl }
-
 module _ {X W : Type 0} {w : sink.Ghosts W} (f : X → List ℕ) (xs : List X) (i : ℕ) where
   -- The text of one more element is written.
   pub handed_next : (d : X) {s t u : W} {x : Unit {0}} {r : Answer} → i < length xs → Whole w s t (flat_map f (take i xs)) x
@@ -91,7 +87,3 @@ module _ {X W : Type 0} {w : sink.Ghosts W} (f : X → List ℕ) (xs : List X) (
       let whole : flat_map f front ++ flat_map f rest ≡ flat_map f xs =
       sym (flat_map-append f front rest) ∙ ap (flat_map f) (take-append-drop (i + 1) xs) in
       handed_as _ _ _ _ _ whole (handed_part _ _ _ _ e p)
-
-  -- The texts of all elements are written.
-  pub handed_all : (s t : W) (x : Unit {0}) → length xs ≤ i → Whole w s t (flat_map f (take i xs)) x → Whole w s t (flat_map f xs) x
-  handed_all s t x past p = search (handed_as, take_all)

@@ -27,8 +27,6 @@ use Rattle.maker.specs.declared.zones.search.Visit.{Visit}
 use Rattle.maker.proofs.Flipping.{one_match}
 
 -- ---- what a search keeps
-pub further_itself : (level : Level) (visited : Cells) (queue : List Visit) → IsFurther level visited queue visited queue
-further_itself level visited queue = grind arith
 
 pub further_on : (level : Level) (s : Cells) (v : List Visit) (s' : Cells) (v' : List Visit) (s'' : Cells) (v'' : List Visit) → IsFurther level s v s' v'
     → IsFurther level s' v' s'' v'' → IsFurther level s v s'' v''

@@ -35,9 +35,6 @@ module _ (level : Level) (pattern : Pattern) (cell : Cell) (dir : Dir) where
   pub unreached : (InPatternRegion level pattern (neighbor cell (opposite dir)) → ⊥) → HasNoPush level pattern cell dir
   unreached lacks push out from toward = grind (arith, player_behind)
 
-  pub barred : (IsFree level.shape level.walls pattern.boxes (neighbor cell dir) → ⊥) → HasNoPush level pattern cell dir
-  barred bar push out from toward = grind arith
-
   -- If the result of one push of a box in a direction is covered, so is that of each push that moves the box that way.
   pub covered_one : (patterns : List Pattern) (p : Push) → IsPushAt level.shape cell dir p → IsCovered level patterns (after_push pattern p) →
       CoversToward level patterns pattern cell dir

@@ -89,9 +89,6 @@ pub record AreDone (Done Rest : Cell → Type 0) (y : ℕ) (rows : List (List �
   pub done : (c : Cell) → c.row < y → InRows rows c ↔ Done c
   pub rest : (c : Cell) → y ≤ c.row → InRows rows c ↔ Rest c
 
-pub done_none : (Done : Cell → Type 0) (rows : List (List ℕ)) → AreDone Done (InRows rows) 0 rows
-done_none Done rows = grind arith
-
 pub done_more : (Done Rest : Cell → Type 0) (y : ℕ) (rows : List (List ℕ)) (row : List ℕ) → y < length rows → AreDone Done Rest y rows
     → ((k : ℕ) → HasBit row k ↔ Done (cell_at k y)) → AreDone Done Rest (y + 1) (set rows y row)
 done_more Done Rest y rows row within before is = record {

@@ -12,12 +12,6 @@ use Rattle.reach.specs.Grown.{AreInside, Passes, in_rows, IsBeside}
 use Rattle.reach.proofs.Lines.{filled_beside}
 use Rattle.reach.proofs.Walking.{of_test}
 
-pub beside_by : (b c : Cell) (d : Dir) → b ≡ neighbor c d → 1 ≤ b.row → IsBeside b c
-beside_by b c L e low = grind arith
-beside_by b c U e low = grind arith
-beside_by b c R e low = grind arith
-beside_by b c D e low = grind arith
-
 -- a pull along a row enters each column between two free ones
 pub pulls_enter : (free : List (List ℕ)) (y j k : ℕ) → (k ≡ j + 1) ⊎ (k + 1 ≡ j) → IsBetween (HasBit (get_or free y [])) k
     → PullsTo (Passes (in_rows free)) (cell_at j y) (cell_at k y)

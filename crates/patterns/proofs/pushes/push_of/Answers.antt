@@ -1,6 +1,6 @@
 -- Each way out that returns None shows that no push out of the group moves the box in the direction (`GroupPushes.antt`). If the region
 -- doesn't lie on the side from which the box is pushed, or that side is off the grid, the player can't come there (`unreached`). If the cell
--- ahead is off the grid, or has a wall or a box, the box can't go there (`barred`). Otherwise the push is the one of this box in the
+-- ahead is off the grid, or has a wall or a box, the box can't go there. Otherwise the push is the one of this box in the
 -- direction. A cell of the region has no box (`region_lacks`), and any other cell ahead is compared with the boxes.
 use Rattle.std.proofs.{Common.refl, Common.sym, Common.◌∙◌, Common.ap}
 use Rattle.cellset.{specs.Cell.neighbor, specs.Cell.opposite, proofs.Neighbors.neighbor_back}
