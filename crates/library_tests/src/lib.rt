@@ -10,6 +10,8 @@ mod pictures;
 #[cfg(test)]
 mod pushes;
 #[cfg(test)]
+mod same;
+#[cfg(test)]
 mod sets;
 #[cfg(test)]
 mod writing;

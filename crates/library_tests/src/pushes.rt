@@ -5,11 +5,10 @@ ghost use Rattle.reach.specs.Pushes.{IsPushOut, PushBefore};
 ghost use Rattle.reach.specs.declared.pushes.Push.{Push as OutPush};
 
 use crate::pictures::marked;
+use crate::same::same;
 use cellset::{BitSet, Cell, CellSet, Dir, ListSet, Shape};
 use reach::{Push, Pushes};
 use std::alloc::{AllocError, Global};
-use std::process::Abort;
-use std::test::Fail;
 
 // Returns the first push that moves a box to this cell. A loop over pushes knows which of them it has seen.
 fn first_push_to<S: CellSet>(
@@ -35,10 +34,6 @@ fn first_push_to<S: CellSet>(
     None
 }
 
-fn place(cell: Cell) -> (u8, u8) {
-    (cell.column(), cell.row())
-}
-
 // Returns the first push that moves a box to a cell, in a picture with boxes `$`, a region of `r` and no wall.
 fn first_push_in<S: CellSet>(
     alloc: Global,
@@ -52,19 +47,19 @@ fn first_push_in<S: CellSet>(
     Ok(first_push_to(shape, &walls, &boxes, &region, cell))
 }
 
-// Checks which of two pushes onto one cell comes first, over sets of a kind.
-fn finds_the_first<S: CellSet>(rt: &impl Abort, alloc: Global) -> Result<(), Fail> {
-    let shape = Shape::new(5, 5).ok_or("shape")?;
-    let cell = shape.cell(1, 3).ok_or("cell")?;
+// Returns the column and the row from which the first of two pushes onto one cell goes, and its direction.
+fn first_of_two<S: CellSet>(alloc: Global) -> Option<(u8, u8, Dir)> {
+    let shape = Shape::new(5, 5)?;
+    let cell = shape.cell(1, 3)?;
     let picture = b"r    $     $r            ";
-    let push = first_push_in::<S>(alloc, shape, picture, cell)?.ok_or("push")?;
-    assert_eq!(rt; (place(push.player), push.dir), ((1, 1), Dir::D));
-    Ok(())
+    let push = first_push_in::<S>(alloc, shape, picture, cell).ok()??;
+    Some((push.player.column(), push.player.row(), push.dir))
 }
 
 // Of two pushes onto one cell, the one with the earlier player's cell comes first.
 #[test]
-fn finds_the_first_push_to_a_cell(rt: HostRuntime) -> Result<(), Fail> {
-    finds_the_first::<ListSet>(&rt, rt.alloc())?;
-    finds_the_first::<BitSet>(&rt, rt.alloc())
+fn finds_the_first_push_to_a_cell(rt: HostRuntime) {
+    let wanted = Some((1, 1, Dir::D));
+    same(&rt, &"lists", &first_of_two::<ListSet>(rt.alloc()), &wanted);
+    same(&rt, &"bits", &first_of_two::<BitSet>(rt.alloc()), &wanted);
 }

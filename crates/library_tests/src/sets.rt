@@ -2,6 +2,7 @@
 ghost use Rattle.std.specs.Prelude.{◌≡◌, IfOk};
 ghost use Rattle.cellset.specs.Cell.{IsOn};
 
+use crate::same::same;
 use cellset::{BitSet, Cell, CellSet, ListSet, Shape};
 use std::alloc::{AllocError, Global};
 use std::process::Abort;
@@ -31,15 +32,16 @@ fn every<S: CellSet>(alloc: Global, shape: Shape, n: u8) -> Result<S, AllocError
 
 // Checks an answer of yes or no.
 fn agree(rt: &impl Abort, what: &str, said: bool, wanted: bool) {
-    assert_eq!(rt; said, wanted, "{what}");
+    same(rt, &what, &said, &wanted);
 }
 
 // Checks whether a set has a cell, and which is the first one from it on.
 fn has<S: CellSet>(rt: &impl Abort, set: &S, cell: Cell, is_in: bool, first: Option<Cell>)
     requires { IsOn (S.extent set.now) cell }
 {
-    let said = (set.contains(cell), set.next_from(cell));
-    assert_eq!(rt; said, (is_in, first), "{cell:?} of {:?}", set.shape());
+    let (said, from) = (set.contains(cell), set.next_from(cell));
+    same(rt, &cell, &said, &is_in);
+    same(rt, &cell, &from, &first);
 }
 
 // Checks that a set has every `n`th cell and every `m`th one, and which is the first from each cell on.
@@ -59,11 +61,12 @@ fn has_every<S: CellSet>(rt: &impl Abort, set: &S, n: u8, m: u8) {
             }
         }
     }
-    assert_eq!(rt; set.len(), count, "{shape:?}");
+    let said = set.len();
+    same(rt, &shape, &said, &count);
 }
 
 // Checks sets that are joined, copied and cleared.
-fn wholes<S: CellSet>(rt: &impl Abort, alloc: Global, shape: Shape) -> Result<(), Fail> {
+fn wholes<S: CellSet>(rt: &impl Abort, alloc: Global, shape: Shape) -> Result<(), AllocError> {
     let thirds: S = every(alloc, shape, 3)?;
     has_every(rt, &thirds, 3, 3);
     let mut set: S = every(alloc, shape, 2)?;
@@ -90,7 +93,35 @@ fn put<S: CellSet>(rt: &impl Abort, set: &mut S, cell: Cell, is_in: bool)
     };
     agree(rt, "another than before", is_new, is_in != was_in);
     agree(rt, "is in", set.contains(cell), is_in);
-    assert_eq!(rt; set.len(), others.wrapping_add(is_in as usize));
+    let (said, wanted) = (set.len(), others.wrapping_add(is_in as usize));
+    same(rt, &cell, &said, &wanted);
+}
+
+// Checks whether a set has the first cell of the grid.
+fn begins<S: CellSet>(rt: &impl Abort, set: &S, first: Cell, is_in: bool)
+    requires { IsOn (S.extent set.now) first }
+{
+    agree(rt, "has the first", set.contains(first), is_in);
+    let from = set.next_from(first);
+    agree(rt, "begins with the first", from == Some(first), is_in);
+}
+
+// Checks a copy of a set with another last cell.
+fn with_another_last<S: CellSet>(
+    rt: &impl Abort,
+    alloc: Global,
+    set: &S,
+    last: Cell,
+    has_last: bool,
+) -> Result<(), AllocError>
+    requires { IsOn (S.extent set.now) last }
+{
+    let mut copy = S::new(alloc, set.shape())?;
+    copy.union_with(set);
+    put(rt, &mut copy, last, !has_last);
+    agree(rt, "the copy has no more", copy.is_subset(set), has_last);
+    agree(rt, "the copy has all", set.is_subset(&copy), !has_last);
+    Ok(())
 }
 
 // Puts the first and the last cell of the grid into a set or takes them out, and checks the set and a copy with another last cell.
@@ -111,18 +142,10 @@ fn with_ends<S: CellSet>(
     put(rt, set, first, has_first);
     put(rt, set, last, has_last);
     let has_first = if first == last { has_last } else { has_first };
-    agree(rt, "has the first", set.contains(first), has_first);
-    let from_first = set.next_from(first) == Some(first);
-    agree(rt, "begins with the first", from_first, has_first);
-    let from_last = set.next_from(last);
-    agree(rt, "ends with the last", from_last == Some(last), has_last);
-    agree(rt, "ends there", from_last.is_some(), has_last);
-    let mut copy = S::new(alloc, shape)?;
-    copy.union_with(set);
-    put(rt, &mut copy, last, !has_last);
-    agree(rt, "the copy has no more", copy.is_subset(set), has_last);
-    agree(rt, "the copy has all", set.is_subset(&copy), !has_last);
-    Ok(())
+    begins(rt, set, first, has_first);
+    let from_last = if has_last { Some(last) } else { None };
+    has(rt, set, last, has_last, from_last);
+    Ok(with_another_last(rt, alloc, set, last, has_last)?)
 }
 
 // Checks the empty set and the set of every third cell, with and without the first and the last cell of the grid.
@@ -152,7 +175,8 @@ fn reads_rows<S: CellSet>(rt: &impl Abort, set: &S, shape: Shape) {
     for row in 0..=255u8 {
         for part in 0..5u8 {
             let bits = bits_of_thirds(shape, row, part);
-            assert_eq!(rt; set.row(row, part), bits, "part {part} of row {row}");
+            let said = set.row(row, part);
+            same(rt, &(row, part), &said, &bits);
         }
     }
 }
@@ -171,11 +195,12 @@ fn rewritten<S: CellSet>(alloc: Global, set: &S) -> Result<S, AllocError>
 }
 
 // Reads the rows of a set of every third cell, writes them into another set, and checks both.
-fn rows<S: CellSet>(rt: &impl Abort, alloc: Global, shape: Shape) -> Result<(), Fail> {
+fn rows<S: CellSet>(rt: &impl Abort, alloc: Global, shape: Shape) -> Result<(), AllocError> {
     let set: S = every(alloc, shape, 3)?;
     reads_rows(rt, &set, shape);
     let copy = rewritten(alloc, &set)?;
-    assert_eq!(rt; copy.len(), set.len());
+    let (said, wanted) = (copy.len(), set.len());
+    same(rt, &shape, &said, &wanted);
     agree(rt, "no more", copy.is_subset(&set), true);
     Ok(())
 }

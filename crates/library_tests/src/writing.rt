@@ -1,11 +1,11 @@
 //! Tests of writes that are cut short.
 ghost use Rattle.std.specs.Prelude.{◌≤◌};
 
-use crate::device_calls::BLOWN;
-use answers::{Blown, Device, Fuse, MadeBody, MadeRecord, Sink, WriteFault, write};
+use crate::device_calls::{BLOWN, holds, one_by_one};
+use crate::same::same;
+use answers::{Blown, MadeBody, MadeRecord, Sink, WriteFault, write};
 use std::alloc::{AllocError, Global};
 use std::process::Abort;
-use std::test::Fail;
 
 const TEXT: &[u8] = b"sokoban-answers 1\nlevel 1\nsolution\nR\nend\nlevel 3\nsolution\nend\n";
 
@@ -22,9 +22,15 @@ fn records(alloc: Global) -> Result<Vec<MadeRecord<'static>>, AllocError> {
     Ok(made)
 }
 
-// Writes records to any sink.
-fn write_to<S: Sink>(made: &[MadeRecord], sink: &mut S) -> Result<(), WriteFault> {
-    write(made, sink)
+// Writes records to any sink, and checks the answer.
+fn writes<S: Sink>(
+    rt: &impl Abort,
+    made: &[MadeRecord],
+    sink: &mut S,
+    answer: Result<(), WriteFault>,
+) {
+    let outcome = write(made, sink);
+    same(rt, &"write", &outcome, &answer);
 }
 
 // Checks that a sink that takes a number of bytes, one by one, holds them after a write.
@@ -34,27 +40,22 @@ fn holds_what_it_took(
     made: &[MadeRecord],
     taken: usize,
     blown: Blown,
-) -> Result<(), Fail>
+) -> Result<(), AllocError>
     requires { taken ≤ 62 }
 {
-    let mut sink = Device::new(Fuse {
-        inner: Vec::with_capacity(alloc, TEXT.len())?,
-        calls: taken as u64,
-        most: 1,
-        blown,
-    });
+    let mut sink = one_by_one(alloc, taken, blown)?;
     let answer = if taken == TEXT.len() {
         Ok(())
     } else {
         Err(WriteFault)
     };
-    assert_eq!(rt; write_to(made, &mut sink), answer);
-    assert_eq!(rt; sink.into_inner().inner.as_slice(), &TEXT[..taken]);
+    writes(rt, made, &mut sink, answer);
+    holds(rt, sink, &TEXT[..taken]);
     Ok(())
 }
 
 #[test]
-fn a_cut_text_stands_up_to_the_cut(rt: HostRuntime) -> Result<(), Fail> {
+fn a_cut_text_stands_up_to_the_cut(rt: HostRuntime) -> Result<(), AllocError> {
     let made = records(rt.alloc())?;
     for blown in BLOWN {
         for taken in 0..=TEXT.len() {
