@@ -1,8 +1,8 @@
 //! The calls of the layers, generic in the sets.
 
 use crate::{frugal, lists, shown, solutions};
-use answers::{Answers, Pattern, Record, Zone};
-use board::Board;
+use answers::{AnswersFault, Pattern, Record, RecordText, Zone};
+use board::{Board, LevelText};
 use cellset::{CellSet, Shape};
 use reach::Flooder;
 use std::alloc::Global;
@@ -17,14 +17,33 @@ const SMALL: &[u8] = b"#####\n#@$.#\n#####\n";
 pub const WIDE: &[u8] =
     b"######################################################################\n#@$.                                                                 #\n######################################################################\n";
 
-/// Returns the board of the first level of a text.
-pub fn board_of<S: CellSet>(alloc: Global, text: &[u8]) -> Option<Board<S>> {
-    let found = board::levels(alloc, text).ok()?;
-    board::read_board(alloc, found.first()?).ok()
+// Returns the first level of a text.
+fn level_of(alloc: Global, text: &[u8]) -> Option<LevelText<'_>> {
+    board::levels(alloc, text).ok()?.into_iter().next()
 }
 
-fn answers_of(alloc: Global, text: &[u8]) -> Option<Answers<'_>> {
-    answers::read(alloc, text, LEVELS).ok()
+/// Returns the board of the first level of a text.
+pub fn board_of<S: CellSet>(alloc: Global, text: &[u8]) -> Option<Board<S>> {
+    let level = level_of(alloc, text)?;
+    board::read_board(alloc, &level).ok()
+}
+
+/// Returns what the first record of a text says, and of which level.
+pub fn first_said(alloc: Global, text: &[u8]) -> Option<(usize, Record<'_>)> {
+    let read = answers::read(alloc, text, LEVELS).ok()?;
+    read.records.into_iter().next()
+}
+
+/// Returns the first record of a text that is split, if there is one.
+pub fn first_record(alloc: Global, text: &[u8]) -> Result<Option<RecordText<'_>>, AnswersFault> {
+    let records = answers::split(alloc, text, LEVELS)?;
+    Ok(records.first().copied())
+}
+
+// Returns the last record of a text that is split.
+fn last_record(alloc: Global, text: &[u8]) -> Option<RecordText<'_>> {
+    let records = answers::split(alloc, text, LEVELS).ok()?;
+    records.last().copied()
 }
 
 /// Makes the call with this name, or returns `None` if its values can't be made.
@@ -39,12 +58,12 @@ pub fn call<S: CellSet>(
         "levels" => find_levels(rt, alloc, levels),
         "read_board" => read_board::<S>(rt, alloc, levels),
         "read_next_board" => read_next_board::<S>(rt, alloc, levels),
+        "judge" => judge_level::<S>(rt, alloc, levels, answers),
         "read" => read(rt, alloc, answers),
         "split" => split(rt, alloc, answers),
         "read_record" => read_record(rt, alloc, answers),
         "letters" => letters(rt, alloc, answers),
-        "write" => frugal::writes(rt, alloc, answers_of(alloc, answers)?),
-        "judge" => judge_level::<S>(rt, alloc, levels, answers),
+        "write" => frugal::writes(rt, alloc, answers),
         _ => call_on_board::<S>(rt, alloc, name, levels, answers),
     }
 }
@@ -58,10 +77,12 @@ fn call_on_board<S: CellSet>(
     answers: &[u8],
 ) -> Option<()> {
     let board = board_of::<S>(alloc, levels)?;
-    on_board(rt, alloc, name, &board, answers)?;
-    let _ = print!(rt; "borrowed ");
-    shown::board(rt, &board);
-    Some(())
+    let made = on_board(rt, alloc, name, &board, answers);
+    if made.is_some() {
+        let _ = print!(rt; "borrowed ");
+        shown::board(rt, &board);
+    }
+    made
 }
 
 // Makes a call on a board.
@@ -74,23 +95,35 @@ fn on_board<S: CellSet>(
 ) -> Option<()> {
     match name {
         "new" => new_set(rt, alloc, board),
-        "renew" => renew_set(rt, alloc, board)?,
+        "renew" => renew_set(rt, alloc, board),
         "flood" => flood(rt, alloc, board),
-        "flooder" => flooder(rt, alloc, board)?,
+        "flooder" => flooder(rt, alloc, board),
         "start" => start(rt, alloc, board),
         "dead_squares" => dead_squares(rt, alloc, board),
-        "frozen" => frozen(rt, alloc, board)?,
+        "frozen" => frozen(rt, alloc, board),
         "make" => make(rt, alloc, board),
-        "steps" => frugal::steps(rt, alloc, board)?,
-        "sets" => frugal::sets(rt, alloc, board)?,
-        "cells" => frugal::cells(rt, board),
-        "pushes" => frugal::pushes(rt, alloc, board)?,
-        "replay" => solutions::replay(rt, alloc, board, answers)?,
-        "replay_lines" => solutions::replay_lines(rt, alloc, board, answers)?,
-        "replayer" => solutions::replayer(rt, alloc, board, answers)?,
-        _ => judge(rt, alloc, name, board, answers)?,
+        _ => on_more(rt, alloc, name, board, answers),
     }
-    Some(())
+}
+
+// Makes a call that allocates nothing, plays a solution or judges a certificate.
+fn on_more<S: CellSet>(
+    rt: &impl Print,
+    alloc: Global,
+    name: &str,
+    board: &Board<S>,
+    answers: &[u8],
+) -> Option<()> {
+    match name {
+        "steps" => frugal::steps(rt, alloc, board),
+        "sets" => frugal::sets(rt, alloc, board),
+        "cells" => frugal::cells(rt, board),
+        "pushes" => frugal::pushes(rt, alloc, board),
+        "replay" => solutions::replay(rt, alloc, board, answers),
+        "replay_lines" => solutions::replay_lines(rt, alloc, board, answers),
+        "replayer" => solutions::replayer(rt, alloc, board, answers),
+        _ => judge(rt, alloc, name, board, answers),
+    }
 }
 
 fn find_levels(rt: &impl Print, alloc: Global, text: &[u8]) -> Option<()> {
@@ -106,37 +139,29 @@ fn find_levels(rt: &impl Print, alloc: Global, text: &[u8]) -> Option<()> {
 }
 
 fn read_board<S: CellSet>(rt: &impl Print, alloc: Global, text: &[u8]) -> Option<()> {
-    let found = board::levels(alloc, text).ok()?;
-    let level = found.first()?;
-    match board::read_board::<S>(alloc, level) {
-        Ok(board) => {
-            shown::board(rt, &board);
-            drop(board);
-        }
-        Err(fault) => shown::value(rt, &fault),
-    }
+    let level = level_of(alloc, text)?;
+    let made = board::read_board::<S>(alloc, &level);
+    shown::made_board(rt, &made);
     shown::text(rt, text);
+    drop(made);
     Some(())
 }
 
 // Reads a wide board in the memory of a small one.
 fn wide_board<S: CellSet>(alloc: Global) -> Option<Board<S>> {
-    let wide = board::levels(alloc, WIDE).ok()?;
-    let level = wide.first()?;
+    let wide = level_of(alloc, WIDE)?;
     let small = board_of::<S>(alloc, SMALL)?;
-    board::read_next_board(alloc, level, Some(small)).ok()
+    board::read_next_board(alloc, &wide, Some(small)).ok()
 }
 
 // Reads the board of the first level in the memory of a wide board, which was read in the memory of a small one.
 fn read_next_board<S: CellSet>(rt: &impl Print, alloc: Global, text: &[u8]) -> Option<()> {
-    let found = board::levels(alloc, text).ok()?;
-    let level = found.first()?;
+    let level = level_of(alloc, text)?;
     let last = wide_board::<S>(alloc)?;
-    match board::read_next_board(alloc, level, Some(last)) {
-        Ok(board) => shown::board(rt, &board),
-        Err(fault) => shown::value(rt, &fault),
-    }
+    let made = board::read_next_board(alloc, &level, Some(last));
+    shown::made_board(rt, &made);
     shown::text(rt, text);
+    drop(made);
     Some(())
 }
 
@@ -168,33 +193,36 @@ fn split(rt: &impl Print, alloc: Global, text: &[u8]) -> Option<()> {
 
 // Reads the last record of a text that was split before.
 fn read_record(rt: &impl Print, alloc: Global, text: &[u8]) -> Option<()> {
-    let records = answers::split(alloc, text, LEVELS).ok()?;
-    let record = records.last()?;
-    shown::inner(rt, &record.read(alloc));
-    shown::borrowed(rt, record);
+    let record = last_record(alloc, text)?;
+    let said = record.read(alloc);
+    shown::inner(rt, &said);
+    drop(said);
+    shown::borrowed(rt, &record);
     shown::text(rt, text);
     Some(())
 }
 
 // Prints the letters of the last record of a text that was split before, in pieces.
 fn letters(rt: &impl Print, alloc: Global, text: &[u8]) -> Option<()> {
-    let records = answers::split(alloc, text, LEVELS).ok()?;
-    let record = records.last()?;
-    shown::inner(rt, &record.letters(alloc));
-    shown::borrowed(rt, record);
+    let record = last_record(alloc, text)?;
+    let pieces = record.letters(alloc);
+    shown::inner(rt, &pieces);
+    drop(pieces);
+    shown::borrowed(rt, &record);
     shown::text(rt, text);
     Some(())
 }
 
-fn new_set<S: CellSet>(rt: &impl Print, alloc: Global, board: &Board<S>) {
+fn new_set<S: CellSet>(rt: &impl Print, alloc: Global, board: &Board<S>) -> Option<()> {
     shown::made(rt, "new", &S::new(alloc, board.shape()));
+    Some(())
 }
 
 // Makes the empty set of another grid in the memory of one that has the walls.
 fn renew_set<S: CellSet>(rt: &impl Print, alloc: Global, board: &Board<S>) -> Option<()> {
+    let other = Shape::new(board.shape().height() as usize, 9)?;
     let mut walls = S::new(alloc, board.shape()).ok()?;
     walls.copy_from(board.walls());
-    let other = Shape::new(board.shape().height() as usize, 9)?;
     match walls.renew(alloc, other) {
         Ok(()) => shown::cells(rt, "new", &walls),
         Err(fault) => shown::value(rt, &fault),
@@ -202,10 +230,11 @@ fn renew_set<S: CellSet>(rt: &impl Print, alloc: Global, board: &Board<S>) -> Op
     Some(())
 }
 
-fn flood<S: CellSet>(rt: &impl Print, alloc: Global, board: &Board<S>) {
+fn flood<S: CellSet>(rt: &impl Print, alloc: Global, board: &Board<S>) -> Option<()> {
     let (shape, walls) = (board.shape(), board.walls());
     let region = reach::flood(alloc, shape, walls, board.boxes(), board.goals());
     shown::made(rt, "region", &region);
+    Some(())
 }
 
 fn flooder<S: CellSet>(rt: &impl Print, alloc: Global, board: &Board<S>) -> Option<()> {
@@ -220,17 +249,17 @@ fn flooder<S: CellSet>(rt: &impl Print, alloc: Global, board: &Board<S>) -> Opti
     Some(())
 }
 
-fn start<S: CellSet>(rt: &impl Print, alloc: Global, board: &Board<S>) {
+fn start<S: CellSet>(rt: &impl Print, alloc: Global, board: &Board<S>) -> Option<()> {
     match play::State::start(alloc, board) {
-        Ok(state) => {
-            shown::cells(rt, "state", state.boxes());
-        }
+        Ok(state) => shown::cells(rt, "state", state.boxes()),
         Err(fault) => shown::value(rt, &fault),
     }
+    Some(())
 }
 
-fn dead_squares<S: CellSet>(rt: &impl Print, alloc: Global, board: &Board<S>) {
+fn dead_squares<S: CellSet>(rt: &impl Print, alloc: Global, board: &Board<S>) -> Option<()> {
     shown::made(rt, "dead", &maker::dead_squares(alloc, board));
+    Some(())
 }
 
 fn frozen<S: CellSet>(rt: &impl Print, alloc: Global, board: &Board<S>) -> Option<()> {
@@ -240,8 +269,9 @@ fn frozen<S: CellSet>(rt: &impl Print, alloc: Global, board: &Board<S>) -> Optio
     Some(())
 }
 
-fn make<S: CellSet>(rt: &impl Print, alloc: Global, board: &Board<S>) {
+fn make<S: CellSet>(rt: &impl Print, alloc: Global, board: &Board<S>) -> Option<()> {
     shown::inner(rt, &maker::make(alloc, board));
+    Some(())
 }
 
 // Prints the status of the first level by the first record.
@@ -251,11 +281,11 @@ fn judge_level<S: CellSet>(
     levels: &[u8],
     answers: &[u8],
 ) -> Option<()> {
-    let found = board::levels(alloc, levels).ok()?;
-    let level = found.first()?;
-    let records = answers::split(alloc, answers, LEVELS).ok()?;
+    let level = level_of(alloc, levels)?;
+    let record = first_record(alloc, answers).ok()?;
     let mut scratch = report::Scratch::<S>::new(alloc);
-    let status = report::judge(alloc, level, records.first(), &mut scratch);
+    let status = report::judge(alloc, &level, record.as_ref(), &mut scratch);
+    drop(scratch);
     shown::inner(rt, &status);
     shown::text(rt, levels);
     shown::text(rt, answers);
@@ -270,8 +300,8 @@ fn judge<S: CellSet>(
     board: &Board<S>,
     answers: &[u8],
 ) -> Option<()> {
-    let read = answers_of(alloc, answers)?;
-    match &read.records.first()?.1 {
+    let (_, record) = first_said(alloc, answers)?;
+    match &record {
         Record::Patterns(patterns) => judge_patterns(rt, alloc, name, board, patterns),
         Record::Zone(zone) => judge_zone(rt, alloc, name, board, zone),
         Record::Solution(_) => None,

@@ -1,12 +1,13 @@
 //! Lists of patterns, made ready for lookups.
-ghost use Rattle.std.specs.Prelude.{◌≡◌, IsTrue, map};
+ghost use Rattle.std.specs.Prelude.{◌≡◌, IfSome, IsTrue, map};
 ghost use Rattle.answers.specs.Grammar.{said_pattern};
+ghost use Rattle.cellset.specs.Cell.{IsOn};
 ghost use Rattle.patterns.specs.Pattern.{AreLawful, patterns_of};
 
 use crate::shown;
 use answers::Pattern;
 use board::Board;
-use cellset::CellSet;
+use cellset::{Cell, CellSet, Shape};
 use closure::{CheckFault, Coverage, Index, Scan, check};
 use reach::{Push, Pushes};
 use std::alloc::Global;
@@ -31,10 +32,10 @@ pub fn scan<S: CellSet>(
     board: &Board<S>,
     patterns: &[Pattern],
 ) -> Option<()> {
-    let mut boxes = S::new(alloc, board.shape()).ok()?;
     if !is_lawful(alloc, board, patterns) {
         return None;
     }
+    let mut boxes = S::new(alloc, board.shape()).ok()?;
     match Scan::build(alloc, board, patterns) {
         Ok(mut scan) => {
             look_up(rt, board, &mut scan, &mut boxes);
@@ -52,10 +53,10 @@ pub fn index<S: CellSet>(
     board: &Board<S>,
     patterns: &[Pattern],
 ) -> Option<()> {
-    let mut boxes = S::new(alloc, board.shape()).ok()?;
     if !is_lawful(alloc, board, patterns) {
         return None;
     }
+    let mut boxes = S::new(alloc, board.shape()).ok()?;
     match Index::build(alloc, board, patterns) {
         Ok(mut index) => {
             look_up(rt, board, &mut index, &mut boxes);
@@ -77,13 +78,22 @@ fn look_up<S: CellSet, C: Coverage<S>>(
     requires coverage { C.extent coverage.old ≡ board.now.shape }
     requires boxes { S.extent boxes.old ≡ board.now.shape }
 {
+    starts(rt, board, coverage);
+    for push in Pushes::new(board.shape(), board.walls(), board.boxes(), board.room()) {
+        let covered = is_covered_after(board, coverage, boxes, push);
+        shown::word(rt, &push);
+        shown::value(rt, &covered);
+    }
+}
+
+// Prints whether the start and the state with the boxes on the goals are covered.
+fn starts<S: CellSet, C: Coverage<S>>(rt: &impl Print, board: &Board<S>, coverage: &mut C)
+    requires { C.extent coverage.old ≡ board.now.shape }
+    ensures { C.extent coverage.new ≡ board.now.shape }
+{
     let start = coverage.covers(board.player(), board.boxes());
     let goals = coverage.covers(board.player(), board.goals());
     let _ = println!(rt; "covers {start} {goals}");
-    for push in Pushes::new(board.shape(), board.walls(), board.boxes(), board.room()) {
-        let covered = is_covered_after(board, coverage, boxes, push);
-        let _ = println!(rt; "{push:?} {covered:?}");
-    }
 }
 
 // Returns whether the state after a push from the start is covered.
@@ -98,11 +108,27 @@ fn is_covered_after<S: CellSet, C: Coverage<S>>(
     ensures coverage { C.extent coverage.new ≡ board.now.shape }
     ensures boxes { S.extent boxes.new ≡ board.now.shape }
 {
-    let (shape, from, to) = (board.shape(), push.from, push.to);
-    let from = shape.cell(u16::from(from.column()), u16::from(from.row()))?;
-    let to = shape.cell(u16::from(to.column()), u16::from(to.row()))?;
+    let player = push_box(board, boxes, push)?;
+    Some(coverage.covers(player, boxes))
+}
+
+// Makes a push from the start. Returns the player's cell after it.
+fn push_box<S: CellSet>(board: &Board<S>, boxes: &mut S, push: Push) -> Option<Cell>
+    requires { S.extent boxes.old ≡ board.now.shape }
+    ensures boxes { S.extent boxes.new ≡ board.now.shape }
+    ensures player { IfSome result (IsOn board.now.shape) }
+{
+    let from = on_shape(board.shape(), push.from)?;
+    let to = on_shape(board.shape(), push.to)?;
     boxes.copy_from(board.boxes());
     boxes.remove(from);
     boxes.insert(to);
-    Some(coverage.covers(from, boxes))
+    Some(from)
+}
+
+// Returns the cell, if it is on the shape.
+fn on_shape(shape: Shape, cell: Cell) -> Option<Cell>
+    ensures { IfSome result (IsOn shape) }
+{
+    shape.cell(u16::from(cell.column()), u16::from(cell.row()))
 }

@@ -14,6 +14,7 @@ mod solutions;
 mod whole;
 
 use cellset::{BitSet, ListSet};
+use std::alloc::Global;
 use std::env;
 use std::process::ExitCode;
 
@@ -31,7 +32,14 @@ fn main(rt: HostRuntime) -> ExitCode {
 fn call(rt: &HostRuntime) -> Option<()> {
     let alloc = rt.alloc();
     let words: Vec<String> = env::args(rt).ok()?.collect(alloc).ok()?;
-    let [_, sets, name, levels, answers] = words.as_slice() else {
+    let made = call_of(rt, alloc, &words);
+    drop(words);
+    made
+}
+
+// Makes the call that these words name.
+fn call_of(rt: &impl Print, alloc: Global, words: &[String]) -> Option<()> {
+    let [_, sets, name, levels, answers] = words else {
         return None;
     };
     let (levels, answers) = (levels.as_bytes(), answers.as_bytes());

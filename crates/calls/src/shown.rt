@@ -11,6 +11,11 @@ pub fn value(rt: &impl Print, value: &impl Debug) {
     let _ = println!(rt; "{value:?}");
 }
 
+/// Prints a value and a space.
+pub fn word(rt: &impl Print, value: &impl Debug) {
+    let _ = print!(rt; "{value:?} ");
+}
+
 /// Prints a result, and returns whether it is `Ok`.
 pub fn result<T: Debug, E: Debug>(rt: &impl Print, outcome: &Result<T, E>) -> bool {
     value(rt, outcome);
@@ -63,6 +68,14 @@ pub fn cells<S: CellSet>(rt: &impl Print, name: &str, set: &S) {
     let _ = println!(rt; "");
 }
 
+/// Prints the board that a call made, or its error.
+pub fn made_board<S: CellSet, E: Debug>(rt: &impl Print, outcome: &Result<Board<S>, E>) {
+    match outcome {
+        Ok(it) => board(rt, it),
+        Err(fault) => value(rt, fault),
+    }
+}
+
 /// Prints the parts of a board.
 pub fn board<S: CellSet>(rt: &impl Print, board: &Board<S>) {
     let (shape, player) = (board.shape(), board.player());
@@ -81,21 +94,25 @@ fn coords(rt: &impl Print, coords: &[Coord]) {
     }
 }
 
+fn seeds(rt: &impl Print, seeds: &Seeds) {
+    match seeds {
+        Seeds::Room => {
+            let _ = print!(rt; " @ *");
+        }
+        Seeds::Cells(seeds) => {
+            let _ = print!(rt; " @");
+            coords(rt, seeds);
+        }
+    }
+}
+
 /// Prints the patterns of a borrowed list.
 pub fn patterns(rt: &impl Print, patterns: &[Pattern]) {
     for pattern in patterns {
         let line = pattern.line;
         let _ = print!(rt; "borrowed line {line} pattern");
         coords(rt, &pattern.boxes);
-        match &pattern.seeds {
-            Seeds::Room => {
-                let _ = print!(rt; " @ *");
-            }
-            Seeds::Cells(seeds) => {
-                let _ = print!(rt; " @");
-                coords(rt, seeds);
-            }
-        }
+        seeds(rt, &pattern.seeds);
         let _ = println!(rt; "");
     }
 }

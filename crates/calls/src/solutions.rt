@@ -1,7 +1,7 @@
 //! Solutions, played in one piece and in the pieces in which they stand in a text.
 ghost use Rattle.std.specs.Prelude.{◌<◌, ◌^◌, IfSome, length, sum_by};
 
-use crate::layers::{LEVELS, WIDE, board_of};
+use crate::layers::{WIDE, board_of, first_record};
 use crate::shown;
 use board::Board;
 use cellset::CellSet;
@@ -12,9 +12,19 @@ use std::alloc::Global;
 fn pieces_of(alloc: Global, answers: &[u8]) -> Option<Vec<&[u8]>>
     ensures { IfSome result (λ pieces. sum_by (λ piece. length piece.now) pieces.items < 2 ^ 64) }
 {
-    let records = answers::split(alloc, answers, LEVELS).ok()?;
-    let pieces = records.first()?.letters(alloc).ok()?;
+    let record = first_record(alloc, answers).ok()??;
+    let pieces = record.letters(alloc).ok()?;
     Some(pieces)
+}
+
+// Returns the letters of the first record as one text.
+fn letters_of(alloc: Global, answers: &[u8]) -> Option<Vec<u8>> {
+    let pieces = pieces_of(alloc, answers)?;
+    let mut letters = Vec::new(alloc);
+    for piece in pieces.iter() {
+        letters.extend_from_slice(piece).ok()?;
+    }
+    Some(letters)
 }
 
 /// Plays the letters of the first record as one text.
@@ -24,11 +34,7 @@ pub fn replay<S: CellSet>(
     board: &Board<S>,
     answers: &[u8],
 ) -> Option<()> {
-    let pieces = pieces_of(alloc, answers)?;
-    let mut letters = Vec::new(alloc);
-    for piece in pieces.iter() {
-        letters.extend_from_slice(piece).ok()?;
-    }
+    let letters = letters_of(alloc, answers)?;
     shown::value(rt, &play::replay(alloc, board, &letters));
     shown::text(rt, &letters);
     Some(())
@@ -47,6 +53,16 @@ pub fn replay_lines<S: CellSet>(
     Some(())
 }
 
+// Plays a wide level, and returns the memory in which it was played.
+fn wide_replayer<S: CellSet>(alloc: Global) -> Option<Replayer> {
+    let mut replayer = Replayer::new(alloc);
+    let wide = board_of::<S>(alloc, WIDE)?;
+    let outcome = replayer.replay_lines(&wide, &[b"R"]);
+    drop(wide);
+    outcome.ok()?;
+    Some(replayer)
+}
+
 /// Plays the letters of the first record in their pieces, in the memory in which a wide level was played.
 pub fn replayer<S: CellSet>(
     rt: &impl Print,
@@ -54,10 +70,8 @@ pub fn replayer<S: CellSet>(
     board: &Board<S>,
     answers: &[u8],
 ) -> Option<()> {
+    let mut replayer = wide_replayer::<S>(alloc)?;
     let pieces = pieces_of(alloc, answers)?;
-    let wide = board_of::<S>(alloc, WIDE)?;
-    let mut replayer = Replayer::new(alloc);
-    replayer.replay_lines(&wide, &[b"R"]).ok()?;
     shown::value(rt, &replayer.replay_lines(board, &pieces));
     shown::text(rt, answers);
     Some(())

@@ -26,20 +26,36 @@ pub fn call(
     answers: &[u8],
 ) -> Option<()> {
     match name {
-        "audit_texts" => return report(rt, alloc, levels, answers),
-        _ => {}
+        "audit_texts" => report(rt, alloc, levels, answers),
+        _ => through_memory(rt, alloc, name, levels, answers),
     }
+}
+
+// Makes the call with this name through devices over memory.
+fn through_memory(
+    rt: &impl Print,
+    alloc: Global,
+    name: &str,
+    levels: &[u8],
+    answers: &[u8],
+) -> Option<()> {
+    let room = Vec::with_capacity(alloc, ROOM).ok()?;
     let mut devices = Devices {
         levels: Device::new(levels),
         answers: Device::new(answers),
-        sink: Device::new(Vec::with_capacity(alloc, ROOM).ok()?),
+        sink: Device::new(room),
     };
-    through(rt, alloc, name, &mut devices)?;
-    shown::held(rt, &devices.sink.into_inner());
-    shown::text(rt, levels);
-    if name == "audit" {
-        shown::text(rt, answers);
+    let made = through(rt, alloc, name, &mut devices);
+    let held = devices.sink.into_inner();
+    if made.is_some() {
+        shown::held(rt, &held);
+        shown::text(rt, levels);
+        if name == "audit" {
+            shown::text(rt, answers);
+        }
     }
+    drop(held);
+    made?;
     Some(())
 }
 
@@ -81,8 +97,10 @@ fn map<L: Source, S: Sink>(
 fn report(rt: &impl Print, alloc: Global, levels: &[u8], answers: &[u8]) -> Option<()> {
     match audit_texts(alloc, levels, answers) {
         Ok((text, summary)) => {
-            let text = str::from_utf8(&text).unwrap_or("not text");
-            let _ = println!(rt; "{summary:?}\n{text}");
+            shown::value(rt, &summary);
+            let shown = str::from_utf8(&text).unwrap_or("not text");
+            let _ = println!(rt; "{shown}");
+            drop(text);
         }
         Err(fault) => {
             let _ = println!(rt; "Err({fault:?})");
