@@ -1,15 +1,14 @@
 //! The calls that allocate nothing, on values that were made before.
-ghost use Rattle.std.specs.Prelude.{◌≡◌, IfSome};
-ghost use Rattle.cellset.specs.Cell.{IsOn};
+ghost use Rattle.std.specs.Prelude.{◌≡◌};
 
 use crate::{layers, shown};
 use answers::{Device, MadeBody, MadeRecord, Record, write};
 use board::Board;
-use cellset::{Cell, CellSet, Dir};
+use cellset::{CellSet, Dir};
 use play::State;
 use reach::Pushes;
 use std::alloc::Global;
-use std::str;
+use std::slice;
 
 // The number of bytes for which a sink has room from the start.
 const ROOM: usize = 4096;
@@ -40,34 +39,18 @@ fn step<S: CellSet>(rt: &impl Print, state: &mut State<S>, board: &Board<S>, dir
 pub fn sets<S: CellSet>(rt: &impl Print, alloc: Global, board: &Board<S>) -> Option<()> {
     let mut set = S::new(alloc, board.shape()).ok()?;
     let player = board.player();
-    one_cell(rt, &mut set, player);
-    boxes_and_goals(rt, &mut set, board);
-    one_row(rt, &mut set, player.row());
-    Some(())
-}
-
-// Puts a cell into a set and takes it out.
-fn one_cell<S: CellSet>(rt: &impl Print, set: &mut S, cell: Cell)
-    requires { IsOn (S.extent set.old) cell }
-    ensures { S.extent set.new ≡ S.extent set.old }
-{
-    shown::word(rt, &set.insert(cell));
-    shown::word(rt, &set.insert(cell));
-    shown::word(rt, &set.contains(cell));
-    shown::value(rt, &set.remove(cell));
-}
-
-// Puts the boxes and the goals of the board into a set.
-fn boxes_and_goals<S: CellSet>(rt: &impl Print, set: &mut S, board: &Board<S>)
-    requires { S.extent set.old ≡ board.now.shape }
-    ensures { S.extent set.new ≡ board.now.shape }
-{
+    shown::word(rt, &set.insert(player));
+    shown::word(rt, &set.insert(player));
+    shown::word(rt, &set.contains(player));
+    shown::value(rt, &set.remove(player));
     set.copy_from(board.boxes());
     set.union_with(board.goals());
     shown::word(rt, &set.len());
-    shown::word(rt, &board.boxes().is_subset(set));
-    shown::value(rt, &set.next_from(board.player()));
-    shown::cells(rt, "boxes and goals", set);
+    shown::word(rt, &board.boxes().is_subset(&set));
+    shown::value(rt, &set.next_from(player));
+    shown::cells(rt, "boxes and goals", &set);
+    one_row(rt, &mut set, player.row());
+    Some(())
 }
 
 // Clears a set but for the first cells of a row.
@@ -80,28 +63,22 @@ fn one_row<S: CellSet>(rt: &impl Print, set: &mut S, row: u8) {
 }
 
 /// Prints the cells beside the player's cell, and the next one in reading order.
-pub fn cells<S: CellSet>(rt: &impl Print, board: &Board<S>) -> Option<()> {
+pub fn cells<S: CellSet>(rt: &impl Print, board: &Board<S>) {
     let (shape, player) = (board.shape(), board.player());
     shown::word(rt, &shape.step(player, Dir::L));
     shown::word(rt, &shape.step(player, Dir::U));
     shown::word(rt, &shape.step(player, Dir::R));
     shown::word(rt, &shape.step(player, Dir::D));
     shown::value(rt, &shape.next(player));
-    Some(())
-}
-
-// Returns the player's region.
-fn region_of<S: CellSet>(alloc: Global, board: &Board<S>) -> Option<S>
-    ensures { IfSome result (λ s. S.extent s ≡ board.now.shape) }
-{
-    let mut seeds = S::new(alloc, board.shape()).ok()?;
-    seeds.insert(board.player());
-    reach::flood(alloc, board.shape(), board.walls(), board.boxes(), &seeds).ok()
 }
 
 /// Prints the pushes out of the player's region.
 pub fn pushes<S: CellSet>(rt: &impl Print, alloc: Global, board: &Board<S>) -> Option<()> {
-    let region = region_of(alloc, board)?;
+    let mut seeds = S::new(alloc, board.shape()).ok()?;
+    seeds.insert(board.player());
+    let made = reach::flood(alloc, board.shape(), board.walls(), board.boxes(), &seeds);
+    drop(seeds);
+    let region = made.ok()?;
     for push in Pushes::new(board.shape(), board.walls(), board.boxes(), &region) {
         shown::value(rt, &push);
     }
@@ -122,7 +99,8 @@ fn body_of(record: Record<'_>) -> Option<MadeBody<'_>> {
 pub fn writes(rt: &impl Print, alloc: Global, answers: &[u8]) -> Option<()> {
     let (level, record) = layers::first_said(alloc, answers)?;
     let body = body_of(record)?;
-    write_one(rt, alloc, &[MadeRecord { level, body }])
+    let made = MadeRecord { level, body };
+    write_one(rt, alloc, slice::from_ref(&made))
 }
 
 // Prints the canonical text of records.
@@ -132,8 +110,7 @@ fn write_one(rt: &impl Print, alloc: Global, made: &[MadeRecord]) -> Option<()> 
     let outcome = write(made, &mut sink);
     shown::value(rt, &outcome);
     let held = sink.into_inner();
-    let text = str::from_utf8(&held).unwrap_or("not text");
-    let _ = println!(rt; "{text}");
+    shown::bytes(rt, &held);
     drop(held);
     Some(())
 }

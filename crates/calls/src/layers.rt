@@ -5,7 +5,7 @@ use answers::{AnswersFault, Pattern, Record, RecordText, Zone};
 use board::{Board, LevelText};
 use cellset::{CellSet, Shape};
 use reach::Flooder;
-use std::alloc::Global;
+use std::alloc::{AllocError, Global};
 
 /// The number of levels for which answers are read.
 pub const LEVELS: usize = 3;
@@ -79,7 +79,7 @@ fn call_on_board<S: CellSet>(
     let board = board_of::<S>(alloc, levels)?;
     let made = on_board(rt, alloc, name, &board, answers);
     if made.is_some() {
-        let _ = print!(rt; "borrowed ");
+        let _ = rt.print("borrowed ");
         shown::board(rt, &board);
     }
     made
@@ -94,19 +94,20 @@ fn on_board<S: CellSet>(
     answers: &[u8],
 ) -> Option<()> {
     match name {
-        "new" => new_set(rt, alloc, board),
-        "renew" => renew_set(rt, alloc, board),
-        "flood" => flood(rt, alloc, board),
-        "flooder" => flooder(rt, alloc, board),
+        "new" => shown::made(rt, "new", S::new(alloc, board.shape())),
+        "renew" => shown::made(rt, "new", renewed(alloc, board)?),
+        "flood" => shown::made(rt, "region", flood(alloc, board)),
+        "flooder" => shown::made(rt, "region", flooder(alloc, board)),
         "start" => start(rt, alloc, board),
-        "dead_squares" => dead_squares(rt, alloc, board),
-        "frozen" => frozen(rt, alloc, board),
-        "make" => make(rt, alloc, board),
-        _ => on_more(rt, alloc, name, board, answers),
+        "dead_squares" => shown::made(rt, "dead", maker::dead_squares(alloc, board)),
+        "make" => shown::inner(rt, maker::make(alloc, board)),
+        "cells" => frugal::cells(rt, board),
+        _ => return on_more(rt, alloc, name, board, answers),
     }
+    Some(())
 }
 
-// Makes a call that allocates nothing, plays a solution or judges a certificate.
+// Makes a call on a board for which more is made before.
 fn on_more<S: CellSet>(
     rt: &impl Print,
     alloc: Global,
@@ -115,9 +116,9 @@ fn on_more<S: CellSet>(
     answers: &[u8],
 ) -> Option<()> {
     match name {
+        "frozen" => frozen(rt, alloc, board),
         "steps" => frugal::steps(rt, alloc, board),
         "sets" => frugal::sets(rt, alloc, board),
-        "cells" => frugal::cells(rt, board),
         "pushes" => frugal::pushes(rt, alloc, board),
         "replay" => solutions::replay(rt, alloc, board, answers),
         "replay_lines" => solutions::replay_lines(rt, alloc, board, answers),
@@ -140,10 +141,8 @@ fn find_levels(rt: &impl Print, alloc: Global, text: &[u8]) -> Option<()> {
 
 fn read_board<S: CellSet>(rt: &impl Print, alloc: Global, text: &[u8]) -> Option<()> {
     let level = level_of(alloc, text)?;
-    let made = board::read_board::<S>(alloc, &level);
-    shown::made_board(rt, &made);
+    shown::made_board(rt, board::read_board::<S>(alloc, &level));
     shown::text(rt, text);
-    drop(made);
     Some(())
 }
 
@@ -159,9 +158,8 @@ fn read_next_board<S: CellSet>(rt: &impl Print, alloc: Global, text: &[u8]) -> O
     let level = level_of(alloc, text)?;
     let last = wide_board::<S>(alloc)?;
     let made = board::read_next_board(alloc, &level, Some(last));
-    shown::made_board(rt, &made);
+    shown::made_board(rt, made);
     shown::text(rt, text);
-    drop(made);
     Some(())
 }
 
@@ -194,9 +192,7 @@ fn split(rt: &impl Print, alloc: Global, text: &[u8]) -> Option<()> {
 // Reads the last record of a text that was split before.
 fn read_record(rt: &impl Print, alloc: Global, text: &[u8]) -> Option<()> {
     let record = last_record(alloc, text)?;
-    let said = record.read(alloc);
-    shown::inner(rt, &said);
-    drop(said);
+    shown::inner(rt, record.read(alloc));
     shown::borrowed(rt, &record);
     shown::text(rt, text);
     Some(())
@@ -205,72 +201,51 @@ fn read_record(rt: &impl Print, alloc: Global, text: &[u8]) -> Option<()> {
 // Prints the letters of the last record of a text that was split before, in pieces.
 fn letters(rt: &impl Print, alloc: Global, text: &[u8]) -> Option<()> {
     let record = last_record(alloc, text)?;
-    let pieces = record.letters(alloc);
-    shown::inner(rt, &pieces);
-    drop(pieces);
+    shown::inner(rt, record.letters(alloc));
     shown::borrowed(rt, &record);
     shown::text(rt, text);
     Some(())
 }
 
-fn new_set<S: CellSet>(rt: &impl Print, alloc: Global, board: &Board<S>) -> Option<()> {
-    shown::made(rt, "new", &S::new(alloc, board.shape()));
-    Some(())
-}
-
 // Makes the empty set of another grid in the memory of one that has the walls.
-fn renew_set<S: CellSet>(rt: &impl Print, alloc: Global, board: &Board<S>) -> Option<()> {
+fn renewed<S: CellSet>(alloc: Global, board: &Board<S>) -> Option<Result<S, AllocError>> {
     let other = Shape::new(board.shape().height() as usize, 9)?;
     let mut walls = S::new(alloc, board.shape()).ok()?;
     walls.copy_from(board.walls());
     match walls.renew(alloc, other) {
-        Ok(()) => shown::cells(rt, "new", &walls),
-        Err(fault) => shown::value(rt, &fault),
+        Ok(()) => Some(Ok(walls)),
+        Err(fault) => Some(Err(fault)),
     }
-    Some(())
 }
 
-fn flood<S: CellSet>(rt: &impl Print, alloc: Global, board: &Board<S>) -> Option<()> {
+fn flood<S: CellSet>(alloc: Global, board: &Board<S>) -> Result<S, AllocError> {
     let (shape, walls) = (board.shape(), board.walls());
-    let region = reach::flood(alloc, shape, walls, board.boxes(), board.goals());
-    shown::made(rt, "region", &region);
-    Some(())
+    reach::flood(alloc, shape, walls, board.boxes(), board.goals())
 }
 
-fn flooder<S: CellSet>(rt: &impl Print, alloc: Global, board: &Board<S>) -> Option<()> {
-    let mut region = S::new(alloc, board.shape()).ok()?;
-    match Flooder::new(alloc, board.shape()) {
-        Ok(mut flooder) => {
-            flooder.flood_into(board.walls(), board.boxes(), board.goals(), &mut region);
-            shown::cells(rt, "region", &region);
-        }
-        Err(fault) => shown::value(rt, &fault),
-    }
-    Some(())
+fn flooder<S: CellSet>(alloc: Global, board: &Board<S>) -> Result<S, AllocError> {
+    let mut flooder = Flooder::new(alloc, board.shape())?;
+    let made = S::new(alloc, board.shape());
+    let Ok(mut region) = made else {
+        drop(flooder);
+        return Err(AllocError);
+    };
+    flooder.flood_into(board.walls(), board.boxes(), board.goals(), &mut region);
+    drop(flooder);
+    Ok(region)
 }
 
-fn start<S: CellSet>(rt: &impl Print, alloc: Global, board: &Board<S>) -> Option<()> {
+fn start<S: CellSet>(rt: &impl Print, alloc: Global, board: &Board<S>) {
     match play::State::start(alloc, board) {
         Ok(state) => shown::cells(rt, "state", state.boxes()),
         Err(fault) => shown::value(rt, &fault),
     }
-    Some(())
-}
-
-fn dead_squares<S: CellSet>(rt: &impl Print, alloc: Global, board: &Board<S>) -> Option<()> {
-    shown::made(rt, "dead", &maker::dead_squares(alloc, board));
-    Some(())
 }
 
 fn frozen<S: CellSet>(rt: &impl Print, alloc: Global, board: &Board<S>) -> Option<()> {
     let dead = maker::dead_squares(alloc, board).ok()?;
-    shown::made(rt, "frozen", &maker::frozen(alloc, board, &dead));
+    shown::made(rt, "frozen", maker::frozen(alloc, board, &dead));
     shown::cells(rt, "borrowed dead", &dead);
-    Some(())
-}
-
-fn make<S: CellSet>(rt: &impl Print, alloc: Global, board: &Board<S>) -> Option<()> {
-    shown::inner(rt, &maker::make(alloc, board));
     Some(())
 }
 
@@ -286,7 +261,7 @@ fn judge_level<S: CellSet>(
     let mut scratch = report::Scratch::<S>::new(alloc);
     let status = report::judge(alloc, &level, record.as_ref(), &mut scratch);
     drop(scratch);
-    shown::inner(rt, &status);
+    shown::inner(rt, status);
     shown::text(rt, levels);
     shown::text(rt, answers);
     Some(())
@@ -301,12 +276,14 @@ fn judge<S: CellSet>(
     answers: &[u8],
 ) -> Option<()> {
     let (_, record) = first_said(alloc, answers)?;
-    match &record {
+    let judged = match &record {
         Record::Patterns(patterns) => judge_patterns(rt, alloc, name, board, patterns),
         Record::Zone(zone) => judge_zone(rt, alloc, name, board, zone),
         Record::Solution(_) => None,
         Record::BadLine { line: _, why: _ } => None,
-    }
+    };
+    drop(record);
+    judged
 }
 
 fn judge_patterns<S: CellSet>(

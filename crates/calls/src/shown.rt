@@ -1,8 +1,9 @@
 //! Prints values without allocating.
 
 use answers::{Coord, Pattern, Seeds, Zone};
-use board::Board;
+use board::{Board, BoardFault};
 use cellset::{CellSet, MembersOf};
+use std::alloc::AllocError;
 use std::fmt::Debug;
 use std::str;
 
@@ -17,16 +18,16 @@ pub fn word(rt: &impl Print, value: &impl Debug) {
 }
 
 /// Prints a result, and returns whether it is `Ok`.
-pub fn result<T: Debug, E: Debug>(rt: &impl Print, outcome: &Result<T, E>) -> bool {
-    value(rt, outcome);
+pub fn result<T: Debug + Drop, E: Debug + Drop>(rt: &impl Print, outcome: Result<T, E>) -> bool {
+    value(rt, &outcome);
     outcome.is_ok()
 }
 
 /// Prints the value of a result, or its error.
-pub fn inner<T: Debug, E: Debug>(rt: &impl Print, outcome: &Result<T, E>) {
+pub fn inner<T: Debug + Drop, E: Debug + Drop>(rt: &impl Print, outcome: Result<T, E>) {
     match outcome {
-        Ok(it) => value(rt, it),
-        Err(fault) => value(rt, fault),
+        Ok(it) => value(rt, &it),
+        Err(fault) => value(rt, &fault),
     }
 }
 
@@ -36,17 +37,23 @@ pub fn borrowed(rt: &impl Print, it: &impl Debug) {
 }
 
 /// Prints the set that a call made, or its error.
-pub fn made<S: CellSet, E: Debug>(rt: &impl Print, name: &str, outcome: &Result<S, E>) {
+pub fn made<S: CellSet>(rt: &impl Print, name: &str, outcome: Result<S, AllocError>) {
     match outcome {
-        Ok(set) => cells(rt, name, set),
-        Err(fault) => value(rt, fault),
+        Ok(set) => cells(rt, name, &set),
+        Err(fault) => value(rt, &fault),
     }
+}
+
+/// Prints bytes as text.
+pub fn bytes(rt: &impl Print, bytes: &[u8]) {
+    let text = str::from_utf8(bytes).unwrap_or("not text");
+    let _ = rt.println(text);
 }
 
 /// Prints what a sink holds.
 pub fn held(rt: &impl Print, held: &[u8]) {
-    let held = str::from_utf8(held).unwrap_or("not text");
-    let _ = println!(rt; "the sink holds\n{held}");
+    let _ = rt.println("the sink holds");
+    bytes(rt, held);
 }
 
 /// Prints a borrowed text in one line.
@@ -61,18 +68,18 @@ fn position(rt: &impl Print, column: u16, row: u16) {
 
 /// Prints the members of a set.
 pub fn cells<S: CellSet>(rt: &impl Print, name: &str, set: &S) {
-    let _ = print!(rt; "{name}");
+    let _ = rt.print(name);
     for cell in MembersOf::new(set) {
         position(rt, u16::from(cell.column()), u16::from(cell.row()));
     }
-    let _ = println!(rt; "");
+    let _ = rt.println("");
 }
 
 /// Prints the board that a call made, or its error.
-pub fn made_board<S: CellSet, E: Debug>(rt: &impl Print, outcome: &Result<Board<S>, E>) {
+pub fn made_board<S: CellSet>(rt: &impl Print, outcome: Result<Board<S>, BoardFault>) {
     match outcome {
-        Ok(it) => board(rt, it),
-        Err(fault) => value(rt, fault),
+        Ok(it) => board(rt, &it),
+        Err(fault) => value(rt, &fault),
     }
 }
 
@@ -97,10 +104,10 @@ fn coords(rt: &impl Print, coords: &[Coord]) {
 fn seeds(rt: &impl Print, seeds: &Seeds) {
     match seeds {
         Seeds::Room => {
-            let _ = print!(rt; " @ *");
+            let _ = rt.print(" @ *");
         }
         Seeds::Cells(seeds) => {
-            let _ = print!(rt; " @");
+            let _ = rt.print(" @");
             coords(rt, seeds);
         }
     }
@@ -113,7 +120,7 @@ pub fn patterns(rt: &impl Print, patterns: &[Pattern]) {
         let _ = print!(rt; "borrowed line {line} pattern");
         coords(rt, &pattern.boxes);
         seeds(rt, &pattern.seeds);
-        let _ = println!(rt; "");
+        let _ = rt.println("");
     }
 }
 
@@ -122,5 +129,5 @@ pub fn zone(rt: &impl Print, zone: &Zone) {
     let line = zone.line;
     let _ = print!(rt; "borrowed line {line} zone");
     coords(rt, &zone.cells);
-    let _ = println!(rt; "");
+    let _ = rt.println("");
 }

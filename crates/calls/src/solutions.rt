@@ -12,19 +12,13 @@ use std::alloc::Global;
 fn pieces_of(alloc: Global, answers: &[u8]) -> Option<Vec<&[u8]>>
     ensures { IfSome result (λ pieces. sum_by (λ piece. length piece.now) pieces.items < 2 ^ 64) }
 {
-    let record = first_record(alloc, answers).ok()??;
-    let pieces = record.letters(alloc).ok()?;
-    Some(pieces)
-}
-
-// Returns the letters of the first record as one text.
-fn letters_of(alloc: Global, answers: &[u8]) -> Option<Vec<u8>> {
-    let pieces = pieces_of(alloc, answers)?;
-    let mut letters = Vec::new(alloc);
-    for piece in pieces.iter() {
-        letters.extend_from_slice(piece).ok()?;
+    let Ok(Some(record)) = first_record(alloc, answers) else {
+        return None;
+    };
+    match record.letters(alloc) {
+        Ok(pieces) => Some(pieces),
+        Err(_) => None,
     }
-    Some(letters)
 }
 
 /// Plays the letters of the first record as one text.
@@ -34,7 +28,12 @@ pub fn replay<S: CellSet>(
     board: &Board<S>,
     answers: &[u8],
 ) -> Option<()> {
-    let letters = letters_of(alloc, answers)?;
+    let pieces = pieces_of(alloc, answers)?;
+    let mut letters = Vec::new(alloc);
+    for piece in pieces.iter() {
+        letters.extend_from_slice(piece).ok()?;
+    }
+    drop(pieces);
     shown::value(rt, &play::replay(alloc, board, &letters));
     shown::text(rt, &letters);
     Some(())

@@ -4,7 +4,6 @@ use crate::shown;
 use answers::{Device, Sink, Source};
 use report::{audit, audit_texts, dead_map, make_answers};
 use std::alloc::Global;
-use std::str;
 
 // The number of bytes for which a sink has room from the start.
 const ROOM: usize = 4096;
@@ -71,9 +70,9 @@ pub fn through<L: Source, A: Source, S: Sink>(
     match name {
         "audit" => {
             let outcome = audit(alloc, levels, &mut devices.answers, sink);
-            Some(shown::result(rt, &outcome))
+            Some(shown::result(rt, outcome))
         }
-        "make_answers" => Some(shown::result(rt, &make_answers(alloc, levels, sink))),
+        "make_answers" => Some(shown::result(rt, make_answers(alloc, levels, sink))),
         "dead_map" => map(rt, alloc, levels, 1, sink),
         // Numbers that the program's words can't name.
         "dead_map 0" => map(rt, alloc, levels, 0, sink),
@@ -90,7 +89,7 @@ fn map<L: Source, S: Sink>(
     number: usize,
     sink: &mut S,
 ) -> Option<bool> {
-    Some(shown::result(rt, &dead_map(alloc, levels, number, sink)))
+    Some(shown::result(rt, dead_map(alloc, levels, number, sink)))
 }
 
 // Prints the report of two texts, which is made without a sink.
@@ -98,8 +97,7 @@ fn report(rt: &impl Print, alloc: Global, levels: &[u8], answers: &[u8]) -> Opti
     match audit_texts(alloc, levels, answers) {
         Ok((text, summary)) => {
             shown::value(rt, &summary);
-            let shown = str::from_utf8(&text).unwrap_or("not text");
-            let _ = println!(rt; "{shown}");
+            shown::bytes(rt, &text);
             drop(text);
         }
         Err(fault) => {
