@@ -1,10 +1,11 @@
 //! The calls that allocate nothing, on values that were made before.
-ghost use Rattle.std.specs.Prelude.{◌≡◌};
+ghost use Rattle.std.specs.Prelude.{◌≡◌, IfSome};
+ghost use Rattle.cellset.specs.Cell.{IsOn};
 
 use crate::{layers, shown};
 use answers::{Device, MadeBody, MadeRecord, Record, write};
 use board::Board;
-use cellset::{CellSet, Dir};
+use cellset::{Cell, CellSet, Dir};
 use play::State;
 use reach::Pushes;
 use std::alloc::Global;
@@ -15,7 +16,9 @@ const ROOM: usize = 4096;
 
 /// Makes each of the four steps from the start, and prints which are possible.
 pub fn steps<S: CellSet>(rt: &impl Print, alloc: Global, board: &Board<S>) -> Option<()> {
-    let mut state = State::start(alloc, board).ok()?;
+    let Ok(mut state) = State::start(alloc, board) else {
+        return None;
+    };
     step(rt, &mut state, board, Dir::L);
     step(rt, &mut state, board, Dir::U);
     step(rt, &mut state, board, Dir::R);
@@ -37,20 +40,38 @@ fn step<S: CellSet>(rt: &impl Print, state: &mut State<S>, board: &Board<S>, dir
 
 /// Makes each call on a set, with the boxes and the goals of the board.
 pub fn sets<S: CellSet>(rt: &impl Print, alloc: Global, board: &Board<S>) -> Option<()> {
-    let mut set = S::new(alloc, board.shape()).ok()?;
+    let Ok(mut set) = S::new(alloc, board.shape()) else {
+        return None;
+    };
     let player = board.player();
-    shown::word(rt, &set.insert(player));
-    shown::word(rt, &set.insert(player));
-    shown::word(rt, &set.contains(player));
-    shown::value(rt, &set.remove(player));
+    one_cell(rt, &mut set, player);
+    boxes_and_goals(rt, &mut set, board);
+    one_row(rt, &mut set, player.row());
+    Some(())
+}
+
+// Puts a cell into a set and takes it out.
+fn one_cell<S: CellSet>(rt: &impl Print, set: &mut S, cell: Cell)
+    requires { IsOn (S.extent set.old) cell }
+    ensures { S.extent set.new ≡ S.extent set.old }
+{
+    shown::word(rt, &set.insert(cell));
+    shown::word(rt, &set.insert(cell));
+    shown::word(rt, &set.contains(cell));
+    shown::value(rt, &set.remove(cell));
+}
+
+// Puts the boxes and the goals of the board into a set.
+fn boxes_and_goals<S: CellSet>(rt: &impl Print, set: &mut S, board: &Board<S>)
+    requires { S.extent set.old ≡ board.now.shape }
+    ensures { S.extent set.new ≡ board.now.shape }
+{
     set.copy_from(board.boxes());
     set.union_with(board.goals());
     shown::word(rt, &set.len());
-    shown::word(rt, &board.boxes().is_subset(&set));
-    shown::value(rt, &set.next_from(player));
-    shown::cells(rt, "boxes and goals", &set);
-    one_row(rt, &mut set, player.row());
-    Some(())
+    shown::word(rt, &board.boxes().is_subset(set));
+    shown::value(rt, &set.next_from(board.player()));
+    shown::cells(rt, "boxes and goals", set);
 }
 
 // Clears a set but for the first cells of a row.
@@ -72,13 +93,20 @@ pub fn cells<S: CellSet>(rt: &impl Print, board: &Board<S>) {
     shown::value(rt, &shape.next(player));
 }
 
+// Returns the player's region.
+fn region_of<S: CellSet>(alloc: Global, board: &Board<S>) -> Option<S>
+    ensures { IfSome result (λ s. S.extent s ≡ board.now.shape) }
+{
+    let Ok(mut seeds) = S::new(alloc, board.shape()) else {
+        return None;
+    };
+    seeds.insert(board.player());
+    reach::flood(alloc, board.shape(), board.walls(), board.boxes(), &seeds).ok()
+}
+
 /// Prints the pushes out of the player's region.
 pub fn pushes<S: CellSet>(rt: &impl Print, alloc: Global, board: &Board<S>) -> Option<()> {
-    let mut seeds = S::new(alloc, board.shape()).ok()?;
-    seeds.insert(board.player());
-    let made = reach::flood(alloc, board.shape(), board.walls(), board.boxes(), &seeds);
-    drop(seeds);
-    let region = made.ok()?;
+    let region = region_of(alloc, board)?;
     for push in Pushes::new(board.shape(), board.walls(), board.boxes(), &region) {
         shown::value(rt, &push);
     }
@@ -105,7 +133,9 @@ pub fn writes(rt: &impl Print, alloc: Global, answers: &[u8]) -> Option<()> {
 
 // Prints the canonical text of records.
 fn write_one(rt: &impl Print, alloc: Global, made: &[MadeRecord]) -> Option<()> {
-    let room = Vec::with_capacity(alloc, ROOM).ok()?;
+    let Ok(room) = Vec::with_capacity(alloc, ROOM) else {
+        return None;
+    };
     let mut sink = Device::new(room);
     let outcome = write(made, &mut sink);
     shown::value(rt, &outcome);

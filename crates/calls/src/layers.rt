@@ -19,7 +19,10 @@ pub const WIDE: &[u8] =
 
 // Returns the first level of a text.
 fn level_of(alloc: Global, text: &[u8]) -> Option<LevelText<'_>> {
-    board::levels(alloc, text).ok()?.into_iter().next()
+    match board::levels(alloc, text) {
+        Ok(found) => found.into_iter().next(),
+        Err(_) => None,
+    }
 }
 
 /// Returns the board of the first level of a text.
@@ -30,8 +33,10 @@ pub fn board_of<S: CellSet>(alloc: Global, text: &[u8]) -> Option<Board<S>> {
 
 /// Returns what the first record of a text says, and of which level.
 pub fn first_said(alloc: Global, text: &[u8]) -> Option<(usize, Record<'_>)> {
-    let read = answers::read(alloc, text, LEVELS).ok()?;
-    read.records.into_iter().next()
+    match answers::read(alloc, text, LEVELS) {
+        Ok(read) => read.records.into_iter().next(),
+        Err(_) => None,
+    }
 }
 
 /// Returns the first record of a text that is split, if there is one.
@@ -42,8 +47,10 @@ pub fn first_record(alloc: Global, text: &[u8]) -> Result<Option<RecordText<'_>>
 
 // Returns the last record of a text that is split.
 fn last_record(alloc: Global, text: &[u8]) -> Option<RecordText<'_>> {
-    let records = answers::split(alloc, text, LEVELS).ok()?;
-    records.last().copied()
+    match answers::split(alloc, text, LEVELS) {
+        Ok(records) => records.last().copied(),
+        Err(_) => None,
+    }
 }
 
 /// Makes the call with this name, or returns `None` if its values can't be made.
@@ -210,7 +217,9 @@ fn letters(rt: &impl Print, alloc: Global, text: &[u8]) -> Option<()> {
 // Makes the empty set of another grid in the memory of one that has the walls.
 fn renewed<S: CellSet>(alloc: Global, board: &Board<S>) -> Option<Result<S, AllocError>> {
     let other = Shape::new(board.shape().height() as usize, 9)?;
-    let mut walls = S::new(alloc, board.shape()).ok()?;
+    let Ok(mut walls) = S::new(alloc, board.shape()) else {
+        return None;
+    };
     walls.copy_from(board.walls());
     match walls.renew(alloc, other) {
         Ok(()) => Some(Ok(walls)),
@@ -243,7 +252,9 @@ fn start<S: CellSet>(rt: &impl Print, alloc: Global, board: &Board<S>) {
 }
 
 fn frozen<S: CellSet>(rt: &impl Print, alloc: Global, board: &Board<S>) -> Option<()> {
-    let dead = maker::dead_squares(alloc, board).ok()?;
+    let Ok(dead) = maker::dead_squares(alloc, board) else {
+        return None;
+    };
     shown::made(rt, "frozen", maker::frozen(alloc, board, &dead));
     shown::cells(rt, "borrowed dead", &dead);
     Some(())
@@ -257,7 +268,9 @@ fn judge_level<S: CellSet>(
     answers: &[u8],
 ) -> Option<()> {
     let level = level_of(alloc, levels)?;
-    let record = first_record(alloc, answers).ok()?;
+    let Ok(record) = first_record(alloc, answers) else {
+        return None;
+    };
     let mut scratch = report::Scratch::<S>::new(alloc);
     let status = report::judge(alloc, &level, record.as_ref(), &mut scratch);
     drop(scratch);

@@ -1,5 +1,5 @@
 //! Lists of patterns, made ready for lookups.
-ghost use Rattle.std.specs.Prelude.{◌≡◌, IfOk, IfSome, IsTrue, map};
+ghost use Rattle.std.specs.Prelude.{◌≡◌, IfSome, IsTrue, map};
 ghost use Rattle.answers.specs.Grammar.{said_pattern};
 ghost use Rattle.cellset.specs.Cell.{IsOn};
 ghost use Rattle.patterns.specs.Pattern.{AreLawful, patterns_of};
@@ -10,7 +10,7 @@ use board::Board;
 use cellset::{Cell, CellSet, Shape};
 use closure::{CheckFault, Coverage, Index, Scan, check};
 use reach::{Push, Pushes};
-use std::alloc::{AllocError, Global};
+use std::alloc::Global;
 
 // Returns whether every pattern is lawful, as `build` requires.
 fn is_lawful<S: CellSet>(alloc: Global, board: &Board<S>, patterns: &[Pattern]) -> bool
@@ -35,9 +35,16 @@ pub fn scan<S: CellSet>(
     if !is_lawful(alloc, board, patterns) {
         return None;
     }
-    let mut boxes = S::new(alloc, board.shape()).ok()?;
-    let built = Scan::build(alloc, board, patterns);
-    look_up(rt, board, built, &mut boxes);
+    let Ok(mut boxes) = S::new(alloc, board.shape()) else {
+        return None;
+    };
+    match Scan::build(alloc, board, patterns) {
+        Ok(mut scan) => {
+            look_up(rt, board, &mut scan, &mut boxes);
+            drop(scan);
+        }
+        Err(fault) => shown::value(rt, &fault),
+    }
     Some(())
 }
 
@@ -51,34 +58,22 @@ pub fn index<S: CellSet>(
     if !is_lawful(alloc, board, patterns) {
         return None;
     }
-    let mut boxes = S::new(alloc, board.shape()).ok()?;
-    let built = Index::build(alloc, board, patterns);
-    look_up(rt, board, built, &mut boxes);
-    Some(())
-}
-
-// Looks states up in a coverage, if it was built. Allocates nothing.
-fn look_up<S: CellSet, C: Coverage<S>>(
-    rt: &impl Print,
-    board: &Board<S>,
-    built: Result<C, AllocError>,
-    boxes: &mut S,
-)
-    requires coverage { IfOk built (λ coverage. C.extent coverage ≡ board.now.shape) }
-    requires boxes { S.extent boxes.old ≡ board.now.shape }
-{
-    match built {
-        Ok(mut coverage) => {
-            look_all_up(rt, board, &mut coverage, boxes);
-            drop(coverage);
+    let Ok(mut boxes) = S::new(alloc, board.shape()) else {
+        return None;
+    };
+    match Index::build(alloc, board, patterns) {
+        Ok(mut index) => {
+            look_up(rt, board, &mut index, &mut boxes);
+            drop(index);
         }
         Err(fault) => shown::value(rt, &fault),
     }
+    Some(())
 }
 
 // Prints whether states are covered: the start, the state with the boxes on the goals, and the state after each push of one
-// box, wherever the player is.
-fn look_all_up<S: CellSet, C: Coverage<S>>(
+// box, wherever the player is. Allocates nothing.
+fn look_up<S: CellSet, C: Coverage<S>>(
     rt: &impl Print,
     board: &Board<S>,
     coverage: &mut C,

@@ -18,8 +18,8 @@ pub fn word(rt: &impl Print, value: &impl Debug) {
 }
 
 /// Prints a result, and returns whether it is `Ok`.
-pub fn result<T: Debug + Drop, E: Debug + Drop>(rt: &impl Print, outcome: Result<T, E>) -> bool {
-    value(rt, &outcome);
+pub fn result<T: Debug, E: Debug>(rt: &impl Print, outcome: &Result<T, E>) -> bool {
+    value(rt, outcome);
     outcome.is_ok()
 }
 

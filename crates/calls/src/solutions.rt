@@ -21,6 +21,20 @@ fn pieces_of(alloc: Global, answers: &[u8]) -> Option<Vec<&[u8]>>
     }
 }
 
+// Returns the letters of the first record as one text.
+fn letters_of(alloc: Global, answers: &[u8]) -> Option<Vec<u8>> {
+    let pieces = pieces_of(alloc, answers)?;
+    let mut letters = Vec::new(alloc);
+    for piece in pieces.iter() {
+        if letters.extend_from_slice(piece).is_err() {
+            drop(letters);
+            drop(pieces);
+            return None;
+        }
+    }
+    Some(letters)
+}
+
 /// Plays the letters of the first record as one text.
 pub fn replay<S: CellSet>(
     rt: &impl Print,
@@ -28,12 +42,7 @@ pub fn replay<S: CellSet>(
     board: &Board<S>,
     answers: &[u8],
 ) -> Option<()> {
-    let pieces = pieces_of(alloc, answers)?;
-    let mut letters = Vec::new(alloc);
-    for piece in pieces.iter() {
-        letters.extend_from_slice(piece).ok()?;
-    }
-    drop(pieces);
+    let letters = letters_of(alloc, answers)?;
     shown::value(rt, &play::replay(alloc, board, &letters));
     shown::text(rt, &letters);
     Some(())
@@ -58,8 +67,10 @@ fn wide_replayer<S: CellSet>(alloc: Global) -> Option<Replayer> {
     let wide = board_of::<S>(alloc, WIDE)?;
     let outcome = replayer.replay_lines(&wide, &[b"R"]);
     drop(wide);
-    outcome.ok()?;
-    Some(replayer)
+    match outcome {
+        Ok(_) => Some(replayer),
+        Err(_) => None,
+    }
 }
 
 /// Plays the letters of the first record in their pieces, in the memory in which a wide level was played.

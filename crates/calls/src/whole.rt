@@ -38,7 +38,9 @@ fn through_memory(
     levels: &[u8],
     answers: &[u8],
 ) -> Option<()> {
-    let room = Vec::with_capacity(alloc, ROOM).ok()?;
+    let Ok(room) = Vec::with_capacity(alloc, ROOM) else {
+        return None;
+    };
     let mut devices = Devices {
         levels: Device::new(levels),
         answers: Device::new(answers),
@@ -70,9 +72,9 @@ pub fn through<L: Source, A: Source, S: Sink>(
     match name {
         "audit" => {
             let outcome = audit(alloc, levels, &mut devices.answers, sink);
-            Some(shown::result(rt, outcome))
+            Some(shown::result(rt, &outcome))
         }
-        "make_answers" => Some(shown::result(rt, make_answers(alloc, levels, sink))),
+        "make_answers" => Some(shown::result(rt, &make_answers(alloc, levels, sink))),
         "dead_map" => map(rt, alloc, levels, 1, sink),
         // Numbers that the program's words can't name.
         "dead_map 0" => map(rt, alloc, levels, 0, sink),
@@ -89,7 +91,7 @@ fn map<L: Source, S: Sink>(
     number: usize,
     sink: &mut S,
 ) -> Option<bool> {
-    Some(shown::result(rt, dead_map(alloc, levels, number, sink)))
+    Some(shown::result(rt, &dead_map(alloc, levels, number, sink)))
 }
 
 // Prints the report of two texts, which is made without a sink.
