@@ -6,7 +6,6 @@ use crate::same::same;
 use cellset::{BitSet, Cell, CellSet, ListSet, Shape};
 use std::alloc::{AllocError, Global};
 use std::process::Abort;
-use std::test::Fail;
 
 // Returns whether a cell is one of every `n`: its row and its column differ by a multiple of `n`. Of every 0 there is none.
 fn is_one_of(cell: Cell, n: u8) -> bool {
@@ -131,25 +130,27 @@ fn with_ends<S: CellSet>(
     set: &mut S,
     has_first: bool,
     has_last: bool,
-) -> Result<(), Fail>
+) -> Result<(), AllocError>
     ensures { S.extent set.new ≡ S.extent set.old }
 {
     let shape = set.shape();
-    let first = shape.cell(1, 1).ok_or("a first cell")?;
-    let last = shape
-        .cell(shape.width() as u16, shape.height() as u16)
-        .ok_or("a last cell")?;
+    let Some(first) = shape.cell(1, 1) else {
+        panic!(rt; "no first cell");
+    };
+    let Some(last) = shape.cell(shape.width() as u16, shape.height() as u16) else {
+        panic!(rt; "no last cell");
+    };
     put(rt, set, first, has_first);
     put(rt, set, last, has_last);
     let has_first = if first == last { has_last } else { has_first };
     begins(rt, set, first, has_first);
     let from_last = if has_last { Some(last) } else { None };
     has(rt, set, last, has_last, from_last);
-    Ok(with_another_last(rt, alloc, set, last, has_last)?)
+    with_another_last(rt, alloc, set, last, has_last)
 }
 
 // Checks the empty set and the set of every third cell, with and without the first and the last cell of the grid.
-fn ends<S: CellSet>(rt: &impl Abort, alloc: Global, shape: Shape, n: u8) -> Result<(), Fail> {
+fn ends<S: CellSet>(rt: &impl Abort, alloc: Global, shape: Shape, n: u8) -> Result<(), AllocError> {
     let mut set: S = every(alloc, shape, n)?;
     with_ends(rt, alloc, &mut set, false, false)?;
     with_ends(rt, alloc, &mut set, true, false)?;
@@ -217,9 +218,11 @@ const SHAPES: &[(usize, usize)] = &[
 ];
 
 // Checks sets on each shape.
-fn on_each_shape<S: CellSet>(rt: &impl Abort, alloc: Global) -> Result<(), Fail> {
+fn on_each_shape<S: CellSet>(rt: &impl Abort, alloc: Global) -> Result<(), AllocError> {
     for (width, height) in SHAPES {
-        let shape = Shape::new(*width, *height).ok_or("a shape")?;
+        let Some(shape) = Shape::new(*width, *height) else {
+            panic!(rt; "no shape");
+        };
         wholes::<S>(rt, alloc, shape)?;
         ends::<S>(rt, alloc, shape, 0)?;
         ends::<S>(rt, alloc, shape, 3)?;
@@ -229,11 +232,11 @@ fn on_each_shape<S: CellSet>(rt: &impl Abort, alloc: Global) -> Result<(), Fail>
 }
 
 #[test]
-fn list_set(rt: HostRuntime) -> Result<(), Fail> {
+fn list_set(rt: HostRuntime) -> Result<(), AllocError> {
     on_each_shape::<ListSet>(&rt, rt.alloc())
 }
 
 #[test]
-fn bit_set(rt: HostRuntime) -> Result<(), Fail> {
+fn bit_set(rt: HostRuntime) -> Result<(), AllocError> {
     on_each_shape::<BitSet>(&rt, rt.alloc())
 }
