@@ -41,8 +41,7 @@ IsKind text = (text ≡ codes "solution") ⊎ (text ≡ codes "unsolvable")
 abbrev pub IsUnclosed : List Entry → ℕ → List Line → Type 0
 IsUnclosed entries levels [] = ⊥
 IsUnclosed entries levels (l ∷ []) = (n : ℕ) × IsNextLevel entries levels l.text n
-IsUnclosed entries levels (l ∷ k ∷ lines) =
-    ((n : ℕ) × IsNextLevel entries levels l.text n) × IsKind k.text × NoneEnds lines
+IsUnclosed entries levels (l ∷ k ∷ lines) = ((n : ℕ) × IsNextLevel entries levels l.text n) × IsKind k.text × NoneEnds lines
 
 -- This is the fault of the kept lines, in a text with this number of lines.
 abbrev pub IsLineFault : ℕ → ℕ → List Line → ℕ → AnswersFault → Type 0

@@ -195,10 +195,8 @@ pub record HasOneTooMany (body : List Line) (n : ℕ) : Type 0 where
 -- The body of an `unsolvable` block says this.
 abbrev pub IsCertificate : ℕ → List Line → Body → Type 0
 IsCertificate version body (LetterLines lines) = ⊥
-IsCertificate version body (PatternLines patterns) =
-    ArePatternLines body patterns × (length patterns ≤ most_patterns)
-IsCertificate version body (OneZone zone) =
-    (version ≡ 2) × IsZone zone × (body ≡ line_of_zone zone ∷ [])
+IsCertificate version body (PatternLines patterns) = ArePatternLines body patterns × (length patterns ≤ most_patterns)
+IsCertificate version body (OneZone zone) = (version ≡ 2) × IsZone zone × (body ≡ line_of_zone zone ∷ [])
 IsCertificate version body (FirstBad n Syntax) = HasStrayLine version body n ⊎ GoesOnAfterZone version body n
 IsCertificate version body (FirstBad n Count) = HasOneTooMany body n
 
@@ -229,8 +227,7 @@ pub record IsBlock (version : ℕ) (block : List Line) (entry : Entry) : Type 0 
 -- The lines are the blocks of the entries, in order.
 abbrev pub AreBlocks : ℕ → List Line → List Entry → Type 0
 AreBlocks version lines [] = lines ≡ []
-AreBlocks version lines (e ∷ es) =
-    (block rest : List Line) × (lines ≡ block ++ rest) × IsBlock version block e × AreBlocks version rest es
+AreBlocks version lines (e ∷ es) = (block rest : List Line) × (lines ≡ block ++ rest) × IsBlock version block e × AreBlocks version rest es
 
 -- The numbers of the levels rise strictly, the first is above `low`, and none is above `high`.
 abbrev pub RiseWithin : ℕ → ℕ → List Entry → Type 0

@@ -76,8 +76,7 @@ TakesCells text taken = Takes (AreCellsBefore text) EndsCells taken
 
 -- The bytes after this prefix, if the text begins with it.
 abbrev pub after_prefix : List ℕ → List ℕ → Option (List ℕ)
-after_prefix prefix text =
-    if bytes_eq (take (length prefix) text) prefix then Some (drop (length prefix) text) else None
+after_prefix prefix text = if bytes_eq (take (length prefix) text) prefix then Some (drop (length prefix) text) else None
 
 -- The column or the row with which the text begins, and the rest.
 unfoldable pub coordinate_in : List ℕ → Option (ℕ × List ℕ)
@@ -184,8 +183,7 @@ body_after l =
 -- The body of the patterns, and then the pattern of line n, if there is one.
 abbrev pub with_pattern : List PatternLine → ℕ → Option PatternLine → Body
 with_pattern patterns n None = FirstBad n Syntax
-with_pattern patterns n (Some p) =
-    if length patterns == most_patterns then FirstBad n Count else PatternLines (patterns ++ p ∷ [])
+with_pattern patterns n (Some p) = if length patterns == most_patterns then FirstBad n Count else PatternLines (patterns ++ p ∷ [])
 
 -- The body of the zone, if there is one; otherwise the body of the patterns and one line more.
 abbrev pub with_line : Option ZoneLine → List PatternLine → Line → Body
@@ -218,8 +216,7 @@ entry_of r = record { level = r.level; body = after_lines r.version (opened r.ki
 
 -- The entries and what is due, after one line more.
 abbrev pub step : ℕ → ℕ → List Entry → Stage → Line → Result (List Entry × Stage) AnswersFault
-step version levels entries LevelDue l =
-    on_ok (level_after (last_level entries) levels l) (λ n. Ok (entries, KindDue n))
+step version levels entries LevelDue l = on_ok (level_after (last_level entries) levels l) (λ n. Ok (entries, KindDue n))
 step version levels entries (KindDue n) l = on_ok (body_after l) (λ b. Ok (entries, BodyDue n b))
 step version levels entries (BodyDue n b) l =
     if bytes_eq l.text (codes "end") then Ok (entries ++ record { level = n; body = b } ∷ [], LevelDue)
@@ -228,8 +225,7 @@ step version levels entries (BodyDue n b) l =
 -- The entries and what is due, after more lines.
 abbrev pub run : ℕ → ℕ → List Entry → Stage → List Line → Result (List Entry × Stage) AnswersFault
 run version levels entries stage [] = Ok (entries, stage)
-run version levels entries stage (l ∷ lines) =
-    on_ok (step version levels entries stage l) (λ next. run version levels next.0 next.1 lines)
+run version levels entries stage (l ∷ lines) = on_ok (step version levels entries stage l) (λ next. run version levels next.0 next.1 lines)
 
 -- The entries, if no record is left open.
 abbrev pub closed : ℕ → List Entry × Stage → Result (List Entry) AnswersFault
@@ -257,8 +253,7 @@ version_in text =
 -- The entries after a header of this version, in a text with this number of lines.
 abbrev pub records_under : Option ℕ → ℕ → ℕ → List Line → Result (List Entry) AnswersFault
 records_under None levels count kept = Err (fault.Header 1)
-records_under (Some version) levels count kept =
-    on_ok (run version levels [] LevelDue kept) (closed count)
+records_under (Some version) levels count kept = on_ok (run version levels [] LevelDue kept) (closed count)
 
 abbrev pub header_of : List (List ℕ) → Option ℕ
 header_of [] = None

@@ -36,8 +36,7 @@ boxes_and_seeds p = (p.boxes, p.seeds)
 -- The body says the same as the made body.
 abbrev pub SaysBody : MadeBody → Body → Type 0
 SaysBody (Letters letters) (LetterLines lines) = concat lines ≡ letters.now
-SaysBody (Patterns patterns) (PatternLines said) =
-    map boxes_and_seeds said ≡ map (λ p. boxes_and_seeds (said_pattern p)) patterns.items
+SaysBody (Patterns patterns) (PatternLines said) = map boxes_and_seeds said ≡ map (λ p. boxes_and_seeds (said_pattern p)) patterns.items
 SaysBody (Zone zone) (OneZone said) = said.cells ≡ zone.cells.items
 SaysBody _ _ = ⊥
 

@@ -42,10 +42,7 @@ fn letter_lines<'a>(alloc: Global, lines: Left<'a>) -> Result<Vec<&'a [u8]>, All
     let mut letters = Vec::new(alloc);
     let mut left = lines;
     while let Some((line, rest)) = next_kept(left) {
-        let Ok(()) = letters.push(line.text) else {
-            drop(letters);
-            return Err(AllocError);
-        };
+        letters.push(line.text)?;
         left = rest;
     }
     Ok(letters)

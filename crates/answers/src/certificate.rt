@@ -79,7 +79,6 @@ impl CertificateLines<'_> {
             return Ok(bad_line(line, BadLineWhy::Syntax));
         };
         if self.patterns == MOST_PATTERNS {
-            drop(pattern);
             return Ok(bad_line(line, BadLineWhy::Count));
         }
         self.left = rest;

@@ -59,8 +59,7 @@ module _ (level : Level) (patterns : List Pattern) (closed : Closed level patter
 
   step_on_floor : (s : State) (d : Dir) (t : State) → AreOnFloor level s.boxes → Steps level s d t → AreOnFloor level t.boxes
   step_on_floor s d t on_floor (inl walk) = subst (λ u. AreOnFloor level u.boxes) (sym walk.2) on_floor
-  step_on_floor s d t on_floor (inr push) =
-      subst (λ u. AreOnFloor level u.boxes) (sym push.3) (moved_on_floor level s.boxes _ _ on_floor push.1)
+  step_on_floor s d t on_floor (inr push) = subst (λ u. AreOnFloor level u.boxes) (sym push.3) (moved_on_floor level s.boxes _ _ on_floor push.1)
 
   step_covered : (s : State) (d : Dir) (t : State) → AreOnFloor level s.boxes → IsCovered level patterns s → Steps level s d t → IsCovered level patterns t
   step_covered s d t on_floor covered (inl walk) = walk_covered s d t covered walk

@@ -52,8 +52,7 @@ HasFirstUncovered level patterns pattern player dir = (push : PushOut) × (push.
 abbrev pub IsFirstPatternFault : Level → List PatternLine → CheckFault → Type 0
 IsFirstPatternFault level lines (Line number why) =
     IsFirstFaultyLine (λ l. IsLawful level (pattern_of l)) (λ l. IsUnlawful level (pattern_of l) why) lines number
-IsFirstPatternFault level lines Start =
-    AreLawful level (patterns_of lines) × (IsCovered level (patterns_of lines) (start level) → ⊥)
+IsFirstPatternFault level lines Start = AreLawful level (patterns_of lines) × (IsCovered level (patterns_of lines) (start level) → ⊥)
 IsFirstPatternFault level lines (Push number player dir) =
     AreLawful level (patterns_of lines)
     × IsCovered level (patterns_of lines) (start level)
@@ -77,8 +76,7 @@ pub record IsFirstLeak (level : Level) (zone : Cells) (x : Cell) (d : Dir) : Typ
 
 -- the first fault of a zone
 abbrev pub IsFirstZoneFault : Level → ZoneLine → ZoneFault → Type 0
-IsFirstZoneFault level line (zone_fault.Line number why) =
-    (line.line ≡ number) × IsUnlawfulZone level (cells_of line.cells) why
+IsFirstZoneFault level line (zone_fault.Line number why) = (line.line ≡ number) × IsUnlawfulZone level (cells_of line.cells) why
 IsFirstZoneFault level line (zone_fault.Leak number x d) =
     (line.line ≡ number) × IsZoneOnBoard level (cells_of line.cells) × IsZoneOffWalls level (cells_of line.cells) × IsFirstLeak level (cells_of line.cells) x d
 IsFirstZoneFault level line (zone_fault.Fits number) =

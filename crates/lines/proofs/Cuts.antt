@@ -64,8 +64,7 @@ cut_more text front rest piece left cut next = record {
 pub more_lines : (text front rest piece left : List ℕ) → IsLineCut text front rest → IsLineCut rest piece left →
     lines_of (front ++ piece) ≡ lines_of front ++ lines_of piece
 more_lines text front rest [] left cut next = with_nothing front
-more_lines text front rest (b ∷ piece) left cut next =
-    cut.whole (omega (arith, ap length next.parts, length-append (b ∷ piece) left)) (b ∷ piece)
+more_lines text front rest (b ∷ piece) left cut next = cut.whole (omega (arith, ap length next.parts, length-append (b ∷ piece) left)) (b ∷ piece)
 
 -- A text that isn't empty has a line.
 pub some_lines : (bs : List ℕ) → 0 < length bs → 0 < length (lines_in bs)

@@ -79,5 +79,4 @@ free_kept level matching relay new same is = grind arith
 -- the goal of a relay is free, and in the reach of each source
 pub goal_of : (level : Level) (matching : List (Option Cell)) (relay : Relay) (g : Cell) → relay.free ≡ Some g → HasFreeGoal level matching relay
     → IsFreeGoal level matching g × ((b : Cell) → Has relay.sources.members b → InReach level b g)
-goal_of level matching relay g is free =
-    rw is at free
+goal_of level matching relay g is free = rw is at free

@@ -166,8 +166,7 @@ pub search_first : (level : Level) (matching : List (Option Cell)) (start : Cell
     (queue' : List Visit)
     → IsFloor level start → visited ≡ set.empty → queue ≡ [] → IsQueued (record { cell = start; via = None }) visited queue visited' queue'
     → IsSearch level matching start visited' queue'
-search_first level matching start visited queue visited' queue' floor none empty (inl (has, s, l)) =
-    has_empty start (rw none at has)
+search_first level matching start visited queue visited' queue' floor none empty (inl (has, s, l)) = has_empty start (rw none at has)
 search_first level matching start visited queue visited' queue' floor none empty (inr (lacks, s, l)) =
     let v : Visit = record { cell = start; via = None } in
     subst (λ (x : Cells). IsSearch level matching start x queue') (sym (s ∙ ap (λ (x : Cells). set.insert x start) none))

@@ -79,8 +79,7 @@ module _ (level : Level) (groups : Groups) (grouped : IsGrouped groups) where
         InPatternRegion level (pattern_at (list_of groups) j) c → InPatternRegion level (position_at level groups g) c
     of_line j lt is c (region.at_seed seed free) =
         region.at_seed (seed_of_line c (record { line = j; within = lt; grouped = is; fact = seed })) (rw (line_boxes j lt is) at free)
-    of_line j lt is c (region.beside {c = b} d before free) =
-        region.beside d (of_line j lt is b before) (rw (line_boxes j lt is) at free)
+    of_line j lt is c (region.beside {c = b} d before free) = region.beside d (of_line j lt is b before) (rw (line_boxes j lt is) at free)
 
     pub line_of : (c : Cell) → InPatternRegion level (position_at level groups g) c → HasLine groups g (λ p. InPatternRegion level p c)
     line_of c (region.at_seed seed free) =

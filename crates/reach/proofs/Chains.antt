@@ -2,17 +2,16 @@
 -- Each cell of the region is reached from a seed, and no step leads out of the region from a row outside the worklist. A look takes
 -- a row from the worklist, adds what steps along it reach, and adds to the rows above and below what steps from it reach. Each of
 -- those two joins the worklist if it grew. Once the worklist is empty, no step leads out of the region, so it has all that is reached.
-use Rattle.std.proofs.Common.{◌≡◌, ℕ, ◌+◌, ◌*◌, ◌^◌, ◌<◌, ◌≤◌, List, [], length, get_or, ◌∙◌, inl, inr, arith}
-use Rattle.std.specs.Prelude.{◌⊎◌, ◌↔◌, sum}
+use Rattle.std.proofs.Common.{◌≡◌, ℕ, ◌+◌, ◌<◌, List, [], length, get_or, ◌∙◌, inl, inr, arith}
+use Rattle.std.specs.Prelude.{◌⊎◌, ◌↔◌}
 use Rattle.std.proofs.Math.ListN.{set}
 use Rattle.std.proofs.lemmas.Bool.{cases_eq}
-use Rattle.std.proofs.lemmas.List.Sums.{sum_by-set}
 use Rattle.cellset.specs.Shape.{Extent}
 use Rattle.cellset.specs.Cell.{IsOn, cell_at}
 use Rattle.cellset.specs.declared.cell.Cell.{Cell}
 use Rattle.cellset.proofs.Truth.{either}
-use Rattle.reach.specs.Bits.{HasBit, room_left}
-use Rattle.reach.specs.RowsOf.{InRows, InRow, work_left}
+use Rattle.reach.specs.Bits.{HasBit}
+use Rattle.reach.specs.RowsOf.{InRows, InRow}
 use Rattle.reach.proofs.Written.{IsWritten, row_written, as_at, to_row, of_row}
 use Rattle.reach.specs.Reached.{Reached, at_seed, by_step, IsClosedUnder}
 use Rattle.reach.specs.Grown.{IsAbove, IsBeside, IsOffered, IsLookedAt}
@@ -124,8 +123,7 @@ module _ (L : Cell → Cell → Type 0) (region : List (List ℕ)) (from to : �
   ]
 
   offered_all : (n : ℕ) (b c : Cell) → b.row ≡ from → c.row ≡ to → c.row < n → c.column ≡ b.column → InRows region b → L b c → InRows (set region to row) c
-  offered_all n b c e f low column h step =
-      (row_written region to row within).same c f (grind arith)
+  offered_all n b c e f low column h step = (row_written region to row within).same c f (grind arith)
 
   pub offered_more : (n : ℕ) (W W' : ℕ → Type 0) → ((k : ℕ) → W' k ↔ (W k ⊎ (k ≡ to))) → IsOffered L from to n (InRows region) W (InRows (set region to row)) W'
   offered_more n W W' waits = record {
@@ -158,13 +156,3 @@ pub reached_on : (shape : Extent) (L : Cell → Cell → Type 0) (S : Cell → T
     → (c : Cell) → Reached L S c → IsOn shape c
 reached_on shape L S step seeds c (at_seed seed) = seeds c seed
 reached_on shape L S step seeds c (by_step b before leads) = step b c leads
-
--- ---- the work that is left
--- the work that is left doesn't rise if a row loses at least what the worklist gains
-pub work_written : (region : List (List ℕ)) (y : ℕ) (row waiting more : List ℕ) → y < length region
-    → room_left row * 2 ^ 64 + sum more ≤ room_left (get_or region y []) * 2 ^ 64 + sum waiting → work_left (set region y row) more ≤ work_left region waiting
-work_written region y row waiting more within less = grind (arith, sum_by-set)
-
-pub work_grown : (region : List (List ℕ)) (y : ℕ) (row waiting more : List ℕ) → y < length region
-    → room_left row < room_left (get_or region y []) → sum more ≤ sum waiting + 2 ^ 64 → work_left (set region y row) more ≤ work_left region waiting
-work_grown region y row waiting more within fell rose = grind (arith, work_written)

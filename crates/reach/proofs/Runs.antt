@@ -82,8 +82,7 @@ down_twice free seeds got run step d = record {
                 seed = n.from.seed;
                 above = omega arith;
                 is_seed = n.from.is_seed;
-                run =
-                    run_within (Bit free) k n.from.seed (step + k) n.from.seed (omega arith) (omega arith) n.from.run;
+                run = run_within (Bit free) k n.from.seed (step + k) n.from.seed (omega arith) (omega arith) n.from.run;
               };
               near = omega arith;
             }))))
@@ -146,8 +145,7 @@ filled free seeds up down is_up is_down k = (there, back)
 
     back : IsFilled free seeds k → down k
     back (inl b) = (is_down k).1 (record { seed = k; above = omega arith; is_seed = (is_up k).1 b; run = run_one free k (b.run.all k b.below (omega arith)) })
-    back (inr a) =
-        grind arith
+    back (inr a) = grind arith
 
 -- ---- what is filled is closed under free neighbours
 pub filled_seed : (free seeds : ℕ → Type 0) (k : ℕ) → seeds k → free k → IsFilled free seeds k

@@ -68,13 +68,11 @@ record_more levels k rows r so_far next number made before rest after =
 -- the records so far stay the same if nothing is made for the next level
 pub none_more : (levels : List (List (List ℕ))) (k : ℕ) (rows : List (List ℕ)) (so_far : List MadeRecord)
     → drop k levels ≡ rows ∷ drop (k + 1) levels → IsRefused rows ⊎ HasNothingMade rows → AreMadeUpTo k levels so_far → AreMadeUpTo (k + 1) levels so_far
-none_more levels k rows so_far next none before rest after =
-    before rest (rw next (without none after))
+none_more levels k rows so_far next none before rest after = before rest (rw next (without none after))
 
 -- if no level is left, the records so far are all records
 pub made_all : (levels : List (List (List ℕ))) (k : ℕ) (so_far : List MadeRecord) → drop k levels ≡ [] → AreMadeUpTo k levels so_far → AreMade 1 levels so_far
-made_all levels k so_far end before =
-    subst (AreMade 1 levels) (append-nil so_far) (before [] (rw end none_left))
+made_all levels k so_far end before = subst (AreMade 1 levels) (append-nil so_far) (before [] (rw end none_left))
 
 pub drafts_more : (records : List MadeRecord) (one : MadeRecord) (drafts : List Draft) (draft : Draft) → AreDraftsOf records drafts → IsDraftOf one draft
     → AreDraftsOf (records ++ one ∷ []) (drafts ++ draft ∷ [])

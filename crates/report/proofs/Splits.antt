@@ -9,5 +9,4 @@ use Rattle.answers.proofs.BodyLines.{one_list}
 
 pub spells_records : (text : List ℕ) (levels : ℕ) (records held : List RecordText) → held ≡ records
     → (entries : List Entry) × SpellsEntries text levels entries × AreEntriesOf records entries → SpellsEntries text levels (map entry_of held)
-spells_records text levels records held same found =
-    rw (one_list records found.0 found.2 ∙ ap (map entry_of) (sym same)) at found.1
+spells_records text levels records held same found = rw (one_list records found.0 found.2 ∙ ap (map entry_of) (sym same)) at found.1

@@ -11,7 +11,7 @@ loop-line-preserved c =
     let rest = map (λ (l : Line). l.text) (kept_in c.in-Some.rest) in
     record {
       count = c.in-Some.ensures.count ∙ c.loop-line.invariant.count;
-      read = ap (λ ls. map (λ l. l.now) ls ++ rest) c.in-Ok.ensures.items ∙ ap (λ ls. ls ++ rest) (map_push (λ l. l.now) letters line)
+      read = ap (λ ls. map (λ l. l.now) ls ++ rest) c.in_ok-push.ensures.items ∙ ap (λ ls. ls ++ rest) (map_push (λ l. l.now) letters line)
           ∙ append_assoc (map (λ l. l.now) letters) (line.now ∷ []) rest
           ∙ ap (λ ls. map (λ l. l.now) letters ++ map (λ (l : Line). l.text) ls) (sym c.in-Some.ensures.some) ∙ c.loop-line.invariant.read;
     }

@@ -9,8 +9,7 @@ use Rattle.devices.proofs.writing.write_whole.Goals as goal
 -- The text that was written so far grows by the bytes that the next write took.
 next : (u v w : Option (List ℕ)) (text : List ℕ) (at n : ℕ) → Appends u v (take at text)
     → Appends v w (take n (take (length text - at) (drop at text))) → Appends u w (take (at + n) text)
-next u v w text at n p q =
-    subst (Appends u w) (sym (take-add at n text)) (Appends-trans u v w _ _ p (rw (take_rest text at) at q))
+next u v w text at n p q = subst (Appends u w) (sym (take-add at n text)) (Appends-trans u v w _ _ p (rw (take_rest text at) at q))
 
 pub loop-at-preserved : goal.loop-at-preserved
 loop-at-preserved g c = search (rules, next)

@@ -21,8 +21,7 @@ returns-then-has-clause-some g c =
     among_start c.loop-feeds.invariant c.loop-feeds.auto.feeds-fits c.loop-feeds-test.true (sym c.has.ensures ∙ c.if-has.true)
 
 pub loop-feeds-preserved : goal.loop-feeds-preserved
-loop-feeds-preserved g c =
-    among_more c.loop-feeds.invariant c.loop-feeds.auto.feeds-fits c.loop-feeds-test.true (sym c.has.ensures ∙ c.if-has.false)
+loop-feeds-preserved g c = among_more c.loop-feeds.invariant c.loop-feeds.auto.feeds-fits c.loop-feeds-test.true (sym c.has.ensures ∙ c.if-has.false)
 
 pub returns-clause-none : goal.returns-clause-none
 returns-clause-none g c = among_none c.loop-feeds.invariant c.loop-feeds-test.false

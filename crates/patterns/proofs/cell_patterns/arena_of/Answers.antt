@@ -20,5 +20,4 @@ loop-pattern-preserved c =
     sym (map_more said_pattern patterns c.loop-pattern.pattern-index pattern c.loop-pattern-test.true))
 
 pub returns : goal.returns
-returns c =
-    c.loop-pattern.invariant ∙ ap (map said_pattern) (take_all c.loop-pattern.pattern-index c.args.patterns.now c.loop-pattern-test.false)
+returns c = c.loop-pattern.invariant ∙ ap (map said_pattern) (take_all c.loop-pattern.pattern-index c.args.patterns.now c.loop-pattern-test.false)

@@ -3,8 +3,7 @@ use Rattle.patterns.proofs.CellLists.{in_list, next_in, no_cell}
 use Rattle.patterns.proofs.cells.load.Goals as goal
 
 pub insert-requires : goal.insert-requires
-insert-requires g c =
-    rw c.loop-cell.invariant.extent (c.requires _ (in_list c.args.cells.now c.loop-cell.cell-index no_cell c.loop-cell-test.true))
+insert-requires g c = rw c.loop-cell.invariant.extent (c.requires _ (in_list c.args.cells.now c.loop-cell.cell-index no_cell c.loop-cell-test.true))
 
 pub loop-cell-preserved : goal.loop-cell-preserved
 loop-cell-preserved g c = record {

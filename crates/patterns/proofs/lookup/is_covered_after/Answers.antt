@@ -26,9 +26,3 @@ returns-clause-all g c = λ all none. elim c.match-asked.branch [
   | in-None+then-is_covered_in_bucket w ↦ rw w.covered-is (λ _. w.if-is_covered_in_bucket.true)
   | in-None+else-is_covered_in_bucket w ↦ rw w.covered-is (rw (c.insert.ensures.members, c.remove.ensures.members) at (w.is_covered.ensures.all all))
 ]
-
-pub is_covering-requires-clause-scratch : goal.is_covering-requires-clause-scratch
-is_covering-requires-clause-scratch g c = grind arith
-
-pub is_covered-requires-clause-scratch : goal.is_covered-requires-clause-scratch
-is_covered-requires-clause-scratch g c = grind arith

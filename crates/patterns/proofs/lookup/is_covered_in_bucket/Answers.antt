@@ -43,8 +43,7 @@ loop-at-preserved g c =
     let long = all.long in
     let Covers : ℕ → Type 0 = λ j. GroupCovers c.args.filled.now.tables.board.now filled.tables.groups j (record {
       player = c.args.query.now.player;
-      boxes =
-          g.S.CellSet.members c.args.query.now.boxes.now;
+      boxes = g.S.CellSet.members c.args.query.now.boxes.now;
     }) in
     let last = led_on filled.buckets.keys.items filled.buckets.chains.first.items filled.buckets.chains.next.items _ (index_of c.args.cell) all.chained
     c.loop-at.at c.index-in-loop-at.result.now test (omega arith) c.index-in-loop-at.ensures (inv.key test) in

@@ -2,7 +2,7 @@
 -- sides of the next box on which the region lies (`sides_of`), so `is_found_each_way` may be called for it. Every push out of the group moves
 -- one of its boxes, so after the loop the list covers them all (`covered_each_box`). The result false claims nothing.
 use borrow.Author.Count.{below_more}
-use Rattle.std.proofs.Common.{ap, arith}
+use Rattle.std.proofs.Common.{ap}
 use Rattle.patterns.specs.{GroupPushes.CoversFrom, Groups.list_of, Groups.position_at, Sides.cell_no, Sides.cells_in}
 use Rattle.patterns.proofs.{CellLists.empty_lacks, GroupPushes.covered_each_box}
 use Rattle.patterns.proofs.push_lookups.are_pushes_found.Goals as goal
@@ -28,6 +28,3 @@ loop-number-preserved g c =
       covered = below_more (λ i. CoversFrom level (list_of groups) (position_at level groups c.args.group) (cell_no c.boxes-boxes.result.now i)) c.loop-number.number
           c.loop-number.invariant.covered (after.covered c.if-not-is_found_each_way.false);
     }
-
-pub is_found_each_way-requires-clause-pushed : goal.is_found_each_way-requires-clause-pushed
-is_found_each_way-requires-clause-pushed g c = grind arith

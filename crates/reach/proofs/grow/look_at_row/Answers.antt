@@ -3,7 +3,7 @@
 use Rattle.reach.specs.RowsOf.{InRows}
 use Rattle.reach.specs.Grown.{in_rows}
 use Rattle.std.proofs.Common.{length, arith}
-use Rattle.reach.proofs.Chains.{look, row_filled, reached_on, work_written}
+use Rattle.reach.proofs.Chains.{look, row_filled, reached_on}
 use Rattle.reach.proofs.grow.look_at_row.Goals as goal
 
 pub returns-clause-looked : goal.returns-clause-looked
@@ -18,6 +18,3 @@ pub returns-clause-on : goal.returns-clause-on
 returns-clause-on g c = λ shape free region q h.
     reached_on shape (g.T.StepKind.leads (in_rows c.args.free.now)) (InRows c.args.region.now) (λ a b step. c.along.ensures.on shape a b free step) region q
     ((returns-clause-looked g c).sound q h)
-
-pub returns-clause-falls : goal.returns-clause-falls
-returns-clause-falls g c = grind (arith, work_written)

@@ -4,9 +4,6 @@ use Rattle.cellset.specs.Cell.{cell_at}
 use Rattle.reach.proofs.Loads.{done_more, done_all}
 use Rattle.reach.proofs.rows.complement.Goals as goal
 
-pub loop-y-init : goal.loop-y-init
-loop-y-init g c = grind arith
-
 pub loop-y-preserved : goal.loop-y-preserved
 loop-y-preserved g c =
     let y = c.loop-y.y in

@@ -23,8 +23,7 @@ invariant_of-self-in_default-2 c =
     record { within = kept_within _ _ _ _ c.in_ok-boxes.ensures.grown c.in_ok-span-in-Cells.ensures.grown _ c.args.self.now.within }
 
 pub returns-in_default-2-clause-added : goal.returns-in_default-2-clause-added
-returns-in_default-2-clause-added c =
-    kept_lines _ _ _ _ c.in_ok-boxes.ensures.grown c.in_ok-span-in-Cells.ensures.grown _ c.args.self.now.within
+returns-in_default-2-clause-added c = kept_lines _ _ _ _ c.in_ok-boxes.ensures.grown c.in_ok-span-in-Cells.ensures.grown _ c.args.self.now.within
 
 pub invariant_of-self-2 : goal.invariant_of-self-2
 invariant_of-self-2 c =

@@ -1,5 +1,5 @@
 -- Each lookup leaves the boxes of the state as they are.
-use Rattle.std.proofs.Common.{arith, refl, ◌∙◌}
+use Rattle.std.proofs.Common.{refl, ◌∙◌}
 use Rattle.patterns.proofs.push_lookups.PushScratch.finds.Goals as goal
 
 pub returns-then-is_loose-clause-covered : goal.returns-then-is_loose-clause-covered
@@ -18,9 +18,3 @@ returns-clause-covered g c = rw (c.is_remembered.ensures.state ∙ c.requires.lo
 
 pub returns-clause-all : goal.returns-clause-all
 returns-clause-all g c = λ all. rw (c.is_remembered.ensures.state ∙ c.requires.loaded.state) at (c.is_covered_after.ensures.all all refl)
-
-pub returns-then-covers-clause-loaded : goal.returns-then-covers-clause-loaded
-returns-then-covers-clause-loaded g c = grind arith
-
-pub returns-clause-loaded : goal.returns-clause-loaded
-returns-clause-loaded g c = grind arith
