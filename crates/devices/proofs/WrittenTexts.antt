@@ -3,14 +3,14 @@
 -- is a beginning of both. A call that failed in the first text left a beginning of any text that starts with it. In the same
 -- way a loop that writes a text for each element of a list goes from the text of the elements before one to the text of the
 -- elements up to it.
-use Rattle.std.proofs.Common.{◌≡◌, ℕ, List, [], ◌∷◌, ◌++◌, ◌+◌, ◌≤◌, ◌<◌, Ok, Err, sym, ap, ◌∙◌, refl, arith, length, take, drop, get_or, append-nil}
+use Rattle.std.proofs.Common.{◌≡◌, ℕ, List, [], ◌∷◌, ◌++◌, ◌+◌, ◌<◌, Ok, Err, sym, ap, ◌∙◌, arith, length, take, drop, get_or, append-nil}
 use Rattle.std.proofs.lemmas.Grind.{flat_map-append}
-use Rattle.std.proofs.lemmas.List.{length-append, take-append-le, take_more, take_all, take-append-drop}
+use Rattle.std.proofs.lemmas.List.{length-append, take-append-le, take_more, take-append-drop}
 use Rattle.std.proofs.Math.Seq.{take-append-add}
 use Rattle.std.specs.Prelude.{Option, Result, IsErr}
 use Rattle.std.specs.List.{flat_map}
 use Rattle.std.specs.Io.KnownBytes.{Appends}
-use Rattle.std.proofs.KnownBytes.{Appends-nil, Appends-trans}
+use Rattle.std.proofs.KnownBytes.{Appends-trans}
 use Rattle.devices.specs.declared.device.Sink as sink
 use Rattle.devices.specs.declared.device.DeviceFault.{DeviceFault}
 use Rattle.devices.specs.Device.{AppendsBeginning}

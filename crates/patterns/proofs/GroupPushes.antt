@@ -8,7 +8,7 @@ use Rattle.std.proofs.lemmas.List.{get_or-set_other, get_or-set_same, length-set
 use Rattle.cellset.specs.{Cell.IsOn, Cell.neighbor, Cell.opposite, CellSet.Cells, CellSet.Has, CellSet.Lacks, declared.cell.Cell.Cell, declared.dir.Dir.Dir}
 use Rattle.cellset.specs.declared.dir.Dir.TheVariants.{L, U, R, D}
 use Rattle.cellset.proofs.Neighbors.{neighbor_back, neighbor_forth}
-use Rattle.reach.specs.{Region.IsFree, declared.pushes.Push.Push}
+use Rattle.reach.specs.{declared.pushes.Push.Push}
 use Rattle.board.specs.Game.{Level, IsFloor, moved}
 use Rattle.patterns.specs.Pattern.{Pattern, InPatternRegion, IsCovered, PushesOut, after_push, CoversPushesOf}
 use Rattle.patterns.specs.{Arena.pattern_at, Run.state_after, Sides.cell_no, Sides.cells_in, declared.groups.Groups.Groups, declared.pushes.PushedBox.PushedBox}

@@ -8,7 +8,7 @@ use Rattle.cellset.specs.declared.dir.Dir.TheVariants.{L, U, R, D}
 use Rattle.reach.specs.Bits.{HasBit, IsFilled}
 use Rattle.reach.specs.RowsOf.{InRows}
 use Rattle.reach.specs.Reached.{PullsTo, IsBetween}
-use Rattle.reach.specs.Grown.{AreInside, Passes, in_rows, IsBeside}
+use Rattle.reach.specs.Grown.{AreInside, Passes, in_rows}
 use Rattle.reach.proofs.Lines.{filled_beside}
 use Rattle.reach.proofs.Walking.{of_test}
 

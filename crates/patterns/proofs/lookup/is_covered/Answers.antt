@@ -1,6 +1,6 @@
 -- The invariant says that no group in the bucket of a box that came covers the state if all groups are asked. A group that covers it has a box of the state for its
 -- bucket, so once all boxes of the state have come, no group covers it.
-use Rattle.std.proofs.{Common.◌∙◌, Common.ap, Common.sym, Common.subst, lemmas.Bool.false≢true, lemmas.List.Elements.Contains-push_cases}
+use Rattle.std.proofs.{Common.◌∙◌, Common.ap, Common.sym, Common.subst, lemmas.List.Elements.Contains-push_cases}
 use Rattle.cellset.{specs.Cell.IsOn, proofs.MemberLists.all_came, proofs.MemberLists.next_has, proofs.MemberLists.next_came, proofs.Truth.either}
 use Rattle.patterns.{specs.CellIndex.index_of, proofs.Lookups.no_group_covers}
 use Rattle.patterns.proofs.lookup.is_covered.Goals as goal
