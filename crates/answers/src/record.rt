@@ -12,7 +12,7 @@ pub enum BadLineWhy {
 }
 
 /// What a record of the text says of its level.
-#[derive(Debug, Drop)]
+#[derive(Drop)]
 pub enum Record<'a> {
     /// The letter lines of a solution, borrowed from the text.
     Solution(Vec<&'a [u8]>),
@@ -25,7 +25,7 @@ pub enum Record<'a> {
 }
 
 /// What is next in a certificate.
-#[derive(Debug, Drop)]
+#[derive(Drop)]
 pub enum CertificateLine {
     /// A pattern. More lines may follow.
     Pattern(Pattern),
@@ -38,13 +38,13 @@ pub enum CertificateLine {
 }
 
 /// The records of a text, each with the number of its level. The numbers rise.
-#[derive(Debug, Drop)]
+#[derive(Drop)]
 pub struct Answers<'a> {
     pub records: Vec<(usize, Record<'a>)>,
 }
 
 /// What a made record says of its level.
-#[derive(Debug, Drop)]
+#[derive(Drop)]
 pub enum MadeBody<'a> {
     /// The letters of a solution.
     Letters(&'a [u8]),
@@ -55,7 +55,7 @@ pub enum MadeBody<'a> {
 }
 
 /// A record to write, and the number of its level.
-#[derive(Debug, Drop)]
+#[derive(Drop)]
 pub struct MadeRecord<'a> {
     pub level: usize,
     pub body: MadeBody<'a>,

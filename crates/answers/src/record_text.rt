@@ -7,14 +7,14 @@ ghost use Rattle.answers.specs.Grammar.{most_patterns};
 use crate::line::Left;
 
 // The kind line of a record.
-#[derive(Clone, Copy, Debug)]
+#[derive(Clone, Copy)]
 pub(crate) enum Kind {
     Solution,
     Unsolvable,
 }
 
 /// A record as it is in its text, not read yet.
-#[derive(Clone, Copy, Debug)]
+#[derive(Clone, Copy)]
 pub struct RecordText<'a> {
     pub(crate) level: usize,
     pub(crate) version: u8,
@@ -26,7 +26,7 @@ pub struct RecordText<'a> {
 }
 
 /// The lines of a certificate that are left to read.
-#[derive(Debug, Drop)]
+#[derive(Drop)]
 pub struct CertificateLines<'a> {
     pub(crate) version: u8,
     // The number of patterns before.

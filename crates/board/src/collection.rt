@@ -40,7 +40,7 @@ impl<'a> Model for LevelText<'a> {
 }
 
 /// Why a text has no list of levels.
-#[derive(Clone, Copy, Debug, PartialEq, Eq, Drop, Error)]
+#[derive(Clone, Copy, Debug, Drop, Error)]
 pub enum LevelsFault {
     /// There are more than `MAX_LEVELS` levels.
     #[error("too many levels")]

@@ -15,29 +15,37 @@ use crate::sketch::{Sketch, blank, draw};
 use cellset::{Cell, CellSet, Shape};
 use reach::step::ByWalk;
 use std::alloc::{AllocError, Global};
+use std::fmt;
 use thiserror::Error;
 
 /// Why a level has no board: the first of these that holds.
 #[derive(Clone, Copy, Debug, PartialEq, Eq, Drop, Error)]
 pub enum BoardFault {
     /// A side is above `MAX_SIDE` of `cellset`.
-    #[error("size")]
     Size,
     /// There is not exactly one player.
-    #[error("player")]
     Player,
     /// There is no box.
-    #[error("box")]
     Box,
     /// There are more boxes than goals.
-    #[error("goals")]
     Goals,
     /// A cell of the room lies in the first or last row or column.
-    #[error("open")]
     Open,
     /// The system refused memory.
-    #[error("memory")]
     Memory,
+}
+
+impl fmt::Display for BoardFault {
+    fn fmt<W: fmt::Write>(&self, f: &mut fmt::Formatter<W>) -> fmt::Result {
+        f.write_str(match self {
+            BoardFault::Size => "size",
+            BoardFault::Player => "player",
+            BoardFault::Box => "box",
+            BoardFault::Goals => "goals",
+            BoardFault::Open => "open",
+            BoardFault::Memory => "memory",
+        })
+    }
 }
 
 impl From<AllocError> for BoardFault {

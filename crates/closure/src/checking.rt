@@ -4,7 +4,7 @@ ghost use Rattle.std.specs.List.{Contains};
 ghost use Rattle.cellset.specs.{Cell.IsOn, Cell.neighbor, CellSet.Has, CellSet.Lacks, declared.cell.Cell.Cell as GridCell, declared.dir.Dir.Dir as GridDir};
 ghost use Rattle.board.specs.Game.{IsFloor, start};
 ghost use Rattle.patterns.specs.Pattern.{Pattern as PatternSet, IsCovered, AreLawful};
-ghost use Rattle.patterns.specs.{Pattern.CoversPushesOf, GroupPushes.AreNoted, GroupPushes.IsLoaded, GroupPushes.IsReady};
+ghost use Rattle.patterns.specs.{Pattern.CoversPushesOf, GroupPushes.AreNoted, GroupPushes.IsReady};
 ghost use Rattle.closure.specs.Closed.{Closed};
 ghost use Rattle.patterns.specs.{Arena.lines_in, Arena.list_in, Run.state_after, Run.AllLead};
 ghost use Rattle.patterns.specs.{Run.IsFirstAstray, Groups.boxes_of, Groups.list_of, Sides.cells_in};
@@ -16,7 +16,7 @@ use crate::region::Finder;
 use board::Board;
 use cellset::{Cell, CellSet, Dir, MembersOf, Shape};
 use patterns::{
-    Arena, FilledTables, PushScratch, Tables, are_in, are_pushes_found, find_trap, is_any_covering,
+    Arena, FilledTables, PushScratch, Tables, are_in, find_trap, is_any_covering,
     note_hinted,
 };
 use reach::{Push, Pushes, Rows};
@@ -70,7 +70,7 @@ fn check_tables<S: CellSet>(alloc: Global, tables: Tables<S>) -> Result<(), Chec
         return Ok(());
     }
     let filled = tables.fill(alloc)?;
-    let checked = check_filled(alloc, &filled, &mut covered);
+    let checked = check_filled(alloc, &filled, &covered);
     drop(filled);
     checked
 }
@@ -79,17 +79,22 @@ fn check_tables<S: CellSet>(alloc: Global, tables: Tables<S>) -> Result<(), Chec
 fn check_filled<S: CellSet>(
     alloc: Global,
     filled: &FilledTables<S>,
-    covered: &mut Vec<bool>,
+    covered: &[bool],
 ) -> Result<(), CheckFault>
     requires filled { AreFilled filled.now }
-    requires covered { AreNoted filled.now.tables.board.now filled.now.tables.groups covered.old.items }
+    requires covered { AreNoted filled.now.tables.board.now filled.now.tables.groups covered.now }
     ensures ok { OnOk result (Closed filled.now.tables.board.now (list_of filled.now.tables.groups)) }
     ensures exact { IfErr result (λ fault. fault ≢ CheckFault.Memory
         → IsFirstPatternFault filled.now.tables.board.now (lines_in filled.now.tables.groups.arena) fault) }
 {
-    let mut scratch = PushScratch::new(alloc, filled)?;
-    let checked = check_covering(alloc, filled, covered, &mut scratch);
+    let mut trial = Trial::new(alloc, filled.tables.board.shape())?;
+    let Ok(mut scratch) = PushScratch::new(alloc, filled) else {
+        drop(trial);
+        return Err(CheckFault::Memory);
+    };
+    let checked = check_covering(filled, covered, &mut scratch, &mut trial);
     drop(scratch);
+    drop(trial);
     checked
 }
 
@@ -123,29 +128,6 @@ fn are_all(covered: &[bool]) -> bool
     true
 }
 
-// Checks that the list covers the start, and what each push out of its patterns leads to if their group isn't noted as covered.
-fn check_covering<S: CellSet>(
-    alloc: Global,
-    filled: &FilledTables<S>,
-    covered: &mut Vec<bool>,
-    scratch: &mut PushScratch<S>,
-) -> Result<(), CheckFault>
-    requires covered { AreNoted filled.now.tables.board.now filled.now.tables.groups covered.old.items }
-    requires ready { IsReady S.extent filled.now scratch.old }
-    ensures ok { OnOk result (Closed filled.now.tables.board.now (list_of filled.now.tables.groups)) }
-    ensures exact { IfErr result (λ fault. fault ≢ CheckFault.Memory
-        → IsFirstPatternFault filled.now.tables.board.now (lines_in filled.now.tables.groups.arena) fault) }
-{
-    let board = filled.tables.board;
-    if !is_any_covering(filled, board.player(), board.boxes(), &mut scratch.lookup) {
-        return Err(CheckFault::Start);
-    }
-    let mut trial = Trial::new(alloc, board.shape())?;
-    let checked = check_pushes(filled, covered, scratch, &mut trial);
-    drop(trial);
-    checked
-}
-
 // Tries the pushes out of patterns, one line after another, in the same memory.
 #[derive(Drop)]
 struct Trial<S: CellSet> {
@@ -167,37 +149,27 @@ impl<S: CellSet> Model for Trial<S> {
         × (S.extent t.region ≡ t.finder.flooder) × (S.extent t.players ≡ t.finder.flooder) };
 }
 
-// Returns the first push out of a pattern whose result isn't covered as an error. At the first line of a group it tries the pushes of the
-// whole group. Groups are numbered in the order of these lines.
-fn check_pushes<S: CellSet>(
+// Checks that the list covers the start, and what each push out of its patterns leads to if their group isn't noted as covered.
+fn check_covering<S: CellSet>(
     filled: &FilledTables<S>,
-    covered: &mut Vec<bool>,
+    covered: &[bool],
     scratch: &mut PushScratch<S>,
     trial: &mut Trial<S>,
 ) -> Result<(), CheckFault>
-    requires start { IsCovered filled.now.tables.board.now (list_of filled.now.tables.groups) (start filled.now.tables.board.now) }
     requires ready { IsReady S.extent filled.now scratch.old }
     requires trial { trial.old ≡ filled.now.tables.board.now.shape }
-    requires covered { AreNoted filled.now.tables.board.now filled.now.tables.groups covered.old.items }
-    ensures ok { OnOk result ((pattern : PatternSet) → Contains (list_of filled.now.tables.groups) pattern
-        → CoversPushesOf filled.now.tables.board.now (list_of filled.now.tables.groups) pattern) }
+    requires covered { AreNoted filled.now.tables.board.now filled.now.tables.groups covered.now }
+    ensures ok { OnOk result (Closed filled.now.tables.board.now (list_of filled.now.tables.groups)) }
     ensures exact { IfErr result (λ fault. fault ≢ CheckFault.Memory
         → IsFirstPatternFault filled.now.tables.board.now (lines_in filled.now.tables.groups.arena) fault) }
 {
-    let mut loaded = filled.tables.groups.spans.len();
-    let mut met = 0;
+    let board = filled.tables.board;
+    if !is_any_covering(filled, board.player(), board.boxes(), &mut scratch.lookup) {
+        return Err(CheckFault::Start);
+    }
     for line in 0..filled.tables.groups.arena.lines.len() {
-        let group = filled.tables.groups.of[line] as usize;
-        if covered[group] {
+        if covered[filled.tables.groups.of[line] as usize] {
             continue;
-        }
-        load_group(filled, group, &mut loaded, scratch);
-        if group >= met {
-            met = group + 1;
-            if are_pushes_found(filled, group, scratch) {
-                covered[group] = true;
-                continue;
-            }
         }
         if let Some(push) = trial.first_push(filled, line, scratch) {
             return Err(CheckFault::Push {
@@ -210,28 +182,8 @@ fn check_pushes<S: CellSet>(
     Ok(())
 }
 
-// Loads the boxes of a group, unless they are loaded.
-fn load_group<S: CellSet>(
-    filled: &FilledTables<S>,
-    group: usize,
-    loaded: &mut usize,
-    scratch: &mut PushScratch<S>,
-)
-    requires group { group < length filled.now.tables.groups.spans.items }
-    requires ready { IsReady S.extent filled.now scratch.old }
-    requires loaded { loaded.old < length filled.now.tables.groups.spans.items → IsLoaded S.members filled.now (cells_in (boxes_of filled.now.tables.groups loaded.old)) scratch.old }
-    ensures ready { IsReady S.extent filled.now scratch.new }
-    ensures same { loaded.new ≡ group }
-    ensures loaded { IsLoaded S.members filled.now (cells_in (boxes_of filled.now.tables.groups group)) scratch.new }
-{
-    if *loaded != group {
-        scratch.load(filled, filled.tables.groups.boxes(group));
-        *loaded = group;
-    }
-}
-
 impl<S: CellSet> Trial<S> {
-    ghost use Rattle.patterns.specs.Arena.{boxes_at, pattern_at};
+    ghost use Rattle.patterns.specs.Arena.{pattern_at};
     ghost use Rattle.closure.specs.FirstFault.{IsFirstUncovered};
 
     // Returns a trial for boards of this shape.
@@ -260,10 +212,8 @@ impl<S: CellSet> Trial<S> {
         requires shape { self.old ≡ filled.now.tables.board.now.shape }
         requires line { line < length filled.now.tables.groups.arena.lines.items }
         requires ready { IsReady S.extent filled.now scratch.old }
-        requires loaded { IsLoaded S.members filled.now (cells_in (boxes_at filled.now.tables.groups.arena line)) scratch.old }
         ensures shape { self.new ≡ filled.now.tables.board.now.shape }
         ensures ready { IsReady S.extent filled.now scratch.new }
-        ensures loaded { IsLoaded S.members filled.now (cells_in (boxes_at filled.now.tables.groups.arena line)) scratch.new }
         ensures exact { MatchOption result
             (CoversPushesOf filled.now.tables.board.now (list_of filled.now.tables.groups) (pattern_at (list_of filled.now.tables.groups) line))
             (IsFirstUncovered filled.now.tables.board.now (list_of filled.now.tables.groups) (pattern_at (list_of filled.now.tables.groups) line)) }
@@ -315,31 +265,30 @@ fn add_player<S: CellSet>(region: &S, from: Cell, dir: Dir, players: &mut S)
     }
 }
 
-// Returns the first push of the boxes out of the region whose result isn't covered. The boxes are loaded, and given as a set too.
+// Returns the first push of the boxes out of the region whose result isn't covered. The boxes are given as a list and as a set.
 fn first_uncovered<S: CellSet>(
     filled: &FilledTables<S>,
-    loaded: &[Cell],
+    listed: &[Cell],
     boxes: &S,
     region: &S,
     scratch: &mut PushScratch<S>,
 ) -> Option<Push>
     requires boxes { S.extent boxes.now ≡ filled.now.tables.board.now.shape }
     requires region { S.extent region.now ≡ filled.now.tables.board.now.shape }
-    requires same { S.members boxes.now ≡ cells_in loaded.now }
-    requires floor { (c : GridCell) → Has (cells_in loaded.now) c → IsFloor filled.now.tables.board.now c }
+    requires same { S.members boxes.now ≡ cells_in listed.now }
+    requires floor { (c : GridCell) → Has (cells_in listed.now) c → IsFloor filled.now.tables.board.now c }
     requires room { (c : GridCell) → Has (S.members region.now) c → Has filled.now.tables.board.now.room c }
     requires ready { IsReady S.extent filled.now scratch.old }
-    requires loaded { IsLoaded S.members filled.now (cells_in loaded.now) scratch.old }
     ensures ready { IsReady S.extent filled.now scratch.new }
-    ensures loaded { IsLoaded S.members filled.now (cells_in loaded.now) scratch.new }
     ensures exact { MatchOption result
-        (AllLead filled.now.tables.board.now.shape filled.now.tables.board.now.walls (cells_in loaded.now)
+        (AllLead filled.now.tables.board.now.shape filled.now.tables.board.now.walls (cells_in listed.now)
         (Has (S.members region.now)) (IsCovered filled.now.tables.board.now (list_of filled.now.tables.groups)))
-        (IsFirstAstray filled.now.tables.board.now.shape filled.now.tables.board.now.walls (cells_in loaded.now)
+        (IsFirstAstray filled.now.tables.board.now.shape filled.now.tables.board.now.walls (cells_in listed.now)
         (Has (S.members region.now)) (IsCovered filled.now.tables.board.now (list_of filled.now.tables.groups))) }
 {
+    scratch.load(filled, listed);
     for push in Pushes::new(boxes.shape(), filled.tables.board.walls(), boxes, region) {
-        if !scratch.covers(filled, loaded, push) {
+        if !scratch.covers(filled, listed, push) {
             return Some(push);
         }
     }

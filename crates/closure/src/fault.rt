@@ -3,23 +3,31 @@ ghost use Rattle.std.specs.Prelude.{◌≡◌};
 
 use cellset::{Cell, Dir};
 use std::alloc::AllocError;
+use std::fmt;
 use thiserror::Error;
 
 /// Why a pattern is unlawful: the first reason that holds, in the order of the variants.
 #[derive(Clone, Copy, Debug, PartialEq, Eq, Error)]
 pub enum LineWhy {
     /// A box or a listed seed is off the board.
-    #[error("board")]
     Board,
     /// A box is on a wall.
-    #[error("wall")]
     Wall,
     /// A listed seed is outside the room or on a box of the pattern.
-    #[error("seed")]
     Seed,
     /// No box is off the goals.
-    #[error("goals")]
     Goals,
+}
+
+impl fmt::Display for LineWhy {
+    fn fmt<W: fmt::Write>(&self, f: &mut fmt::Formatter<W>) -> fmt::Result {
+        f.write_str(match self {
+            LineWhy::Board => "board",
+            LineWhy::Wall => "wall",
+            LineWhy::Seed => "seed",
+            LineWhy::Goals => "goals",
+        })
+    }
 }
 
 /// The first fault of a list of patterns. The variants are in the order of the checks, and each check goes through all patterns.

@@ -14,9 +14,8 @@
 //! 2. If each line has a box on the list's trap and the start has one there too, the list is closed (`checking`).
 //! 3. Lines with the same boxes become groups, and the trap and hints are asked about each push out of each group. If they settle all pushes,
 //!    and the start is found as quickly, the list is closed. This is so for nearly every list that a program writes.
-//! 4. Otherwise the start is looked up, and the lines are gone through up to the first fault. At the first line of a group, its pushes that
-//!    are left are looked up.
-//! 5. If one of these isn't covered, each line of the group gets a flood of its own (`region`), and its pushes are looked up in the same way.
+//! 4. Otherwise the start is looked up, and the lines are gone through up to the first fault. Each line whose group has pushes left gets a
+//!    flood of its own (`region`), and its pushes are looked up.
 //!
 //! So a list takes at most 2n floods, n more for a list with a trap that has to be looked up, and one for each piece that is looked at. The
 //! head of `patterns` says what lookups take.

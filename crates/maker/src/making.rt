@@ -22,7 +22,7 @@ use smallvec::SmallVec;
 use std::alloc::{AllocError, Global};
 
 /// A certificate that was made.
-#[derive(Debug, Drop)]
+#[derive(Drop)]
 pub enum Made {
     /// A list of patterns.
     Patterns(Vec<Pattern>),
@@ -31,7 +31,7 @@ pub enum Made {
 }
 
 /// A certificate that was found. A list of dead squares alone is kept as their coordinates.
-#[derive(Debug, Drop)]
+#[derive(Drop)]
 pub enum Found {
     /// The dead squares, in reading order. Each is a pattern of one box with the seeds `*`.
     Dead(Vec<Coord>),

@@ -16,9 +16,8 @@
 //!   bucket of one of its boxes, the one that the fewest lines have. A lookup goes through the buckets of the state's boxes.
 //! - **Pushes by lookups** (`push_lookups`): the group that covered the last result of a push from the same cell is asked first. Then one
 //!   look through the groups finds which boxes can be pushed by all players of one piece of the room less the boxes (`piece`, `subsets`). A
-//!   push that is still left is looked up by itself, first in the bucket of the cell ahead. The pushes of a whole group are looked up without
-//!   stale groups, which had the boxes of many states in a row and covered none. If a push stays open, the lines of the group decide, and
-//!   their pushes are looked up among all groups if the others don't settle them.
+//!   push that is still left is looked up by itself, first in the bucket of the cell ahead. All this is done without stale groups, which had the
+//!   boxes of many states in a row and covered none, and then, if the push stays open, among all groups.
 //!
 //! A group costs a look at its boxes. If they match and the region is parted, the player's path to the root is walked, once for each lookup
 //! or look: at most as many steps as the room has cells. In the worst case a lookup or look goes through each group. A stale group costs a few
@@ -55,7 +54,7 @@ pub use group_regions::{Region, Regions};
 pub use groups::Groups;
 pub use lookup::{Scratch, is_any_covering};
 pub use piece::Piece;
-pub use push_lookups::{PushScratch, are_pushes_found};
+pub use push_lookups::PushScratch;
 pub use pushes::note_hinted;
 pub use sides::Sides;
 pub use subsets::Subsets;

@@ -4,18 +4,16 @@
 //! (`piece`), and all groups (`lookup`).
 ghost use Rattle.std.specs.Prelude.{◌≡◌, ◌<◌, ◌↔◌, IsTrue, IfOk, IfSome, length};
 ghost use Rattle.cellset.specs.{Cell.IsOn, CellSet.Has, declared.cell.Cell.Cell as GridCell};
-ghost use Rattle.patterns.specs.{Pattern.IsCovered, Pattern.CoversPushesOf, Run.state_after, Sides.cell_no, Sides.cells_in, Groups.boxes_of, Groups.list_of, Groups.position_at};
-ghost use Rattle.patterns.specs.GroupPushes.{CoversFrom, CoversToward, IsLoaded, IsPushOf, IsPushedBox, IsReady, IsStepBack, pushed_cell};
+ghost use Rattle.patterns.specs.{Pattern.IsCovered, Run.state_after, Sides.cells_in, Groups.list_of};
+ghost use Rattle.patterns.specs.GroupPushes.{IsLoaded, IsPushOf, IsReady, IsStepBack};
 ghost use Rattle.patterns.specs.Tables.{AreFilled};
 
 use crate::cells::load;
-use crate::hints::{hash_of, hash_without};
 use crate::lookup::{Asked, Scratch, is_covered_after};
 use crate::piece::Piece;
-use crate::pushes::{PushedBox, is_hinted, push_of};
 use crate::tables::FilledTables;
 use crate::tree::index_of;
-use cellset::{Cell, CellSet, Dir};
+use cellset::{Cell, CellSet};
 use reach::Push;
 use std::alloc::{AllocError, Global};
 
@@ -130,80 +128,4 @@ impl<S: CellSet> PushScratch<S> {
             *group = self.piece.found;
         }
     }
-}
-
-/// Returns true only if the list covers each push out of a group. Its boxes are loaded.
-pub fn are_pushes_found<S: CellSet>(
-    filled: &FilledTables<S>,
-    group: usize,
-    scratch: &mut PushScratch<S>,
-) -> bool
-    requires group { group < length filled.now.tables.groups.spans.items }
-    requires ready { IsReady S.extent filled.now scratch.old }
-    requires loaded { IsLoaded S.members filled.now (cells_in (boxes_of filled.now.tables.groups group)) scratch.old }
-    ensures ready { IsReady S.extent filled.now scratch.new }
-    ensures loaded { IsLoaded S.members filled.now (cells_in (boxes_of filled.now.tables.groups group)) scratch.new }
-    ensures covered { IsTrue result → CoversPushesOf filled.now.tables.board.now (list_of filled.now.tables.groups) (position_at filled.now.tables.board.now filled.now.tables.groups group) }
-{
-    let boxes = filled.tables.groups.boxes(group);
-    let hash = hash_of(boxes);
-    for number in 0..boxes.len() {
-        let sides = filled.tables.sides_of(group, number);
-        let pushed = PushedBox {
-            group,
-            boxes,
-            others: hash_without(hash, boxes[number]),
-            number,
-            sides,
-        };
-        if !is_found_each_way(filled, &pushed, scratch) {
-            return false;
-        }
-    }
-    true
-}
-
-// Returns true only if the list covers each push of a box out of its group.
-fn is_found_each_way<S: CellSet>(
-    filled: &FilledTables<S>,
-    pushed: &PushedBox,
-    scratch: &mut PushScratch<S>,
-) -> bool
-    requires pushed { IsPushedBox filled.now.tables.board.now filled.now.tables.groups pushed.now }
-    requires ready { IsReady S.extent filled.now scratch.old }
-    requires loaded { IsLoaded S.members filled.now (cells_in pushed.now.boxes.now) scratch.old }
-    ensures ready { IsReady S.extent filled.now scratch.new }
-    ensures loaded { IsLoaded S.members filled.now (cells_in pushed.now.boxes.now) scratch.new }
-    ensures covered { IsTrue result → CoversFrom filled.now.tables.board.now (list_of filled.now.tables.groups) (position_at filled.now.tables.board.now filled.now.tables.groups pushed.now.group) (pushed_cell pushed.now) }
-{
-    if !is_found_toward(filled, pushed, Dir::L, scratch) {
-        return false;
-    }
-    if !is_found_toward(filled, pushed, Dir::U, scratch) {
-        return false;
-    }
-    if !is_found_toward(filled, pushed, Dir::R, scratch) {
-        return false;
-    }
-    is_found_toward(filled, pushed, Dir::D, scratch)
-}
-
-// Returns true only if the list covers the push of a box in a direction, or the push doesn't go out of its group.
-fn is_found_toward<S: CellSet>(
-    filled: &FilledTables<S>,
-    pushed: &PushedBox,
-    dir: Dir,
-    scratch: &mut PushScratch<S>,
-) -> bool
-    requires pushed { IsPushedBox filled.now.tables.board.now filled.now.tables.groups pushed.now }
-    requires ready { IsReady S.extent filled.now scratch.old }
-    requires loaded { IsLoaded S.members filled.now (cells_in pushed.now.boxes.now) scratch.old }
-    ensures ready { IsReady S.extent filled.now scratch.new }
-    ensures loaded { IsLoaded S.members filled.now (cells_in pushed.now.boxes.now) scratch.new }
-    ensures covered { IsTrue result → CoversToward filled.now.tables.board.now (list_of filled.now.tables.groups) (position_at filled.now.tables.board.now filled.now.tables.groups pushed.now.group) (pushed_cell pushed.now) dir }
-{
-    let Some(push) = push_of(&filled.tables, pushed, dir) else {
-        return true;
-    };
-    is_hinted(&filled.tables, pushed, push) || scratch.finds(filled, pushed.boxes, push, false)
 }

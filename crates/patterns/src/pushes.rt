@@ -22,12 +22,12 @@ use std::alloc::{AllocError, Global};
 
 // A box of a group, by its number, the hash of the other boxes, and on which sides of it the region lies.
 #[derive(Clone, Copy)]
-pub(crate) struct PushedBox<'a> {
-    pub(crate) group: usize,
-    pub(crate) boxes: &'a [Cell],
-    pub(crate) others: usize,
-    pub(crate) number: usize,
-    pub(crate) sides: Sides,
+struct PushedBox<'a> {
+    group: usize,
+    boxes: &'a [Cell],
+    others: usize,
+    number: usize,
+    sides: Sides,
 }
 
 /// Notes the groups whose pushes the trap and hints settle.
@@ -119,7 +119,7 @@ fn is_free<S: CellSet>(board: &Board<S>, boxes: &[Cell], cell: Cell) -> bool
 
 // The push of a box in the direction, if it goes out of its group.
 #[inline(always)]
-pub(crate) fn push_of<S: CellSet>(tables: &Tables<S>, pushed: &PushedBox, dir: Dir) -> Option<Push>
+fn push_of<S: CellSet>(tables: &Tables<S>, pushed: &PushedBox, dir: Dir) -> Option<Push>
     requires tables { AreTables tables.now }
     requires pushed { IsPushedBox tables.now.board.now tables.now.groups pushed.now }
     ensures found { MatchOption result
@@ -196,7 +196,7 @@ fn covers_after<S: CellSet>(
 
 // Returns whether a group that hints name covers the result of a push.
 #[inline(always)]
-pub(crate) fn is_hinted<S: CellSet>(tables: &Tables<S>, pushed: &PushedBox, push: Push) -> bool
+fn is_hinted<S: CellSet>(tables: &Tables<S>, pushed: &PushedBox, push: Push) -> bool
     requires tables { AreTables tables.now }
     requires back { IsStepBack push }
     requires off { (c : GridCell) → Has (moved (cells_in pushed.now.boxes.now) push.from push.to) c → Lacks tables.now.trap.members c }

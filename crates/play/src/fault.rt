@@ -1,21 +1,29 @@
 //! What can be wrong with a solution.
+use std::fmt;
 use thiserror::Error;
 
 /// Why a letter is no legal step: the first of these that holds.
 #[derive(Clone, Copy, Debug, PartialEq, Eq, Error)]
 pub enum MoveWhy {
     /// It is none of `l u r d L U R D`.
-    #[error("letter")]
     Letter,
     /// The next cell is a wall.
-    #[error("wall")]
     Wall,
     /// The next cell has a box, and the cell after it is a wall or has a box.
-    #[error("blocked")]
     Blocked,
     /// It is a capital for a walk, or small for a push.
-    #[error("case")]
     Case,
+}
+
+impl fmt::Display for MoveWhy {
+    fn fmt<W: fmt::Write>(&self, f: &mut fmt::Formatter<W>) -> fmt::Result {
+        f.write_str(match self {
+            MoveWhy::Letter => "letter",
+            MoveWhy::Wall => "wall",
+            MoveWhy::Blocked => "blocked",
+            MoveWhy::Case => "case",
+        })
+    }
 }
 
 /// Why a text doesn't solve its level: the first of these that holds.

@@ -13,7 +13,7 @@ use std::marker::Model;
 use thiserror::Error;
 
 /// What a step moved.
-#[derive(Clone, Copy, Debug, PartialEq, Eq)]
+#[derive(Clone, Copy)]
 pub enum Moved {
     /// The player alone.
     Walk,
@@ -22,7 +22,7 @@ pub enum Moved {
 }
 
 /// Why a step isn't possible: the first of these that holds.
-#[derive(Clone, Copy, Debug, PartialEq, Eq, Error)]
+#[derive(Clone, Copy, Debug, Error)]
 pub enum StepFault {
     /// The next cell is a wall.
     #[error("wall")]

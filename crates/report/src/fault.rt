@@ -25,23 +25,30 @@ impl fmt::Display for Which {
 #[derive(Clone, Copy, Debug, PartialEq, Eq, Error)]
 pub enum Why {
     /// The first line isn't a header, or there is no line.
-    #[error("header")]
     Header,
     /// A level line is due, and the line isn't one.
-    #[error("level")]
     Level,
     /// The level's number isn't above the number in the record before.
-    #[error("order")]
     Order,
     /// The level's number is above the number of levels.
-    #[error("unknown")]
     Unknown,
     /// A kind line is due, and the line isn't one.
-    #[error("kind")]
     Kind,
     /// The text ends inside a record; the line is the one after the last.
-    #[error("unclosed")]
     Unclosed,
+}
+
+impl fmt::Display for Why {
+    fn fmt<W: fmt::Write>(&self, f: &mut fmt::Formatter<W>) -> fmt::Result {
+        f.write_str(match self {
+            Why::Header => "header",
+            Why::Level => "level",
+            Why::Order => "order",
+            Why::Unknown => "unknown",
+            Why::Kind => "kind",
+            Why::Unclosed => "unclosed",
+        })
+    }
 }
 
 /// Why there is no report, or no made answers.

@@ -11,12 +11,12 @@ use Rattle.closure.proofs.checking.first_uncovered.Goals.{After-into_iter-push-i
 
 -- The iterator has the pushes out of the region.
 all_pushes : (g : _) (c : After-into_iter-push-iterator g) → ArePushesOut c.args.filled.now.tables.board.now.shape c.args.filled.now.tables.board.now.walls
-    (cells_in c.args.loaded.now) (Has (g.S.CellSet.members c.args.region.now)) c.into_iter-push-iterator.result
+    (cells_in c.args.listed.now) (Has (g.S.CellSet.members c.args.region.now)) c.into_iter-push-iterator.result
 all_pushes g c = grind arith
 
 -- The next one is a push out.
 next_out : (g : _) (c : In-Some g) → IsPushOut c.args.filled.now.tables.board.now.shape c.args.filled.now.tables.board.now.walls
-    (cells_in c.args.loaded.now) (Has (g.S.CellSet.members c.args.region.now)) c.in-Some.push
+    (cells_in c.args.listed.now) (Has (g.S.CellSet.members c.args.region.now)) c.in-Some.push
 next_out g c = next_is_out (all_pushes g (goal.at.In-Some g c).After-into_iter-push-iterator) c.loop-push.yielded c.loop-push.push-iterator
     c.loop-push.yielded_by c.in-Some.push c.next.new.self c.in-Some.ensures.steps
 
@@ -40,7 +40,7 @@ returns-then-not-covers-clause-exact g c =
     record {
       out = next_out g at.In-Some;
       astray = λ good. false≢true (c.if-not-covers.ensures.exact.1 good);
-      first = λ earlier out before. All-contains (λ p. covered (state_after (cells_in c.args.loaded.now) p)) c.loop-push.yielded earlier
+      first = λ earlier out before. All-contains (λ p. covered (state_after (cells_in c.args.listed.now) p)) c.loop-push.yielded earlier
           c.loop-push.invariant.good
           (came_before (all_pushes g at.After-into_iter-push-iterator) c.loop-push.yielded c.loop-push.push-iterator c.loop-push.yielded_by push
           c.next.new.self c.in-Some.ensures.steps earlier out before);
@@ -52,13 +52,13 @@ loop-push-preserved g c =
     record {
       ready = c.covers.ensures.ready;
       loaded = c.covers.ensures.loaded;
-      good = All-push (λ p. covered (state_after (cells_in c.args.loaded.now) p)) c.loop-push.yielded c.in-Some.push c.loop-push.invariant.good
+      good = All-push (λ p. covered (state_after (cells_in c.args.listed.now) p)) c.loop-push.yielded c.in-Some.push c.loop-push.invariant.good
           (c.if-not-covers.ensures.exact.0 refl);
     }
 
 pub returns-clause-exact : goal.returns-clause-exact
 returns-clause-exact g c = λ push out.
-    All-contains (λ p. IsCovered c.args.filled.now.tables.board.now (list_of c.args.filled.now.tables.groups) (state_after (cells_in c.args.loaded.now) p))
+    All-contains (λ p. IsCovered c.args.filled.now.tables.board.now (list_of c.args.filled.now.tables.groups) (state_after (cells_in c.args.listed.now) p))
     c.loop-push.yielded push c.loop-push.invariant.good
     (all_came (all_pushes g (goal.at.returns-clause-exact g c).After-into_iter-push-iterator) c.loop-push.yielded c.loop-push.push-iterator
     c.loop-push.yielded_by c.next.new.self c.in-None.ensures.steps push out)

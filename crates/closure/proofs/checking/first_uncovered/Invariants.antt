@@ -5,6 +5,6 @@ use Rattle.closure.proofs.checking.first_uncovered.Given as goal
 abbrev pub invariant-loop-push : goal.invariant-loop-push
 invariant-loop-push g l = record {
   ready : IsReady g.S.CellSet.extent l.filled l.scratch;
-  loaded : IsLoaded g.S.CellSet.members l.filled (cells_in l.loaded) l.scratch;
-  good : All (λ p. IsCovered l.filled.tables.board.now (list_of l.filled.tables.groups) (state_after (cells_in l.loaded) p)) l.yielded;
+  loaded : IsLoaded g.S.CellSet.members l.filled (cells_in l.listed) l.scratch;
+  good : All (λ p. IsCovered l.filled.tables.board.now (list_of l.filled.tables.groups) (state_after (cells_in l.listed) p)) l.yielded;
 }
