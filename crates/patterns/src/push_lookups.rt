@@ -70,7 +70,11 @@ impl<S: CellSet> PushScratch<S> {
         ensures loaded { IsLoaded S.members filled.now (cells_in boxes.now) self.new }
         ensures exact { IsTrue result ↔ IsCovered filled.now.tables.board.now (list_of filled.now.tables.groups) (state_after (cells_in boxes.now) push) }
     {
-        self.finds(filled, boxes, push, false) || self.finds(filled, boxes, push, true)
+        if self.finds(filled, boxes, push, false) {
+            return true;
+        }
+        self.piece.subsets.widen();
+        self.finds(filled, boxes, push, true)
     }
 
     // Returns true only if some group covers the result of a push of these boxes, and exactly then if all groups are asked.
@@ -84,7 +88,6 @@ impl<S: CellSet> PushScratch<S> {
         ensures covered { IsTrue result → IsCovered filled.now.tables.board.now (list_of filled.now.tables.groups) (state_after (cells_in boxes.now) push) }
         ensures all { IsTrue all → IsCovered filled.now.tables.board.now (list_of filled.now.tables.groups) (state_after (cells_in boxes.now) push) → IsTrue result }
     {
-        self.piece.subsets.widen(all);
         if self.piece.is_loose(filled, &self.state, push) {
             return true;
         }

@@ -18,11 +18,11 @@ pub struct Subsets {
 }
 
 impl Subsets {
-    // Begins the search again with stale groups, if they are wanted and weren't.
-    pub(crate) fn widen(&mut self, all: bool)
+    // Begins the search again with stale groups, unless it asks them already.
+    pub(crate) fn widen(&mut self)
         ensures { self.new.link ≤ self.old.link }
     {
-        if all && !self.all {
+        if !self.all {
             self.begun = 0;
             self.link = 0;
             self.all = true;

@@ -1,5 +1,5 @@
 use Rattle.std.proofs.Common.{refl}
 use Rattle.patterns.proofs.push_lookups.PushScratch.covers.Goals as goal
 
-pub returns-else-finds-clause-exact : goal.returns-else-finds-clause-exact
-returns-else-finds-clause-exact g c = (c.finds-else-finds.ensures.covered, c.finds-else-finds.ensures.all refl)
+pub returns-clause-exact : goal.returns-clause-exact
+returns-clause-exact g c = (c.finds-2.ensures.covered, c.finds-2.ensures.all refl)
