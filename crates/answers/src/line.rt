@@ -16,7 +16,7 @@ pub(crate) struct NumberedLine<'a> {
 }
 
 // The rest of a text, and the number of the line before it.
-#[derive(Clone, Copy)]
+#[derive(Clone, Copy, Debug)]
 pub(crate) struct Left<'a> {
     pub before: usize,
     pub text: &'a [u8],

@@ -3,14 +3,14 @@
 use smallvec::SmallVec;
 
 /// A cell as the text spells it: column and row from 1, where 0 is off every board. Cells are ordered by row, then by column.
-#[derive(Clone, Copy, Default)]
+#[derive(Clone, Copy, Debug, Default)]
 pub struct Coord {
     pub row: u16,
     pub column: u16,
 }
 
 /// The cells at which the region of a pattern begins.
-#[derive(Drop)]
+#[derive(Debug, Drop)]
 pub enum Seeds {
     /// The room without the boxes, written `*`.
     Room,
@@ -19,7 +19,7 @@ pub enum Seeds {
 }
 
 /// Boxes with the seeds of a region, and the line of the text; a made pattern has line 0.
-#[derive(Drop)]
+#[derive(Debug, Drop)]
 pub struct Pattern {
     pub line: usize,
     pub boxes: SmallVec<Coord, 8>,
@@ -27,7 +27,7 @@ pub struct Pattern {
 }
 
 /// Cells, and the line of the text; a made zone has line 0.
-#[derive(Drop)]
+#[derive(Debug, Drop)]
 pub struct Zone {
     pub line: usize,
     pub cells: Vec<Coord>,

@@ -12,7 +12,7 @@ pub enum BadLineWhy {
 }
 
 /// What a record of the text says of its level.
-#[derive(Drop)]
+#[derive(Debug, Drop)]
 pub enum Record<'a> {
     /// The letter lines of a solution, borrowed from the text.
     Solution(Vec<&'a [u8]>),

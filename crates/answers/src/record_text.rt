@@ -7,14 +7,14 @@ ghost use Rattle.answers.specs.Grammar.{most_patterns};
 use crate::line::Left;
 
 // The kind line of a record.
-#[derive(Clone, Copy)]
+#[derive(Clone, Copy, Debug)]
 pub(crate) enum Kind {
     Solution,
     Unsolvable,
 }
 
 /// A record as it is in its text, not read yet.
-#[derive(Clone, Copy)]
+#[derive(Clone, Copy, Debug)]
 pub struct RecordText<'a> {
     pub(crate) level: usize,
     pub(crate) version: u8,

@@ -2,12 +2,11 @@
 ghost use Rattle.std.specs.Prelude.{◌≡◌, ◌≢◌, ◌<◌, ◌↔◌, ℕ, Bool, IsTrue, IfOk, IfErr, OnOk, MatchOption, length, slice_index_or};
 ghost use Rattle.std.specs.List.{Contains};
 ghost use Rattle.cellset.specs.{Cell.IsOn, Cell.neighbor, CellSet.Has, CellSet.Lacks, declared.cell.Cell.Cell as GridCell, declared.dir.Dir.Dir as GridDir};
-ghost use Rattle.board.specs.Game.{IsFloor, start};
+ghost use Rattle.board.specs.Game.{start};
 ghost use Rattle.patterns.specs.Pattern.{Pattern as PatternSet, IsCovered, AreLawful};
 ghost use Rattle.patterns.specs.{Pattern.CoversPushesOf, GroupPushes.AreNoted, GroupPushes.IsReady};
 ghost use Rattle.closure.specs.Closed.{Closed};
-ghost use Rattle.patterns.specs.{Arena.lines_in, Arena.list_in, Run.state_after, Run.AllLead};
-ghost use Rattle.patterns.specs.{Run.IsFirstAstray, Groups.boxes_of, Groups.list_of, Sides.cells_in};
+ghost use Rattle.patterns.specs.{Arena.lines_in, Arena.list_in, Groups.list_of};
 ghost use Rattle.closure.specs.FirstFault.{IsFirstPatternFault};
 ghost use Rattle.patterns.specs.Tables.{AreFilled, AreTables};
 
@@ -218,15 +217,18 @@ impl<S: CellSet> Trial<S> {
             (CoversPushesOf filled.now.tables.board.now (list_of filled.now.tables.groups) (pattern_at (list_of filled.now.tables.groups) line))
             (IsFirstUncovered filled.now.tables.board.now (list_of filled.now.tables.groups) (pattern_at (list_of filled.now.tables.groups) line)) }
     {
+        let board = filled.tables.board;
         let pattern = filled.tables.groups.arena.pattern(line);
-        self.finder.find(
-            filled.tables.board,
-            pattern,
-            &mut self.boxes,
-            &mut self.region,
-        );
+        self.finder
+            .find(board, pattern, &mut self.boxes, &mut self.region);
         find_players(&self.boxes, &self.region, &mut self.players);
-        first_uncovered(filled, pattern.boxes, &self.boxes, &self.players, scratch)
+        scratch.load(filled, pattern.boxes);
+        for push in Pushes::new(board.shape(), board.walls(), &self.boxes, &self.players) {
+            if !scratch.covers(filled, pattern.boxes, push) {
+                return Some(push);
+            }
+        }
+        None
     }
 }
 
@@ -263,34 +265,4 @@ fn add_player<S: CellSet>(region: &S, from: Cell, dir: Dir, players: &mut S)
             players.insert(player);
         }
     }
-}
-
-// Returns the first push of the boxes out of the region whose result isn't covered. The boxes are given as a list and as a set.
-fn first_uncovered<S: CellSet>(
-    filled: &FilledTables<S>,
-    listed: &[Cell],
-    boxes: &S,
-    region: &S,
-    scratch: &mut PushScratch<S>,
-) -> Option<Push>
-    requires boxes { S.extent boxes.now ≡ filled.now.tables.board.now.shape }
-    requires region { S.extent region.now ≡ filled.now.tables.board.now.shape }
-    requires same { S.members boxes.now ≡ cells_in listed.now }
-    requires floor { (c : GridCell) → Has (cells_in listed.now) c → IsFloor filled.now.tables.board.now c }
-    requires room { (c : GridCell) → Has (S.members region.now) c → Has filled.now.tables.board.now.room c }
-    requires ready { IsReady S.extent filled.now scratch.old }
-    ensures ready { IsReady S.extent filled.now scratch.new }
-    ensures exact { MatchOption result
-        (AllLead filled.now.tables.board.now.shape filled.now.tables.board.now.walls (cells_in listed.now)
-        (Has (S.members region.now)) (IsCovered filled.now.tables.board.now (list_of filled.now.tables.groups)))
-        (IsFirstAstray filled.now.tables.board.now.shape filled.now.tables.board.now.walls (cells_in listed.now)
-        (Has (S.members region.now)) (IsCovered filled.now.tables.board.now (list_of filled.now.tables.groups))) }
-{
-    scratch.load(filled, listed);
-    for push in Pushes::new(boxes.shape(), filled.tables.board.walls(), boxes, region) {
-        if !scratch.covers(filled, listed, push) {
-            return Some(push);
-        }
-    }
-    None
 }

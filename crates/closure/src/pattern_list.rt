@@ -16,7 +16,7 @@ use patterns::Arena;
 use std::alloc::{AllocError, Global};
 
 /// An accepted list: the number of its patterns.
-#[derive(Clone, Copy)]
+#[derive(Clone, Copy, Debug)]
 pub struct Accepted {
     pub patterns: usize,
 }

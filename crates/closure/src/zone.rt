@@ -17,7 +17,7 @@ use patterns::{add_cells, are_outside, load};
 use std::alloc::Global;
 
 /// An accepted zone: the number of its cells, each counted once.
-#[derive(Clone, Copy)]
+#[derive(Clone, Copy, Debug)]
 pub struct AcceptedZone {
     pub cells: usize,
 }

@@ -22,7 +22,7 @@ use smallvec::SmallVec;
 use std::alloc::{AllocError, Global};
 
 /// A certificate that was made.
-#[derive(Drop)]
+#[derive(Debug, Drop)]
 pub enum Made {
     /// A list of patterns.
     Patterns(Vec<Pattern>),

@@ -13,7 +13,7 @@ use std::marker::Model;
 use thiserror::Error;
 
 /// What a step moved.
-#[derive(Clone, Copy)]
+#[derive(Clone, Copy, Debug)]
 pub enum Moved {
     /// The player alone.
     Walk,

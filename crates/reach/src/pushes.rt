@@ -13,7 +13,7 @@ use cellset::{Cell, CellSet, Dir, MembersOf, Shape};
 use std::marker::Model;
 
 /// A push: the player's cell, the direction of its step, and the cells that the box leaves and enters.
-#[derive(Clone, Copy)]
+#[derive(Clone, Copy, Debug)]
 pub struct Push {
     pub player: Cell,
     pub dir: Dir,
