@@ -15,8 +15,7 @@ use crate::region::Finder;
 use board::Board;
 use cellset::{Cell, CellSet, Dir, MembersOf, Shape};
 use patterns::{
-    Arena, FilledTables, PushScratch, Tables, are_in, find_trap, is_any_covering,
-    note_hinted,
+    Arena, FilledTables, PushScratch, Tables, are_in, find_trap, is_any_covering, note_hinted,
 };
 use reach::{Push, Pushes, Rows};
 use std::alloc::{AllocError, Global};

@@ -28,7 +28,7 @@ all_pushes g c = grind arith
 -- A push out of the pattern is a push out of these cells.
 out_of_set : (g : _) (c : After-into_iter-push-iterator g) (push : Push) → PushesOut c.args.filled.now.tables.board.now (pattern_in c.pattern-pattern.result) push
     → IsPushOut c.args.filled.now.tables.board.now.shape c.args.filled.now.tables.board.now.walls (cells_in c.pattern-pattern.result.boxes.now)
-      (Has (g.S.CellSet.members c.find_players.new.players)) push
+    (Has (g.S.CellSet.members c.find_players.new.players)) push
 out_of_set g c push out =
     let level = c.args.filled.now.tables.board.now in
     record {

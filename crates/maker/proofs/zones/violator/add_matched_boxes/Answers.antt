@@ -3,7 +3,7 @@
 -- keeps this, by cases on whether its box was new. After the loop all goals have been seen.
 use Rattle.std.proofs.Common.{◌∙◌, arith}
 use Rattle.std.proofs.lemmas.List.Elements.{Contains-push_cases}
-use Rattle.cellset.proofs.MemberLists.{next_has, next_came}
+use Rattle.cellset.proofs.MemberLists.{next_has, next_came, all_came}
 use Rattle.cellset.proofs.Truth.{either, or_cases}
 use Rattle.maker.proofs.Violators.{none_of}
 use Rattle.maker.proofs.zones.violator.add_matched_boxes.Goals as goal
@@ -39,3 +39,9 @@ loop-goal-preserved g c =
           (λ is. rw (inv.same before) at (step.matched_box here (rw (inv.same before, is) has) b
           (rw is pair)));
     }
+
+pub returns-clause-matching : goal.returns-clause-matching
+returns-clause-matching g c = λ e q b is_goal has pair.
+    let level = c.args.board.now in
+    let all = all_came level.shape level.goals c.loop-goal.yielded (rw c.in-None.ensures.steps.0 at c.loop-goal.invariant.all) in
+    c.loop-goal.invariant.matching e q b ((all.exact q).1 is_goal) has pair
