@@ -30,3 +30,18 @@ play_letter-requires-in-others-clause-under_way c = under_way_then c.others.inva
 
 pub returns-in_err-play_letter-2-clause-err : goal.returns-in_err-play_letter-2-clause-err
 returns-in_err-play_letter-2-clause-err c = grind (arith, err_from_is_err_and, fault_next)
+
+pub overflow_add-at-in-small : goal.overflow_add-at-in-small
+overflow_add-at-in-small c = omega arith
+
+pub overflow_add-at-in-others : goal.overflow_add-at-in-others
+overflow_add-at-in-others c = omega arith
+
+pub groups-preserved : goal.groups-preserved
+groups-preserved c = c.others.invariant.0
+
+pub groups-preserved-else-line-at-lt97 : goal.groups-preserved-else-line-at-lt97
+groups-preserved-else-line-at-lt97 c = c.others.invariant.0
+
+pub walk_groups-at-requires-clause-masked : goal.walk_groups-at-requires-clause-masked
+walk_groups-at-requires-clause-masked c = rw c.groups.auto.field c.requires.masked
