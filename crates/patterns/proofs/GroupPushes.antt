@@ -5,23 +5,18 @@
 use Rattle.std.proofs.Common.{◌≡◌, ◌≢◌, Bool, false, ℕ, ◌<◌, ◌≤◌, List, length, get_or, set, refl, sym, ◌∙◌, ap, subst, inl, inr, arith}
 use Rattle.std.{specs.Prelude.IsTrue, specs.Prelude.slice_index, specs.List.Contains, proofs.lemmas.Bool.cases_lt}
 use Rattle.std.proofs.lemmas.List.{get_or-set_other, get_or-set_same, length-set}
-use Rattle.cellset.specs.{Cell.IsOn, Cell.neighbor, Cell.opposite, CellSet.Cells, CellSet.Has, CellSet.Lacks, declared.cell.Cell.Cell, declared.dir.Dir.Dir}
+use Rattle.cellset.specs.{Cell.IsOn, Cell.neighbor, Cell.opposite, CellSet.Cells, CellSet.Has, declared.cell.Cell.Cell, declared.dir.Dir.Dir}
 use Rattle.cellset.specs.declared.dir.Dir.TheVariants.{L, U, R, D}
-use Rattle.cellset.proofs.Neighbors.{neighbor_back, neighbor_forth}
+use Rattle.cellset.proofs.Neighbors.{neighbor_back}
 use Rattle.reach.specs.{declared.pushes.Push.Push}
-use Rattle.board.specs.Game.{Level, IsFloor, moved}
+use Rattle.board.specs.Game.{Level, moved}
 use Rattle.patterns.specs.Pattern.{Pattern, InPatternRegion, IsCovered, PushesOut, after_push, CoversPushesOf}
 use Rattle.patterns.specs.{Arena.pattern_at, Run.state_after, Sides.cell_no, Sides.cells_in, declared.groups.Groups.Groups, declared.pushes.PushedBox.PushedBox}
 use Rattle.patterns.specs.{declared.tables.Tables.Tables, Groups.IsGrouped, Groups.boxes_of, Groups.list_of, Groups.position_at, Tables.AreTables}
-use Rattle.patterns.specs.GroupPushes.{AreNoted, CoversFrom, CoversToward, HasNoPush, IsPushAt, IsPushOf, IsPushedBox, IsStepBack, pushed_cell}
+use Rattle.patterns.specs.GroupPushes.{AreNoted, CoversFrom, CoversToward, HasNoPush, IsPushAt, IsPushedBox, IsStepBack, pushed_cell}
 use Rattle.patterns.proofs.{Arenas.list_long, CellLists.at_any, CellLists.in_list, CellLists.no_cell, CellLists.of_list, RegionCells.region_on}
 use Rattle.patterns.proofs.Grouped.{box_floor, boxes_on, covered_of_group, group_in_room, line_boxes, of_line}
 use Rattle.patterns.proofs.Traps.{onto_trap, trapped_push}
-
--- A push of the box on a cell to a free cell of the grid is a push of one of the boxes.
-pub push_in_box : (level : Level) (boxes : Cells) (cell : Cell) (dir : Dir) (push : Push) → Has boxes cell → IsFloor level cell → Has level.room push.player →
-    Lacks boxes push.to → IsPushAt level.shape cell dir push → IsPushOf level boxes push
-push_in_box level boxes cell dir push has floor room free at = grind (arith, neighbor_forth)
 
 -- The box that moves lies on the grid.
 pub pushed_on : {S : Type 0} (tables : Tables S) → AreTables tables → (pushed : PushedBox) → IsPushedBox tables.board.now tables.groups pushed →
