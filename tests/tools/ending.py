@@ -1,15 +1,14 @@
 """Does something at a chosen moment of a run of sokotool in this process, or ends the run there."""
 import os
-import tempfile
 import unittest.mock
 from typing import Any, Callable, Dict, Tuple
 
-from sokotool import auditor, progress, searches
+from sokotool import auditor, output, progress, searches
 
 # the functions at whose calls something can be done
 MOMENTS: Dict[str, Tuple[Any, str]] = {
     "progress": (progress.Progress, "show"), "audit": (auditor.Auditor, "run"),
-    "search": (searches.Searches, "results"), "mkstemp": (tempfile, "mkstemp"),
+    "search": (searches.Searches, "results"), "write": (output, "_write"),
     "os.replace": (os, "replace")}
 
 
@@ -54,7 +53,7 @@ class EndsEarly(Meanwhile):
         def act() -> None:
             raise error
         is_full = name == "progress" and isinstance(error, OSError)
-        super().__init__("mkstemp" if is_full else name, calls, act)
+        super().__init__("write" if is_full else name, calls, act)
         self.is_killed = isinstance(error, Killed)
         unlink = os.unlink
 

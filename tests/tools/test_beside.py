@@ -33,11 +33,11 @@ class Beside(Check):
     def test_typed_while_it_reads_and_audits(self):
         self.write("a.txt", CORNER)
         self.check("mine", "a.txt")
-        for moment in ("audit", "progress", "mkstemp"):
+        for moment in ("audit", "progress", "write"):
             for calls in (1, 2, 3):
                 self.write("a.txt", self.read("a.txt") + b"\n" + LONG.replace(
                     "@ ", "@" + " " * (calls + 3 * (moment == "audit") + 6 * (
-                        moment == "mkstemp"))).encode())
+                        moment == "write"))).encode())
                 with Meanwhile(moment, calls, self.typed("mine.xsb", f"{moment} {calls}\n")):
                     result = self.check("mine", "a.txt")
                 self.assertIn("edited by hand: level", result.out.decode())

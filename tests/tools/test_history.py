@@ -26,7 +26,7 @@ RUNS = 6
 # what a keeper may put back from a backup
 ENDS = (".xsb", ".answers", ".report", ".html", ".memory", ".kept.xsb", ".kept.answers")
 # the moments of a run at which something may be done, with the most calls until then
-MOMENTS = (("progress", 4), ("audit", 4), ("search", 1), ("mkstemp", 12))
+MOMENTS = (("progress", 4), ("audit", 4), ("search", 1), ("write", 12))
 
 
 class Drawn(NamedTuple):
@@ -342,7 +342,7 @@ class Histories(Case):
         error = {"killed": Killed(), "interrupted": KeyboardInterrupt(),
                  "full": OSError(errno.ENOSPC, "No space left on device")}[way]
         moment = chance.choice((
-            ("os.replace", chance.randint(1, 12)), ("mkstemp", chance.randint(1, 12)),
+            ("os.replace", chance.randint(1, 12)), ("write", chance.randint(1, 12)),
             ("progress", chance.randint(1, 4))))
         with EndsEarly(error, *moment):
             try:

@@ -5,9 +5,9 @@ import hashlib
 import io
 import json
 import os
+import secrets
 import stat
 import sys
-import tempfile
 from types import MappingProxyType
 from typing import Iterator, List, Mapping, NamedTuple, Optional, Sequence, Tuple
 
@@ -86,7 +86,10 @@ def write_files(files: Sequence[Tuple[str, Optional[bytes]]], journal: str = "",
                 with open(path, "wb") as device:
                     device.write(data)
             else:
-                ready.append((_put(data, path), path))
+                # The name is kept first, so an interrupt leaves no file behind.
+                made = _name_beside(path)
+                ready.append((made, path))
+                _write(made, data, path)
         if journal:
             before = {os.path.realpath(it): _digest_of(data) for it, data in known.items()}
             listed = [_Entry(made, path, before[path] if path in before else _digest(path),
@@ -155,8 +158,15 @@ def _take_back(journal: str, done: Sequence[_Entry]) -> None:
                 f"{texts.shown(entry.path)} was changed after a write was cut off, and so was "
                 f"another file: the former files end in ~; take from them what is missing, and "
                 f"remove {texts.shown(journal)}")
-        with open(former, "rb") as file:
-            _replace(_put(file.read(), entry.path), entry.path)
+        made = _name_beside(entry.path)
+        try:
+            with open(former, "rb") as file:
+                _write(made, file.read(), entry.path)
+            _replace(made, entry.path)
+        except BaseException:
+            with contextlib.suppress(OSError):
+                os.unlink(made)
+            raise
 
 
 def _listed(journal: str) -> List[_Entry]:
@@ -171,17 +181,16 @@ def _listed(journal: str) -> List[_Entry]:
         return []
 
 
-def _put(data: bytes, path: str) -> str:
-    """Writes a file that may replace another one, and returns its name."""
-    handle, made = tempfile.mkstemp(prefix=".sokotool-", dir=os.path.dirname(path))
-    try:
-        with os.fdopen(handle, "wb") as file:
-            file.write(data)
-        os.chmod(made, _mode(path))
-    except BaseException:
-        os.unlink(made)
-        raise
-    return made
+def _name_beside(path: str) -> str:
+    """Returns a new name for a file that may replace the one at this path."""
+    return os.path.join(os.path.dirname(path), ".sokotool-" + secrets.token_hex(8))
+
+
+def _write(made: str, data: bytes, path: str) -> None:
+    """Writes a new file that may replace the one at this path."""
+    with open(made, "xb", opener=lambda name, flags: os.open(name, flags, 0o600)) as file:
+        file.write(data)
+    os.chmod(made, _mode(path))
 
 
 def _replace(made: str, path: str) -> None:
