@@ -3,7 +3,7 @@
 use crate::pattern::{Pattern, Zone};
 
 /// Why a line is bad.
-#[derive(Clone, Copy, Debug, PartialEq, Eq)]
+#[derive(Clone, Copy, Debug)]
 pub enum BadLineWhy {
     /// No line like this may be there.
     Syntax,

@@ -18,7 +18,7 @@ use thiserror::Error;
 const LINE: usize = 70;
 
 /// The sink failed.
-#[derive(Clone, Copy, Debug, Error)]
+#[derive(Clone, Copy, Debug, PartialEq, Eq, Error)]
 #[error("cannot write")]
 pub struct WriteFault;
 

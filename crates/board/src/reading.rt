@@ -19,7 +19,7 @@ use std::fmt;
 use thiserror::Error;
 
 /// Why a level has no board: the first of these that holds.
-#[derive(Clone, Copy, Debug, PartialEq, Eq, Drop, Error)]
+#[derive(Clone, Copy, Debug, Drop, Error)]
 pub enum BoardFault {
     /// A side is above `MAX_SIDE` of `cellset`.
     Size,

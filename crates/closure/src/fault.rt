@@ -7,7 +7,7 @@ use std::fmt;
 use thiserror::Error;
 
 /// Why a pattern is unlawful: the first reason that holds, in the order of the variants.
-#[derive(Clone, Copy, Debug, PartialEq, Eq, Error)]
+#[derive(Clone, Copy, Debug, Error)]
 pub enum LineWhy {
     /// A box or a listed seed is off the board.
     Board,
@@ -31,7 +31,7 @@ impl fmt::Display for LineWhy {
 }
 
 /// The first fault of a list of patterns. The variants are in the order of the checks, and each check goes through all patterns.
-#[derive(Clone, Copy, Debug, PartialEq, Eq, Error)]
+#[derive(Clone, Copy, Debug, Error)]
 pub enum CheckFault {
     /// The pattern of this line isn't lawful.
     #[error("line {line} {why}")]
@@ -58,18 +58,25 @@ impl From<AllocError> for CheckFault {
 }
 
 /// Why a zone is unlawful: the first reason that holds, in the order of the variants.
-#[derive(Clone, Copy, Debug, PartialEq, Eq, Error)]
+#[derive(Clone, Copy, Debug, Error)]
 pub enum ZoneLineWhy {
     /// A cell is off the board.
-    #[error("board")]
     Board,
     /// A cell is on a wall.
-    #[error("wall")]
     Wall,
 }
 
+impl fmt::Display for ZoneLineWhy {
+    fn fmt<W: fmt::Write>(&self, f: &mut fmt::Formatter<W>) -> fmt::Result {
+        f.write_str(match self {
+            ZoneLineWhy::Board => "board",
+            ZoneLineWhy::Wall => "wall",
+        })
+    }
+}
+
 /// The first fault of a zone. The variants are in the order of the checks.
-#[derive(Clone, Copy, Debug, PartialEq, Eq, Error)]
+#[derive(Clone, Copy, Debug, Error)]
 pub enum ZoneFault {
     /// The zone isn't lawful.
     #[error("line {line} {why}")]

@@ -8,7 +8,7 @@ use std::io::{Read, Write};
 use thiserror::Error;
 
 /// A read, a write or a flush failed.
-#[derive(Clone, Copy, Debug, Error)]
+#[derive(Clone, Copy, Debug, PartialEq, Eq, Error)]
 #[error("the device failed")]
 pub struct DeviceFault;
 

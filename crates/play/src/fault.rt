@@ -3,7 +3,7 @@ use std::fmt;
 use thiserror::Error;
 
 /// Why a letter is no legal step: the first of these that holds.
-#[derive(Clone, Copy, Debug, PartialEq, Eq, Error)]
+#[derive(Clone, Copy, Debug, Error)]
 pub enum MoveWhy {
     /// It is none of `l u r d L U R D`.
     Letter,
@@ -27,7 +27,7 @@ impl fmt::Display for MoveWhy {
 }
 
 /// Why a text doesn't solve its level: the first of these that holds.
-#[derive(Clone, Copy, Debug, PartialEq, Eq, Error)]
+#[derive(Clone, Copy, Debug, Error)]
 pub enum ReplayFault {
     /// A letter is no legal step. Letters are numbered from 1, without blanks.
     #[error("move {number} {why}")]

@@ -9,6 +9,7 @@ ghost use Rattle.play.specs.State.{StateOn, Moves, IsWallAhead, IsBlocked};
 use board::Board;
 use cellset::{Cell, CellSet, Dir};
 use std::alloc::{AllocError, Global};
+use std::fmt;
 use std::marker::Model;
 use thiserror::Error;
 
@@ -25,11 +26,18 @@ pub enum Moved {
 #[derive(Clone, Copy, Debug, Error)]
 pub enum StepFault {
     /// The next cell is a wall.
-    #[error("wall")]
     Wall,
     /// The next cell has a box, and the cell after it is a wall or has a box.
-    #[error("blocked")]
     Blocked,
+}
+
+impl fmt::Display for StepFault {
+    fn fmt<W: fmt::Write>(&self, f: &mut fmt::Formatter<W>) -> fmt::Result {
+        f.write_str(match self {
+            StepFault::Wall => "wall",
+            StepFault::Blocked => "blocked",
+        })
+    }
 }
 
 /// The cells of the player and of the boxes. The boxes are kept in `S`.

@@ -1,7 +1,7 @@
 //! The counts of a solution.
 
 /// The counts of a solution.
-#[derive(Clone, Copy, Debug, PartialEq, Eq)]
+#[derive(Clone, Copy, Debug)]
 pub struct Tally {
     /// The steps, walks and pushes together.
     pub moves: u64,

@@ -6,7 +6,7 @@ use std::fmt;
 use thiserror::Error;
 
 /// One of the two texts of an audit.
-#[derive(Clone, Copy, Debug, PartialEq, Eq)]
+#[derive(Clone, Copy, Debug)]
 pub enum Which {
     Levels,
     Answers,
@@ -22,7 +22,7 @@ impl fmt::Display for Which {
 }
 
 /// What is wrong with the first faulty line of an answers text.
-#[derive(Clone, Copy, Debug, PartialEq, Eq, Error)]
+#[derive(Clone, Copy, Debug, Error)]
 pub enum Why {
     /// The first line isn't a header, or there is no line.
     Header,
@@ -52,7 +52,7 @@ impl fmt::Display for Why {
 }
 
 /// Why there is no report, or no made answers.
-#[derive(Clone, Copy, Debug, PartialEq, Eq, Error)]
+#[derive(Clone, Copy, Debug, Error)]
 pub enum AuditError {
     /// The file can't be opened, or a read of that text failed.
     #[error("cannot read {which}")]
@@ -75,7 +75,7 @@ pub enum AuditError {
 }
 
 /// Why there is no map.
-#[derive(Clone, Copy, Debug, PartialEq, Eq, Error)]
+#[derive(Clone, Copy, Debug, Error)]
 pub enum DeadError {
     /// An error that an audit can have too. Out of memory is always this one, and never a fault of the board.
     #[error("{0}")]
