@@ -4,6 +4,7 @@
 #   make fuzz            compares the program with the reference on new random cases, for a minute, or MINUTES=60
 #   make install         installs the program, sokotool, man pages, completions, documents and samples below DESTDIR/PREFIX
 #   make install-tools   installs the same with the reference in place of the program, in seconds and without the toolchain
+#                        (without make: python3 packaging/install-tools PREFIX)
 #   make uninstall       removes them
 #   make pyz             makes out/sokotool.pyz: sokotool, the reference and the manual in one file, which runs wherever Python does
 #                        (without make: python packaging/pyz)
@@ -30,14 +31,9 @@ pyz:
 install: all
 	packaging/install $(built)/sokoaudit "$(prefix)"
 install-tools:
-	packaging/install sokoaudit "$(prefix)"
+	python3 packaging/install-tools "$(prefix)"
 uninstall:
-	rm -rf "$(prefix)/share/sokoaudit" "$(prefix)/share/doc/sokoaudit"
-	rm -f "$(prefix)/bin/sokoaudit" "$(prefix)/bin/sokotool" "$(prefix)/share/man/man1/sokoaudit.1" \
-	    "$(prefix)/share/man/man1/sokotool.1" "$(prefix)/share/man/man5/sokoaudit-answers.5" \
-	    "$(prefix)/share/bash-completion/completions/sokoaudit" "$(prefix)/share/zsh/site-functions/_sokoaudit" \
-	    "$(prefix)/share/bash-completion/completions/sokotool" "$(prefix)/share/zsh/site-functions/_sokotool" \
-	    "$(prefix)/share/fish/vendor_completions.d/sokoaudit.fish" "$(prefix)/share/fish/vendor_completions.d/sokotool.fish"
+	python3 packaging/install-tools --remove "$(prefix)"
 dist deb: all
 	@packaging/library out/lib
 	@packaging/$@ $(built) out out/lib

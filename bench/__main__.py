@@ -1,102 +1,131 @@
-"""bench/run [PROGRAM [OTHER]]: times long solutions, long lists and large collections. Without
-PROGRAM it builds the program of these sources if they changed. The library for C is always the one
-of these sources.
+"""bench/run [--table] [--only WORD] [PROGRAM [OTHER]]: times long solutions, long lists and large
+collections. Without PROGRAM it builds the program of these sources if they changed. The library for
+C is always the one of these sources. With --only it takes the cases alone whose names have the
+word, and with --table it prints bench/times.table.
 
 With OTHER both programs run each case at about a hundredth of its size, and have to print the same.
-Of PROGRAM the slowest known inputs are timed, by their ratios to a plain run. Then the last line is
-'N passed, M failed'."""
+Of PROGRAM the cases at about a tenth of their size and the slowest known inputs are compared with
+bench/limits.table. Then the last line is 'N passed, M failed'. With --limits it prints that table
+anew."""
+import argparse
 import os
-import resource
+import re
 import sys
-from typing import Iterator
+from typing import Iterator, Tuple
 
-from bench.measured import Case, Size, cases
-from bench.worst import Timed, plain, worst
-from tests.runner import TOP, Cases, call, enter_folder, read, run, run_apart, write
+from bench import timing
+from bench.measured import Size, cases, through_library
+from bench.worst import worst
+from tests.runner import TOP, Cases, enter_folder, run, run_apart, write
 from tests.tables.rows import text
 
-TRIES = 3
-
-TIME = "/usr/bin/time --quiet -f '%U s for the program, %S s for the system, %M kB'"
+TIME = "/usr/bin/time"
 
 
-def written(size: Size) -> Iterator[Case]:
-    """The cases, each with its texts written into the folder."""
+def written(size: Size, only: str) -> Iterator[Tuple[str, str, str]]:
+    """The names, targets and commands of the cases whose names have the word, each with its texts
+    in the folder."""
     for case in cases(size):
         for file, line in (("levels", case.levels), ("answers", case.answers)):
             if line is not None:
                 write(file, text(line))
-        yield case
+        if only in case.name:
+            yield case.name, f"{case.target:g} s", case.command
 
 
-def measure() -> None:
-    """Prints the last line of each case's output, and the time and memory that it took."""
-    time = TIME if os.path.exists(TIME.split()[0]) else "time"
-    for case in written(Size(is_small=False)):
-        print(case.name, flush=True)
-        said = run(["bash", "-c", f"{time} {case.command} >out"])
-        if said.splitlines()[-1] not in ("status 0", "status 1"):
-            sys.exit(said)
-        print(read("out").splitlines()[-1], said.rpartition("status")[0].strip(), sep="\n")
-    unit = seconds(plain())
-    print(f"{plain().name}: {unit:.3f} s")
+def slowest(only: str) -> Iterator[Tuple[str, str]]:
+    """The names and commands of the slowest inputs whose names have the word, likewise."""
     for it in worst():
-        used = seconds(it)
-        print(f"{it.name}: {used:.3f} s, {used / unit:.1f} of these, up to {it.most}")
+        if only in it.name:
+            for file, line in (("levels", it.levels), ("answers", it.answers)):
+                write(file, text(line))
+            yield it.name, it.command
 
 
-def seconds(it: Timed) -> float:
-    """The least processor time that a run takes, of three."""
-    for file, line in (("levels", it.levels), ("answers", it.answers)):
-        write(file, text(line))
-    times = [_used()]
-    for _ in range(3):
-        call(it.command.split())
-        times.append(_used())
-    return min(after - before for before, after in zip(times, times[1:]))
+def timed(only: str) -> Iterator[Tuple[str, str]]:
+    """The names and commands of what is compared with bench/limits.table."""
+    for name, _, command in written(Size(is_tenth=True), only):
+        yield f"a tenth of: {name}", command
+    yield from slowest(only)
 
 
-def _used() -> float:
-    """The processor time that all runs took so far."""
-    used = resource.getrusage(resource.RUSAGE_CHILDREN)
-    return used.ru_utime + used.ru_stime
+def measured(command: str) -> str:
+    """The processor time that a run takes, up to a hundredth of a second, and its memory."""
+    said = run(["bash", "-c", f"{TIME} -f '%U %S %M' {command} 2>&1 >out | tail -n 1"])
+    found = re.match(r"([\d.]+) ([\d.]+) (\d+)\n", said)
+    if not found:
+        sys.exit(said)
+    used, kibibytes = float(found[1]) + float(found[2]), int(found[3])
+    return f"{max(used, 0.01):.2f} s, {kibibytes / 1024:.0f} MB"
 
 
-def limits(compared: Cases) -> None:
-    """A case for each slow input: it may take `most` times as long as the plain run. The machine
-    may be busy, so the best of some tries counts."""
-    for it in worst():
-        for _ in range(TRIES):
-            used = seconds(it) / seconds(plain())
-            if used <= it.most:
-                break
-        compared.say(f"{it.name}: {used:.1f} times as long as {plain().name}")
-        compared.holds(f"{it.name}: up to {it.most} times as long", used <= it.most, f"{used:.1f}")
+def print_table(only: str) -> None:
+    """Prints bench/times.table."""
+    commit = run(["git", "-C", TOP, "describe", "--always", "--dirty"]).partition("\n")[0]
+    limits = timing.read_limits()
+    print(f"# At commit {commit}: processor time, and the most memory that the program held\n"
+          "# case | target or limit | measured", flush=True)
+    for name, command in slowest(only):
+        used, unit = timing.seconds(command, 3)
+        most = timing.MORE * limits[name].units * unit
+        print(f"{name} | {most:.2g} s | {used:.2g} s", flush=True)
+    for name, target, command in written(Size(), only):
+        print(f"{name} | {target} | {measured(command)}", flush=True)
+    if not only:
+        it = through_library()
+        print(f"{it.name} | {it.target:g} s | {measured(it.command)}")
 
 
-def compare(other: str) -> None:
-    """A test of each case: the program and the other one print the same."""
+def print_times(only: str) -> None:
+    """Prints the time and memory that each case takes."""
+    for name, command in slowest(only):
+        used, unit = timing.seconds(command, 3)
+        print(f"{name}: {used:.3f} s, {used / unit:.2f} units", flush=True)
+    for name, target, command in written(Size(), only):
+        print(f"{name}: {measured(command)}, target {target}", flush=True)
+    if not only:
+        it = through_library()
+        print(f"{it.name}: {measured(it.command)}, target {it.target:g} s")
+
+
+def print_limits(only: str) -> None:
+    """Prints the rows of bench/limits.table."""
+    for name, command in timed(only):
+        print(name, *timing.measured(command), sep=" | ", flush=True)
+
+
+def compare(other: str, only: str) -> None:
+    """A case for each case: the program and the other one print the same. Then the limits."""
     compared = Cases("bench")
-    for case in written(Size(is_small=True)):
-        wanted = run_apart(["bash", "-c", case.command.replace("./sokoaudit", other)])
-        found = run_apart(["bash", "-c", f"{case.command} | tee out; exit ${{PIPESTATUS[0]}}"])
-        compared.same(f"a hundredth of: {case.name}", "".join(wanted), "".join(found))
-    limits(compared)
+    for name, _, command in written(Size(is_small=True), only):
+        wanted = run_apart(["bash", "-c", command.replace("./sokoaudit", other)])
+        found = run_apart(["bash", "-c", command])
+        compared.same(f"a hundredth of: {name}", "".join(wanted), "".join(found))
+    for name, command in timed(only):
+        timing.judge(compared, name, command)
     compared.finish()
 
 
 def main() -> None:
     """Measures or compares."""
-    if len(sys.argv) == 1:
-        print(run([f"{TOP}/packaging/build"]), end="")
-    names = sys.argv[1:] or [f"{TOP}/crates/sokoaudit/out/sokoaudit"]
-    program, *other = [os.path.realpath(it) for it in names]
+    parser = argparse.ArgumentParser(prog="bench/run", description=__doc__,
+                                     formatter_class=argparse.RawDescriptionHelpFormatter)
+    parser.add_argument("--table", dest="what", action="store_const", const=print_table)
+    parser.add_argument("--limits", dest="what", action="store_const", const=print_limits)
+    parser.add_argument("--only", metavar="WORD", default="")
+    parser.add_argument("program", nargs="?")
+    parser.add_argument("other", nargs="?")
+    given = parser.parse_args()
+    if not given.program:
+        print(run([f"{TOP}/packaging/build"]), end="", file=sys.stderr)
+    program = os.path.realpath(given.program or f"{TOP}/crates/sokoaudit/out/sokoaudit")
+    other = given.other and os.path.realpath(given.other)
     with enter_folder():
         os.symlink(program, "sokoaudit")
         if other:
-            compare(other[0])
+            compare(other, given.only)
         else:
-            measure()
+            (given.what or print_times)(given.only)
 
 
 if __name__ == "__main__":

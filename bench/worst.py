@@ -1,5 +1,4 @@
-"""The slowest inputs that are known. Each has a limit in units of a plain run, the same for all, so
-a change that makes one of them several times slower is seen whatever else it slows down."""
+"""The slowest inputs that are known."""
 import random
 from itertools import combinations, islice
 from typing import Dict, Iterable, Iterator, List, NamedTuple, Tuple
@@ -11,13 +10,11 @@ AUDIT, MAKE = "./sokoaudit audit levels answers", "./sokoaudit make levels"
 
 
 class Timed(NamedTuple):
-    """A run on levels and answers. It may take `most` times as long as the plain run: some four
-    times what was measured."""
+    """A run on levels and answers."""
     name: str
     command: str
     levels: str
     answers: str = ""
-    most: float = 1
 
 
 def plain() -> Timed:
@@ -28,25 +25,29 @@ def plain() -> Timed:
 
 
 def worst() -> Iterator[Timed]:
-    """The known kinds of slow inputs: lists, then levels for `make`."""
-    yield corridor(side=255, lines=1000, most=150)
-    yield corridor(side=255, lines=1000, most=3, has_trap=True)
-    yield decoys(side=120, boxes=60, big=60, lines=1500, most=6)
-    yield decoys(side=120, boxes=60, big=60, lines=1500, most=6, ahead=True)
-    yield halves(side=120, boxes=40, big=150, lines=3000, most=12)
-    yield one_for_all(side=255, lines=12000, most=100)
-    yield last_fails(side=60, lines=300, decoys=1000, most=4)
-    yield many_fail(side=120, sets=60, lines=3000, most=4)
-    yield many_fail(side=120, sets=60, lines=3000, most=5, shut=True)
-    yield in_turn(side=120, big=1000, lines=3000, most=20)
-    yield passage(side=255, big=100, lines=3000, boxes=150, most=8)
-    yield pairs(side=255, lines=2, most=5)
-    yield chambers(side=255, big=60, lines=4000, rooms=60, most=30)
-    yield one_way(side=255, levels=10, most=10)
-    yield squares(side=255, levels=100, most=10)
-    yield combs(side=255, most=30)
-    yield winding(side=255, most=5)
-    yield pockets(side=255, most=5)
+    """A plain run, and the known kinds of slow inputs: lists, then levels for `make`."""
+    yield plain()
+    yield corridor(side=255, lines=1000)
+    yield corridor(side=255, lines=1000, has_trap=True)
+    yield decoys(side=120, boxes=60, big=60, lines=1500)
+    yield decoys(side=120, boxes=60, big=60, lines=1500, ahead=True)
+    yield halves(side=120, boxes=40, big=150, lines=3000)
+    yield one_for_all(side=255, lines=12000)
+    yield last_fails(side=60, lines=300, decoys=1000)
+    yield many_fail(side=120, sets=60, lines=3000)
+    yield many_fail(side=120, sets=60, lines=3000, shut=True)
+    yield in_turn(side=120, big=1000, lines=3000)
+    yield passage(side=255, big=100, lines=3000, boxes=150)
+    yield pairs(side=255, lines=2)
+    yield colliding(side=255, lines=60, boxes=1500)
+    yield chambers(side=255, big=60, lines=4000, rooms=60)
+    yield one_way(side=255, levels=10)
+    yield squares(side=255, levels=100)
+    yield combs(side=255)
+    yield winding(side=255)
+    yield pockets(side=255)
+    yield lanes(side=255, count=2)
+    yield lanes(side=181, count=4)
 
 
 def spelled(cells: Iterable[Cell]) -> str:
@@ -106,7 +107,7 @@ def snake(side: int, step: int) -> List[Cell]:
     return path[:1 - step]
 
 
-def corridor(side: int, lines: int, most: float, has_trap: bool = False) -> Timed:
+def corridor(side: int, lines: int, has_trap: bool = False) -> Timed:
     """One seed a line at the end of a corridor that winds through the whole board. The trap is the
     other end, where a line covers all states with a box there: each line has one."""
     path = snake(side, 2)
@@ -117,10 +118,10 @@ def corridor(side: int, lines: int, most: float, has_trap: bool = False) -> Time
     name = "one seed a line at the end of a winding corridor" + ", and a trap" * has_trap
     return Timed(name, AUDIT, walled(side, side, things, lambda *cell: "#"), listed(
         [*(line([path[half + it], *rest], path[0]) for it in range(lines)),
-         *(line([it]) for it in rest)]), most)
+         *(line([it]) for it in rest)]))
 
 
-def decoys(side: int, boxes: int, big: int, lines: int, most: float, ahead: bool = False) -> Timed:
+def decoys(side: int, boxes: int, big: int, lines: int, ahead: bool = False) -> Timed:
     """Patterns of many boxes, each of whose pushes a pattern of all boxes but the pushed one
     covers, among decoys. With `ahead` the pattern that covers a push has the box where it goes."""
     hall, every = Hall(side), grid(range(9, side - 4, 4), range(9, side - 4, 4))
@@ -132,30 +133,30 @@ def decoys(side: int, boxes: int, big: int, lines: int, most: float, ahead: bool
     heads = [some, *([*some, it] for it in rest[:big]), *kept]
     name = "lines that match every state and cover none" + ", with the box ahead" * ahead
     return Timed(name, AUDIT, hall.level([*some, hall.plug]), listed(
-        [*(line([*it, hall.plug]) for it in heads), *hall.decoys(some, lines)]), most)
+        [*(line([*it, hall.plug]) for it in heads), *hall.decoys(some, lines)]))
 
 
-def halves(side: int, boxes: int, big: int, lines: int, most: float) -> Timed:
+def halves(side: int, boxes: int, big: int, lines: int) -> Timed:
     """Patterns that two halves of their own cover in turn, push by push, among decoys."""
     hall, every = Hall(side), grid(range(9, side - 4, 4), range(9, side - 4, 4))
     some, rest = every[:boxes], every[boxes:]
     heads = [*([*part, it] for part in (some, some[::2], some[1::2]) for it in rest[:big]), some]
     return Timed("lines that two others cover in turn", AUDIT, hall.level([*some, hall.plug]),
                  listed([*(line([*it, hall.plug]) for it in heads),
-                         *hall.decoys(some, lines)]), most)
+                         *hall.decoys(some, lines)]))
 
 
-def one_for_all(side: int, lines: int, most: float) -> Timed:
+def one_for_all(side: int, lines: int) -> Timed:
     """Lines of 12 boxes, all of which one line of two boxes in the last row covers."""
     hall, every = Hall(side), grid(range(9, side - 9, 12), range(9, side - 9, 12))
     both = [(2, side - 1), (side - 1, side - 1)]
     rng = random.Random(1)
     texts = [line([*rng.sample(every, 10), *both], (5, 5)) for _ in range(lines)]
     return Timed("lines of 12 boxes that one line covers", AUDIT, hall.level(both),
-                 listed([*texts, line(both)]), most)
+                 listed([*texts, line(both)]))
 
 
-def last_fails(side: int, lines: int, decoys: int, most: float) -> Timed:
+def last_fails(side: int, lines: int, decoys: int) -> Timed:
     """Lines of the same 43 boxes with seeds in a hall, and one with its seed in a side room, where
     a push isn't covered, among decoys."""
     hall = Hall(side)
@@ -166,10 +167,10 @@ def last_fails(side: int, lines: int, decoys: int, most: float) -> Timed:
     texts.append(line(some + fixed, (side - 3, side - 1)))
     texts += [line(it + fixed) for it in less_one(some)]
     return Timed("lines of the same boxes, of which the last isn't covered", AUDIT,
-                 hall.level(some + fixed), listed(texts + hall.decoys(some, decoys)), most)
+                 hall.level(some + fixed), listed(texts + hall.decoys(some, decoys)))
 
 
-def many_fail(side: int, sets: int, lines: int, most: float, shut: bool = False) -> Timed:
+def many_fail(side: int, sets: int, lines: int, shut: bool = False) -> Timed:
     """Sets of 20 boxes, and each without one of them in turn, which cover the pushes of the set and
     whose own pushes nothing covers, among decoys of the 18 boxes of all sets. With `shut` a line of
     each comes first whose player can't push, so that no fault ends the check before the others."""
@@ -180,10 +181,10 @@ def many_fail(side: int, sets: int, lines: int, most: float, shut: bool = False)
     texts = [line(it, hall.pocket) for it in each] * shut + [line(it) for it in each]
     level = hall.level([*wholes[0], hall.plug])
     name = "many lines of which the pushes aren't covered" + ", after some that are" * shut
-    return Timed(name, AUDIT, level, listed(texts + hall.decoys(some, lines)), most)
+    return Timed(name, AUDIT, level, listed(texts + hall.decoys(some, lines)))
 
 
-def in_turn(side: int, big: int, lines: int, most: float) -> Timed:
+def in_turn(side: int, big: int, lines: int) -> Timed:
     """Lines of 22 boxes, which two lines of two boxes in the last row cover in turn, among decoys
     that come before these."""
     hall, every = Hall(side), grid(range(9, side - 9, 4), range(9, side - 9, 4))
@@ -193,10 +194,10 @@ def in_turn(side: int, big: int, lines: int, most: float) -> Timed:
              for place, two in enumerate(islice(combinations(rest, 2), big))]
     return Timed("lines that one of two lines in the last row covers", AUDIT,
                  hall.level([*some, hall.plug, *ends[0], *ends[1]]),
-                 listed([*texts, *map(line, ends), *hall.decoys(some, lines)]), most)
+                 listed([*texts, *map(line, ends), *hall.decoys(some, lines)]))
 
 
-def passage(side: int, big: int, lines: int, boxes: int, most: float) -> Timed:
+def passage(side: int, big: int, lines: int, boxes: int) -> Timed:
     """Decoys, and patterns with many boxes in a passage between the player and the first cell."""
     hall, low = Hall(side), side - 1
     hall.walls |= {(x, low - 1) for x in range(4, side)}
@@ -208,18 +209,57 @@ def passage(side: int, big: int, lines: int, boxes: int, most: float) -> Timed:
              *(line([*it, hall.plug]) for it in less_one(some))]
     level = hall.level(full, 1)
     return Timed("many boxes in a passage", AUDIT, level,
-                 listed(texts + hall.decoys(some, lines)), most)
+                 listed(texts + hall.decoys(some, lines)))
 
 
-def pairs(side: int, lines: int, most: float) -> Timed:
+def pairs(side: int, lines: int) -> Timed:
     """Patterns of 42,000 boxes that hold each other in pairs."""
     boxes = [(x, y) for x, y in grid(range(3, side - 2), range(3, side - 2)) if x % 3 < 2]
     things = {**dict.fromkeys(boxes, "*"), (2, 2): "$", (side - 1, side - 1): ".", (4, 2): "@"}
     return Timed("patterns of 42,000 boxes", AUDIT, walled(side, side, things), listed(
-        [line([(2, 2)], (2, 3))] + [line([(2, 2), *boxes], (2, 3))] * lines), most)
+        [line([(2, 2)], (2, 3))] + [line([(2, 2), *boxes], (2, 3))] * lines))
 
 
-def chambers(side: int, big: int, lines: int, rooms: int, most: float) -> Timed:
+def mixed(cell: Cell) -> int:
+    """What a box adds to the hash of a line (`patterns`, `hints`)."""
+    number = (cell[1] << 16 | cell[0]) * 0x9E3779B97F4A7C15 % 2 ** 64
+    return (number ^ number >> 29) * 0xBF58476D1CE4E5B9 % 2 ** 64
+
+
+def alike(base: int, wanted: int, slots: int, rows: List[List[Cell]]) -> Iterator[List[Cell]]:
+    """Five cells of two rows that add to a hash what gives it the slot and the mark of another."""
+    def place(hashed: int) -> int:
+        return (hashed >> 32) * slots >> 32
+
+    adds = {it: mixed(it) for row in rows for it in row}
+    two: Dict[int, List[Tuple[Cell, Cell]]] = {}
+    for left, right in combinations(rows[0], 2):
+        two.setdefault(adds[left] + adds[right] & 0xFFFE, []).append((left, right))
+    for three in combinations(rows[1], 3):
+        value = base + sum(adds[it] for it in three)
+        for it in two.get(wanted - value & 0xFFFE, ()):
+            found = (value + adds[it[0]] + adds[it[1]]) % 2 ** 64
+            if (found ^ wanted) & 0xFFFE == 0 and place(found) == place(wanted):
+                yield [*it, *three]
+
+
+def colliding(side: int, lines: int, boxes: int) -> Timed:
+    """Lines whose first push has the hash of other lines. All of them agree in most boxes."""
+    pushed, to = (4, 2), (3, 2)
+    some = [it for it in grid(range(3, side - 2), range(4, side - 8)) if it[0] % 3 < 2][:boxes]
+    rows = [grid(range(3, side - 1), range(y, y + 1)) for y in (side - 5, side - 3)]
+    base = sum(map(mixed, some)) % 2 ** 64
+    others = alike(base, base, 4 * lines, rows)
+    after = alike((base + mixed(to)) % 2 ** 64, base, 4 * lines, rows)
+    heads = [[pushed, *some, *it] for it in islice(after, lines)]
+    things = {**dict.fromkeys(heads[0], "$"), (2, 2): "@"}
+    free = (it for it in grid(range(2, side), range(side - 1, 1, -1)) if it not in things)
+    level = walled(side, side, {**things, **dict.fromkeys(islice(free, len(heads[0])), ".")})
+    return Timed("lines whose first push has the hash of others", AUDIT, level, listed(
+        [*(line(some + it) for it in islice(others, lines)), *map(line, heads)]))
+
+
+def chambers(side: int, big: int, lines: int, rooms: int) -> Timed:
     """Decoys, and patterns with boxes in the doors of many rooms."""
     hall, corners = Hall(side), grid(range(11, side - 20, 12), range(11, side - 20, 10))[:rooms]
     doors, inner = [(x + 3, y) for x, y in corners], [(x + 3, y + 3) for x, y in corners]
@@ -232,29 +272,28 @@ def chambers(side: int, big: int, lines: int, rooms: int, most: float) -> Timed:
              *(doors + it for it in less_one(inner)), *(it + inner for it in less_one(doors))]
     return Timed("boxes in the doors of many rooms", AUDIT, hall.level([*doors, *inner, hall.plug]),
                  listed([*(line([*it, hall.plug], *seeds) for it in heads),
-                         *hall.decoys(doors + inner, lines)]), most)
+                         *hall.decoys(doors + inner, lines)]))
 
 
-def one_way(side: int, levels: int, most: float) -> Timed:
+def one_way(side: int, levels: int) -> Timed:
     """Boxes between two walls that can leave their cells in one way."""
     starts = grid(range(4, side - 3, 4), range(5, side * 45 // 100, 4))
     goals = grid(range(2, side - 1), range(side - 2, side // 2, -1))
     things = {(2, 2): "@", **dict.fromkeys(starts, "$"), **dict.fromkeys(goals[:len(starts)], ".")}
     walls = {cell for x, y in starts for cell in ((x, y - 1), (x, y + 1), (x + 2, y), (x - 2, y))}
     level = walled(side, side, things, lambda *cell: "#" if cell in walls else " ")
-    return Timed("boxes that can leave their cells in one way", MAKE, f"{level}//" * levels,
-                 most=most)
+    return Timed("boxes that can leave their cells in one way", MAKE, f"{level}//" * levels)
 
 
-def squares(side: int, levels: int, most: float) -> Timed:
+def squares(side: int, levels: int) -> Timed:
     """Levels with four boxes that hold each other."""
     middle, goals = side // 2, {(it, side - 2): "." for it in (5, 7, 9, 11)}
     boxes = grid(range(middle, middle + 2), range(middle, middle + 2))
     level = walled(side, side, {(2, 2): "@", **goals, **dict.fromkeys(boxes, "$")})
-    return Timed("four boxes that hold each other", MAKE, f"{level}//" * levels, most=most)
+    return Timed("four boxes that hold each other", MAKE, f"{level}//" * levels)
 
 
-def combs(side: int, most: float) -> Timed:
+def combs(side: int) -> Timed:
     """Two halls in the form of combs, whose teeth alternate in the upper part, with boxes between
     the teeth. Boxes that fit both halls come first, and take the goals of those that don't."""
     ys = range(3, side - 2, 2)
@@ -275,7 +314,7 @@ def combs(side: int, most: float) -> Timed:
     things.update({**dict.fromkeys(boxes[0] + boxes[1], "$"), **dict.fromkeys(goals, "."),
                    (2, 2): "@"})
     return Timed("boxes between two combs", MAKE,
-                 walled(side, side, things, lambda *cell: "#"), most=most)
+                 walled(side, side, things, lambda *cell: "#"))
 
 
 def niches(side: int, step: int, places: range) -> Tuple[List[Tuple[int, int]], Dict[Cell, str]]:
@@ -293,20 +332,54 @@ def niches(side: int, step: int, places: range) -> Tuple[List[Tuple[int, int]], 
     return [(x, y) for x in columns for y in places], things
 
 
-def winding(side: int, most: float) -> Timed:
+def winding(side: int) -> Timed:
     """Boxes that enter a winding corridor, with the goals at its end."""
     found, things = niches(side, 4, range(6, side - 4, 2))
     columns = sorted({x for x, _ in found}, reverse=True)
     goals = [(x, y) for x in columns for y in range(side - 5, 6, -1)]
     things.update(dict.fromkeys(goals[:len(found)], "."))
     return Timed("boxes that enter a winding corridor", MAKE,
-                 walled(side, side, things, lambda *cell: "#"), most=most)
+                 walled(side, side, things, lambda *cell: "#"))
 
 
-def pockets(side: int, most: float) -> Timed:
+def pockets(side: int) -> Timed:
     """Boxes that enter a winding corridor, with each goal in a pocket beside it."""
     found, things = niches(side, 5, range(6, side - 5, 3))
     for x, y in found:
         things.update({(x - 1, y + 1): ".", (x + 1, y + 1): " "})
     return Timed("boxes that enter a corridor with goals beside it", MAKE,
-                 walled(side, side, things, lambda *cell: "#"), most=most)
+                 walled(side, side, things, lambda *cell: "#"))
+
+
+def lanes(side: int, count: int) -> Timed:
+    """Winding corridors beside each other, with boxes in niches that enter them, so that along each
+    row the boxes of the corridors take turns. The goals are at their ends. Only the player fits
+    through the openings between them."""
+    high, low, passes = 3 * count + 2, side - 1 - 3 * count, (side - 4) // (4 * count)
+    places = range(high + 3, low - 2, 2)
+    things: Dict[Cell, str] = {}
+    for lane in range(count):
+        # the columns of the corridor, and where each of its passes begins and ends
+        columns = [3 + 4 * (count * it + (count - 1 - lane if it % 2 else lane))
+                   for it in range(passes)]
+        ends = [high, *(high - 3 * lane if it % 2 else low + 3 * (count - 1 - lane)
+                        for it in range(passes - 1)), low if passes % 2 else high]
+        path: List[Cell] = []
+        for it, x in enumerate(columns):
+            first, last = sorted(ends[it:it + 2])
+            path += grid(range(x, x + 1), range(first, last + 1))[::-1 if it % 2 else 1]
+        for it, (x, to) in enumerate(zip(columns, columns[1:])):
+            # a turn, with the cells from which the player pushes a box around its corners
+            y, beyond = ends[it + 1], ends[it + 1] + (-1 if it % 2 else 1)
+            turn = [(x, beyond), (to, beyond), *grid(range(x - 1, to + 2), range(y, y + 1))]
+            things.update(dict.fromkeys(turn, " "))
+        boxes = [(x + 1, y) for x in columns for y in places]
+        goals = [it for it in path[::-1] if high + 2 < it[1] < low - 2][:len(boxes)]
+        things.update({**dict.fromkeys(path, " "), **dict.fromkeys(goals, "."),
+                       **dict.fromkeys(boxes, "$"), **{(x + 1, y): " " for x, y in boxes}})
+        if lane:
+            y = high + 2 + 2 * lane  # a row without a niche, and without another opening
+            things.update(dict.fromkeys(grid(range(4 * lane, 4 * lane + 3), range(y, y + 1)), " "))
+    things[3, high] = "@"
+    return Timed(f"boxes of {count} winding corridors in turn", MAKE,
+                 walled(side, side, things, lambda *cell: "#"))

@@ -144,6 +144,12 @@ struct sokoaudit_line {
     uint64_t direction; /* the letter: 'l', 'u', 'r' or 'd' */
 };
 
+/* Where a level is in its text: offsets of bytes, from 0. */
+struct sokoaudit_span {
+    size_t at;  /* of the first byte of its first row */
+    size_t end; /* of the byte after its last row, with the line end of that row */
+};
+
 /* What the body of sokoaudit_judge is. */
 enum sokoaudit_kind {
     SOKOAUDIT_SOLUTION = 1,   /* lines of letters */
@@ -166,6 +172,11 @@ uint32_t sokoaudit_judge(const uint8_t *level, size_t level_length, uint32_t kin
  * entries, or SOKOAUDIT_FAULT: then no entry is written. */
 uint32_t sokoaudit_lines(const uint8_t *levels, size_t levels_length, const uint8_t *answers, size_t answers_length,
                          struct sokoaudit_line *lines, size_t room, struct sokoaudit_outcome *outcome);
+
+/* Writes where the levels of a level text are: entry 0 is level 1. Writes as many entries as there is room for, and returns the number of
+ * all levels. They are the ones that the other calls judge, but there may be more than SOKOAUDIT_MOST_LEVELS, and the text may have any
+ * length. Takes no memory. */
+size_t sokoaudit_levels(const uint8_t *levels, size_t levels_length, struct sokoaudit_span *spans, size_t room);
 
 /* Writes the report of an audit: 'sokoaudit audit LEVELS ANSWERS'. Unless the call returns SOKOAUDIT_FAULT, a level that the report
  * calls solved is solved by its own letters with exactly these counts, and no list of moves, of any length, solves one that it

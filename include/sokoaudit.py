@@ -40,6 +40,12 @@ class Line(typing.NamedTuple):
     direction: str
 
 
+class Span(typing.NamedTuple):
+    """Where a level is in its text: from byte `at` to before byte `end`, from 0."""
+    at: int
+    end: int
+
+
 class Counts(typing.NamedTuple):
     """How many levels there are, and how many of each kind."""
     levels: int
@@ -60,6 +66,10 @@ class _Line(ctypes.Structure):
     _fields_ = [(name, ctypes.c_uint64) for name in Line._fields]
 
 
+class _Span(ctypes.Structure):
+    _fields_ = [(name, ctypes.c_size_t) for name in Span._fields]
+
+
 class _Outcome(ctypes.Structure):
     _fields_ = [(name, ctypes.c_size_t)
                 for name in ("bytes", *Counts._fields, "records", "fault", "line")]
@@ -72,12 +82,13 @@ _OUTCOME = ctypes.POINTER(_Outcome)
 for _name, _types in {
         "judge": (*_TEXT, ctypes.c_uint32, *_TEXT, ctypes.POINTER(_Line)),
         "lines": (*_TEXT, *_TEXT, *_BUFFER, _OUTCOME),
+        "levels": (*_TEXT, *_BUFFER),
         "audit": (*_TEXT, *_TEXT, *_BUFFER, _OUTCOME),
         "make": (*_TEXT, *_BUFFER, _OUTCOME),
         "dead": (*_TEXT, ctypes.c_size_t, *_BUFFER, _OUTCOME),
         "fault_text": (_OUTCOME, *_BUFFER)}.items():
     getattr(_LIBRARY, f"sokoaudit_{_name}").argtypes = _types
-_LIBRARY.sokoaudit_fault_text.restype = ctypes.c_size_t
+_LIBRARY.sokoaudit_fault_text.restype = _LIBRARY.sokoaudit_levels.restype = ctypes.c_size_t
 _FAULT = 2
 _WORDLESS = {17: "the body has a line 'end'", 18: "no such kind"}
 
@@ -144,6 +155,14 @@ def lines(levels, answers):
     given = (*_given(levels, answers), entries, room, ctypes.byref(outcome))
     _check(_LIBRARY.sokoaudit_lines(*given), outcome)
     return [_line(it) for it in entries[:outcome.levels]], _counts(outcome)
+
+
+def spans(levels):
+    """Where the levels of a text are, in order: a list of Span."""
+    count = _LIBRARY.sokoaudit_levels(*_given(levels), (_Span * 0)(), 0)
+    entries = (_Span * count)()
+    _LIBRARY.sokoaudit_levels(*_given(levels), entries, count)
+    return [Span(it.at, it.end) for it in entries]
 
 
 def audit(levels, answers):

@@ -1,10 +1,11 @@
 """tests/run documents PROGRAM [PAGE..]: runs the commands in the documents, by default README.md
-and docs/*.md, and compares what they print with what the pages show. Ends in 'N passed, M failed'.
+and docs/*.md, and compares what they print with what the pages show. A page has at least as many
+commands as LEAST says. Ends in 'N passed, M failed'.
 
 The commands of a page run in turn, in a folder that has sokoaudit, sokotool, samples/ and examples/
 like the top of the repository. If PROGRAM is the script 'sokoaudit', they run as without the
-toolchain: with what 'make install-tools' installs, and on a PATH without rt. These blocks of a page
-count:
+toolchain: with what packaging/install-tools installs, and on a PATH without rt. These blocks of a
+page count:
 
 - ```console: a command after '$ ', continued on lines after '> ', and below it what it prints on
   both streams
@@ -12,6 +13,8 @@ count:
 - ``` alone: a level if it begins with '#', the certificate of one if it begins with 'pattern' or
   'zone', an answers file if it begins with 'sokoban-answers', and if it begins with 'level 1' the
   line that an audit of the last level and answers prints
+
+The counts of definitions in a page are counted again (tests/definitions.py).
 """
 import glob
 import os
@@ -19,9 +22,11 @@ import re
 from shlex import quote
 from typing import Dict, Iterator, Mapping, Tuple
 
+from tests.definitions import CLAIMS, Specs
 from tests.runner import TOP, Cases, arguments, enter_folder, read, shell
 
-
+# the least number of commands of each page that has some
+LEAST = {"README.md": 2, "certificates.md": 10, "keeping.md": 50, "solvers.md": 14}
 COMMAND = re.compile(r"(?m)^\$ (.*\n(?:> .*\n)*)((?:(?!\$ ).*\n)*)")
 
 
@@ -48,14 +53,14 @@ def steps_of(page: str) -> Iterator[Tuple[str, str, str]]:
 
 
 def without_toolchain(cases: Cases) -> Dict[str, str]:
-    """The variables of a shell that has what 'make install-tools' installs in ./installed, and on
-    its PATH what the system has but rt."""
+    """The variables of a shell that has what packaging/install-tools installs, in ./installed, and
+    on its PATH what the system has but rt."""
     os.mkdir("plain")
     shell("ln -sf /usr/bin/* /bin/* plain; rm -f plain/rt")
     here = os.getcwd()
     plain = {**os.environ, "PATH": f"{here}/plain", "SOKOAUDIT": "", "SOKOAUDIT_QUIET": "1"}
-    words = ["make", "-C", TOP, "install-tools", f"DESTDIR={here}", "PREFIX=/installed"]
-    cases.succeeds("make install-tools", *words, env=plain)
+    words = ["python3", f"{TOP}/packaging/install-tools", f"{here}/installed"]
+    cases.succeeds("packaging/install-tools", *words, env=plain)
     return {**plain, "SOKOAUDIT": f"{here}/installed/bin/sokoaudit"}
 
 
@@ -76,11 +81,24 @@ def run_page(cases: Cases, page: str, variables: Mapping[str, str]) -> None:
             else:
                 script += f"(exit $status); eval {quote(text)}\nstatus=$?; printf '\\0'\n"
         variables = {**variables, "PATH": f"{room}:{variables['PATH']}", "LC_ALL": "C"}
+        number, least = sum(not file for file, _, _ in steps), LEAST.get(os.path.basename(page), 0)
+        cases.holds(f"{page} has {least} commands or more, and none if LEAST doesn't name it",
+                    number >= least and (least or not number), f"it has {number}")
         printed = iter(shell(script, env=variables).split("\0")[:-1])
         for file, command, wanted in steps:
             if not file:
                 name = f"{os.path.basename(page)}: $ {command.strip()}"
                 cases.same(name, wanted, next(printed, "it was not run"))
+
+
+def check_counts(cases: Cases, page: str) -> None:
+    """Cases: a page that says how many lines one reads to believe a kind of line says it right."""
+    specs = Specs()
+    for kind in CLAIMS:
+        for row in re.findall(rf"(?m)^\| `{kind}` \|.* files \|.*", read(page)):
+            shown = [tuple(map(int, re.findall(r"\d+", it))) for it in row.split("|")[-4:-1]]
+            counted = specs.counts_of(kind)
+            cases.same(f"lines to read to believe `{kind}`", str(counted), str(shown))
 
 
 program, *pages = arguments("documents PROGRAM [PAGE..]")
@@ -89,4 +107,5 @@ is_script = os.path.samefile(program, f"{TOP}/sokoaudit")
 variables = without_toolchain(cases) if is_script else {**os.environ, "SOKOAUDIT": program}
 for page in pages or [f"{TOP}/README.md", *sorted(glob.glob(f"{TOP}/docs/*.md"))]:
     run_page(cases, page, variables)
+    check_counts(cases, page)
 cases.finish()

@@ -26,8 +26,8 @@ PRINTED = {
     f"nm -u out/lib/libsokoaudit.a | sed -E '/^$|:$| U ({CALLED})$/d'": "",
     "nm out/lib/libsokoaudit.a | awk '$2 ~ /^[BbCDdSs]$/ && $3 != \"nothing\"'": "",
     "nm -D --defined-only out/lib/libsokoaudit.so | cut -d ' ' -f 3 | xargs":
-        "sokoaudit_audit sokoaudit_dead sokoaudit_fault_text sokoaudit_judge sokoaudit_lines "
-        "sokoaudit_make\n",
+        "sokoaudit_audit sokoaudit_dead sokoaudit_fault_text sokoaudit_judge sokoaudit_levels "
+        "sokoaudit_lines sokoaudit_make\n",
     "readelf -n out/lib/libsokoaudit.so judging | grep -c 'x86 ISA needed:.* x86-64-v2'": "2\n",
     f"{CC} examples/through.c out/lib/libsokoaudit.a -o through": "",
     **{f"{CC} -std={std} -fsyntax-only examples/check.c examples/search.c": ""
@@ -85,7 +85,8 @@ def compare(cases: Cases, program: str) -> None:
 
 
 program, *library = arguments("library PROGRAM [LIBRARY]")
-cases, _room = Cases("examples"), enter_folder()
+cases, _room = Cases("library"), enter_folder()
+cases.demands("cc", "make")
 if not library:
     said = run([f"{TOP}/packaging/module", "--quick"])
     if said.endswith("status 3\n"):

@@ -66,24 +66,6 @@ SECOND = {
 AGAIN = """export TZ=Asia/Tokyo LC_ALL=C && umask 077
     $second/packaging/{0} $second/crates/sokoaudit/out {0}/again $library &&
     cmp {0}/{1} {0}/again/{1}"""
-# what bash offers for the last word of a line, in a folder with some files
-OFFERS = """. $top/completions/sokoaudit.bash
-cd "$(mktemp -dp $room)" && touch 'my levels.xsb' answers.txt ./-old.xsb
-eval "COMP_WORDS=(sokoaudit $0)" && COMP_CWORD=$((${#COMP_WORDS[@]} - 1))
-"$(complete -p sokoaudit | sed 's/.*-F \\([^ ]*\\) .*/\\1/')"
-printf '%s\\n' "${COMPREPLY[*]}" """
-COMPLETIONS = {
-    "''": "audit make dead help",
-    "au": "audit",
-    "-": "-h --help -V --version",
-    "make -": "-h --help",
-    "audit my": "my levels.xsb",
-    "audit 'my levels.xsb' a": "answers.txt",
-    "audit a b ''": "",
-    "dead 'my levels.xsb' ''": "",
-    "help ma": "make",
-    "make -- -": "-old.xsb",
-}
 
 
 def make(cases: Cases, kind: str, built: str, library: Sequence[str]) -> List[str]:
@@ -99,6 +81,7 @@ def make(cases: Cases, kind: str, built: str, library: Sequence[str]) -> List[st
 
 (built,) = arguments("packages BUILT")
 cases, folder = Cases("packages"), enter_folder()
+cases.demands("make")
 version, room = run([f"{built}/sokoaudit", "--version"]).split()[1], folder.name
 library = [f"{room}/lib"] if cases.builds_soon("the library for C", "lib", 3) else []
 os.environ.update(top=TOP, built=built, version=version, room=room, library="".join(library))
@@ -123,10 +106,4 @@ if os.path.exists("deb"):
     cases.each("deb", {"lintian says nothing": lintian}, needs="lintian")
 if cases.builds_soon("a second build", "dist deb", len(SECOND) + len(again)):
     cases.each("a second build", {**SECOND, **again})
-for typed, offered in COMPLETIONS.items():
-    cases.prints(f"completion of {typed}", f"{offered}\nstatus 0\n", OFFERS, typed)
-for shell, file in (("zsh", "_sokoaudit"), ("fish", "sokoaudit.fish"), ("zsh", "_sokotool"),
-                    ("fish", "sokotool.fish")):
-    syntax = {"its syntax": f"{shell} -n $top/completions/{file}"}
-    cases.each(f"completions/{file}", syntax, needs=shell)
 cases.finish()

@@ -51,10 +51,12 @@ def run_apart(words: Sequence[str], **how: Any) -> Tuple[str, str]:
 
 
 class Cases:
-    """The cases of a part: how many passed, failed and were skipped."""
+    """The cases of a part: how many passed, failed and were skipped. With tests/run --first the
+    part ends with the first one that fails."""
 
-    def __init__(self, part: str):
+    def __init__(self, part: str) -> None:
         self.part, self.passed, self.failed, self.skipped = part, 0, 0, 0
+        self.ends_first = bool(os.environ.get("FIRST"))
 
     def __str__(self) -> str:
         skipped = f", {self.skipped} skipped" if self.skipped else ""
@@ -89,6 +91,8 @@ class Cases:
             self.say(f"FAILED: {name}")
             shown = "".join(f"    {line}\n" for line in said)
             print(shown.encode(errors="backslashreplace").decode(), end="", flush=True)
+            if self.ends_first:
+                self.finish()
         return bool(is_so)
 
     def succeeds(self, name: str, *words: str, **how: Any) -> bool:
@@ -116,6 +120,11 @@ class Cases:
         if not found:
             self.skip(what, f"there is no command {command}")
         return found
+
+    def demands(self, *commands: str) -> None:
+        """Ends the part, all of which is skipped, if this machine lacks one of these commands."""
+        if not all([self.needs(it, "this part") for it in commands]):
+            self.finish()
 
     def builds_soon(self, what: str, target: str, number: int) -> bool:
         """Whether a build is quick because rt has built the libraries, which then have stamps.
@@ -148,6 +157,7 @@ class Cases:
 
 def _part(name: str, function: Callable[..., Any], *words: Any) -> Tuple[Tuple[int, ...], Any]:
     cases = Cases(name)
+    cases.ends_first = False  # others count beside it
     with enter_folder():
         returned = function(cases, *words)
     cases.say(str(cases))

@@ -1,8 +1,10 @@
 """tests/run script: tests the script 'sokoaudit' at the top, and the scripts that build, with a
 toolchain that proves nothing and takes no time. Ends in 'N passed, M failed'."""
 import os
+import shutil
 import signal
 import subprocess
+import sys
 import time
 
 from tests.runner import TOP, Cases, call, decode, enter_folder, read, run, shell
@@ -15,7 +17,7 @@ TREE = r"""
 mkdir -p tree/samples bin plain bare 'else where' tree/crates/{low,arguments,sokoaudit}/src
 chmod 755 .
 ln -sf /usr/bin/* /bin/* plain && rm -f plain/rt
-ln -s /bin/{bash,cat,dirname,env,readlink} bare
+ln -s /bin/{cat,dirname,readlink} bare
 cp -r $top/sokoaudit $top/Makefile $top/packaging $top/reference tree
 cp $top/samples/help tree/samples
 printf '#####\n#@$.#\n#####\n' >'else where/levels'
@@ -49,6 +51,7 @@ python() {
 }
 """
 cases, folder = Cases("script"), enter_folder()
+cases.demands("make", "git")
 room, help = os.path.realpath(folder.name), read(f"{TOP}/samples/help").partition("\n")[0]
 version = run([f"{TOP}/reference/sokoaudit", "--version"]).partition("\n")[0]
 tree, here = f"{room}/tree", f"{room}/else where"
@@ -83,6 +86,26 @@ case("and so are its faults", 2, "", "answers line 1 header", f"{LACKS} $run aud
 case("and nothing is built", 0, "", "", "ls $tree/crates/sokoaudit/out 2>/dev/null; exit $(builds)")
 case("neither toolchain nor Python", 2, "", "neither the command rt of the Rattle toolchain nor "
      "python3 is on the PATH", "PATH=$tree/../bare $run audit levels answers")
+# what another system has: one program for all of its commands, without the options of GNU
+os.mkdir("small")
+for it in (cases.needs("busybox", "the script on a small system") and run(["busybox", "--list"])
+           or "").split("\nstatus")[0].split():
+    os.symlink(shutil.which("busybox") or "", f"small/{it}")
+os.symlink(sys.executable, "small/python3")
+SHELLS = {"dash": "dash", "bash": "bash", "zsh": "zsh", "busybox": "busybox sh"}
+for shell_name, words in SHELLS.items():
+    if cases.needs(shell_name, "the script under another shell"):
+        case(f"it runs under {words}", 0, "level 1 solved moves 1 pushes 1 changes 1", NOTE,
+             f"PATH=$tree/../plain {words} $run audit levels answers")
+if os.path.exists("small/sh"):
+    case("it runs on a small system", 0, "level 1 solved moves 1 pushes 1 changes 1", NOTE,
+         "ln -s ../link far; ln -s \"$tree\" ../link; ln -s far/sokoaudit it; PATH=$tree/../small "
+         "./it audit levels answers; s=$?; rm it far ../link; exit $s")
+# a program that the system can't run
+case("a program that can't be run is no refused level", 2, "", "perhaps of other sources",
+     "mkdir -p $tree/crates/sokoaudit/out; printf '#!/other-bin/none\\n' | install -m 755 "
+     f"/dev/stdin $tree/crates/sokoaudit/out/sokoaudit; {LACKS} $run audit levels answers; s=$?; "
+     "rm -r $tree/crates/sokoaudit/out; exit $s")
 case("the first run builds", 0, "one one one|HERE|a  b c", "proved sokoaudit, 3 functions, 0:0",
      "$run 'a  b' c")
 case("two libraries are proved side by side", 0, "begin begin end end", "",
@@ -115,10 +138,12 @@ case("it prints nothing if it fails", 0, "", "", f"{broken}; $tree/packaging/pre
 case("no Python is no fault", 0, "", "", "python 'exit 127'; $tree/packaging/preview make levels")
 soon = "printf '#!/bin/sh\\nshift; exec /usr/bin/timeout 0.3 \"$@\"\\n'"
 soon = f"{soon} | install -m 755 /dev/stdin ../bin/timeout"
+soon += "; sleeps='echo $$ >$tree/../slept; exec sleep 61'"
 case("it is ended after its time", 0, "",
      "the reference takes over 10 seconds for these words, and was ended",
-     f"{soon}; python 'exec sleep 61.25'; $tree/packaging/preview make levels; rm ../bin/timeout")
-waits = "edit ten; $run make levels >said; python; ! pgrep -f 'sleep 61[.]25'"
+     f"{soon}; python \"$sleeps\"; $tree/packaging/preview make levels; rm ../bin/timeout")
+waits = ("edit ten; $run make levels >said; python; for it in {1..50}; do "
+         "kill -0 $(cat $tree/../slept) 2>/dev/null || break; sleep 0.1; done; [ $it != 50 ]")
 case("it never delays the build, and ends with it", 0, "ten one one|HERE|make levels",
      "proved sokoaudit", f"{waits} && [ $SECONDS -lt 20 ] && cat said")
 # the gate's program
@@ -166,9 +191,17 @@ case("without the toolchain a built program runs", 0, "four one one|HERE|a",
 case("and help needs none", 0, help, "", f"{LACKS} $run --help")
 case("make needs it", 2, "", "the command rt of the Rattle toolchain is not on the PATH",
      f"{LACKS} $tree/packaging/build")
-# installation without the toolchain
+# installation without the toolchain, and without what a small system lacks
 tools, places = f"{LACKS} make -s -C $top", "\"DESTDIR=$PWD/root\" PREFIX=/usr"
+alone = f"{sys.executable} $top/packaging/install-tools"
 case("install-tools needs no toolchain", 0, "", "", f"{tools} install-tools {places}")
+case("it needs Python alone", 0, "", "",
+     f"PATH=none {alone} alone/usr; diff -r root alone; for it in root alone; do "
+     "(cd $it; find . -printf '%m %p\\n' | sort >../$it.modes); done; cmp root.modes alone.modes")
+case("and removes what it installed", 0, "", "",
+     f"PATH=none {alone} --remove alone/usr; find alone -type f")
+case("an installation that fails says where", 1, "", "install-tools: alone/levels/bin: Not a dir",
+     f"touch alone/levels; PATH=none {alone} alone/levels")
 case("it installs the reference", 0, "level 1 solved moves 1 pushes 1 changes 1", NOTE,
      "root/usr/bin/sokoaudit audit levels answers")
 case("and its help", 0, help, "", "root/usr/bin/sokoaudit --help")

@@ -2,6 +2,7 @@
 name that it imports exists; the linters that are installed find nothing; the versions are the
 program's, and pip can install sokotool. Ends in 'N passed, M failed'."""
 import ast
+import glob
 import importlib
 import os
 import re
@@ -17,6 +18,7 @@ LINTERS = {
     "pycodestyle": ["pycodestyle"],
 }
 MYPY = ["mypy", "--cache-dir"]
+STRICT = "tools/", "reference/", "tests/"
 VERSIONS = {
     "pyproject.toml": '(?m)^version = "(.*)"$',
     "tools/sokotool/__init__.py": '__version__ = "(.*)"',
@@ -78,10 +80,13 @@ def compiles(cases: Cases, name: str) -> None:
 
 
 def check_types(cases: Cases, names: Sequence[str]) -> None:
-    """A case for all modules, and one for each script, which may have the name of a module."""
+    """A case for the modules that state every type, one for the other modules, and one for each
+    script, which may have the name of a module."""
     modules = [it for it in names if it.endswith(".py")]
+    strict = [it for it in modules if it.startswith(STRICT)]
     with tempfile.TemporaryDirectory() as cache:
-        cases.succeeds("mypy", *MYPY, cache, *modules)
+        cases.succeeds("mypy --strict", *MYPY, cache, "--strict", *strict)
+        cases.succeeds("mypy", *MYPY, cache, *sorted({*modules} - {*strict}))
         for script in sorted({*names} - {*modules}):
             cases.succeeds(f"mypy on {script}", *MYPY, cache, script)
 
@@ -101,7 +106,7 @@ def install(cases: Cases) -> None:
     first = f"{TOP}/samples/first"
     with enter_folder():
         os.mkdir("copy")
-        for it in ("pyproject.toml", "tools", "reference"):
+        for it in ("pyproject.toml", "README.md", "tools", "reference"):
             run(["cp", "-r", f"{TOP}/{it}", "copy"])
         if cases.succeeds("pip install", python[0], *PIP):
             variables = {**os.environ, "PYTHONPATH": "installed"}
@@ -109,12 +114,16 @@ def install(cases: Cases) -> None:
                           ["page", f"{first}.xsb", f"{first}.answers", f"{first}.report"]):
                 cases.same(f"{words[0]}, as pip installs it", run([f"{TOP}/sokotool", *words]),
                            run(["installed/bin/sokotool", *words], env=variables))
+            (metadata,) = glob.glob("installed/sokotool-*.dist-info/METADATA")
+            for wanted in ("\nSummary: Checks ", "\n# sokoaudit\n", ": text/markdown\n"):
+                cases.holds(f"the package says {wanted.strip()}", wanted in read(metadata))
             check = ["installed/bin/sokotool", "check", "first", f"{first}.xsb", "--answers",
                      f"{first}.answers"]
             plain = {**variables, "PATH": "/usr/bin:/bin", "SOKOAUDIT": ""}
             cases.same("check, as pip installs it, with the reference",
                        "first: 5 levels, 3 solved, 2 unsolvable, 0 refused, 0 missing\n"
-                       f"{REFERENCE_NOTE}\nstatus 0\n", run(check, env=plain))
+                       f"{REFERENCE_NOTE}\nwrote: first.html, first.xsb, first.answers, "
+                       "first.report, first.memory\nstatus 0\n", run(check, env=plain))
 
 
 def main() -> None:

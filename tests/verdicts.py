@@ -1,7 +1,7 @@
 """Tests of the verdicts of the library for C in numbers, and of the names in its header and its
 Python module. tests/library.py runs them, in a folder with the library in out/lib."""
 import re
-from typing import Dict, Tuple, Union
+from typing import Dict, List, Tuple, Union
 
 from tests.inputs import AUDITS, WHOLE_LEVELS
 from tests.reference.comparing import Library, Reference
@@ -42,6 +42,22 @@ JUDGED: Dict[Tuple[bytes, int, bytes], Union[str, int]] = {
     (b" " * 33554433, SOLUTION, b"R"): 2,
     (LEVEL, SOLUTION, b"R" * 33554433): 3,
 }
+# Where the levels of a text are: from the first byte of a level to before the byte after its last
+# row, with the end of its line.
+SPANS: Dict[bytes, List[Tuple[int, int]]] = {
+    b"": [],
+    b"no level": [],
+    b"#": [(0, 1)],
+    b"\n#\n": [(1, 3)],
+    b"#\n#\nA\n#": [(0, 4), (6, 7)],
+    b"-\n#-\n_\n": [(2, 5)],
+    b"###\0": [],
+    b"#\r": [],
+    b"\xef\xbb\xbf": [],
+    b"\xef\xbb\xbf#\r\n##\r\n\r\nx\n #": [(3, 10), (14, 16)],
+    b"#\n\n" * 10001: [(3 * at, 3 * at + 2) for at in range(10001)],
+    b"\n" * 33554440 + b"#": [(33554440, 33554441)],
+}
 
 
 def whole(ran: Ran) -> str:
@@ -65,6 +81,9 @@ def verdicts(cases: Cases) -> None:
             found = fault.number
         shown = [it[:60] if isinstance(it, bytes) else it for it in words]
         cases.same(f"judge {shown}", str(wanted), str(found))
+    for levels_text, places in SPANS.items():
+        cases.same(f"spans {levels_text[:60]!r}", str(places),
+                   str([tuple(it) for it in module.spans(levels_text)]))
     none = "([], Counts(levels=0, solved=0, unsolvable=0, refused=0, missing=0))"
     cases.same("no level", none, str(module.lines("", "sokoban-answers 1")))
     for name, *wrong in (("header", levels, b""), ("levels too long", b" " * 33554433, b"")):

@@ -63,6 +63,7 @@ struct tried rattle_realloc(void *block, u64 before, u64 bytes, u64 align)
 u32 sokoaudit_audit(const u8 *, u64, const u8 *, u64, u8 *, u64, u64 *);
 u32 sokoaudit_make(const u8 *, u64, u8 *, u64, u64 *);
 u32 sokoaudit_dead(const u8 *, u64, u64, u8 *, u64, u64 *);
+u64 sokoaudit_levels(const u8 *, u64, u64 *, u64);
 u32 sokoaudit_judge(const u8 *, u64, u32, const u8 *, u64, u64 *);
 u64 sokoaudit_fault_text(const u64 *, u8 *, u64);
 
@@ -86,6 +87,8 @@ EXPORTED(dead) u32 dead(const u8 *levels, u32 n, u32 number, u8 *map, u32 room, 
 {
     return sokoaudit_dead(levels, n, number, map, room, outcome);
 }
+
+EXPORTED(levels) u32 levels(const u8 *text, u32 n, u64 *spans, u32 room) { return sokoaudit_levels(text, n, spans, room); }
 
 EXPORTED(judge) u32 judge(const u8 *level, u32 n, u32 kind, const u8 *body, u32 m, u64 *line)
 {

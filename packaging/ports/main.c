@@ -27,6 +27,9 @@ static const struct command COMMANDS[] = {
     { "help", { NULL, NULL }, HELP_HELP },
 };
 
+/* the name in usage errors and help texts */
+static const char *called = "sokoaudit";
+
 static int fail(const char *words)
 {
     fprintf(stderr, "%s\n", words);
@@ -42,7 +45,7 @@ static int count_of(const struct command *command)
 
 static int usage(const struct command *command)
 {
-    fputs("\nUsage: sokoaudit ", stderr);
+    fprintf(stderr, "\nUsage: %s ", called);
     if (!command) fputs("<COMMAND>", stderr);
     else {
         fputs(command->name, stderr);
@@ -93,8 +96,13 @@ static FILE *opened(const char *name)
     if (strcmp(name, "-")) {
 #ifdef _WIN32
         wchar_t wide[32768];
+        const char *end = strrchr(name, '.');
         if (!MultiByteToWideChar(CP_UTF8, 0, name, -1, wide, 32768)) return NULL;
-        return _wfopen(wide, L"rb");
+        FILE *file = _wfopen(wide, L"rb");
+        /* Windows takes nul.xsb for the device NUL, but a name with an end is meant for a file. */
+        if (!file || !end || strpbrk(end, "/\\:") || GetFileType((HANDLE)_get_osfhandle(_fileno(file))) != FILE_TYPE_CHAR) return file;
+        fclose(file);
+        return NULL;
 #else
         return fopen(name, "rb");
 #endif
@@ -154,6 +162,13 @@ static int say(const char *text)
     return fputs(text, stdout) < 0 || fflush(stdout) ? fail("cannot write") : 0;
 }
 
+/* Prints a help text, which has the name that the program is called by. */
+static int help(const char *text)
+{
+    const char *name = strstr(text, "Usage: sokoaudit ") + strlen("Usage: "), *rest = name + strlen("sokoaudit");
+    return printf("%.*s%s%s", (int)(name - text), text, called, rest) < 0 || fflush(stdout) ? fail("cannot write") : 0;
+}
+
 static const struct command *command_of(const char *name)
 {
     for (size_t i = 0; i < sizeof COMMANDS / sizeof *COMMANDS; i++) {
@@ -171,7 +186,7 @@ static int run(const struct command *command, char **words, int count)
     for (int i = 0; i < count; i++) {
         const char *word = words[i];
         if (!is_plain && !strcmp(word, "--")) is_plain = 1;
-        else if (!is_plain && (!strcmp(word, "-h") || !strcmp(word, "--help"))) return say(command->help);
+        else if (!is_plain && (!strcmp(word, "-h") || !strcmp(word, "--help"))) return help(command->help);
         else if ((!is_plain && word[0] == '-' && word[1]) || found == wanted) return unexpected(command, word);
         else values[found++] = word;
     }
@@ -196,19 +211,24 @@ static int run(const struct command *command, char **words, int count)
 
 static int started(int count, char **words)
 {
+    if (count) {
+        const char *name = words[0] + strlen(words[0]);
+        while (name > words[0] && !strchr("/\\", name[-1])) name--;
+        if (*name) called = name;
+    }
     if (count < 2) {
-        fputs("error: 'sokoaudit' requires a subcommand but one was not provided\n  [subcommands: audit, make, dead, help]\n", stderr);
+        fprintf(stderr, "error: '%s' requires a subcommand but one was not provided\n  [subcommands: audit, make, dead, help]\n", called);
         return usage(NULL);
     }
     const char *first = words[1];
-    if (!strcmp(first, "-h") || !strcmp(first, "--help")) return say(HELP);
+    if (!strcmp(first, "-h") || !strcmp(first, "--help")) return help(HELP);
     if (!strcmp(first, "-V") || !strcmp(first, "--version")) return say("sokoaudit " SOKOAUDIT_VERSION "\n");
     if (first[0] == '-') return unexpected(NULL, first);
     const struct command *command = command_of(first);
     if (!command) return 2;
     if (strcmp(first, "help")) return run(command, words + 2, count - 2);
-    if (count == 2) return say(HELP);
-    return (command = command_of(words[2])) ? say(command->help) : 2;
+    if (count == 2) return help(HELP);
+    return (command = command_of(words[2])) ? help(command->help) : 2;
 }
 
 #ifdef _WIN32

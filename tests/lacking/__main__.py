@@ -1,7 +1,18 @@
 """tests/run lacking PROGRAM [TEST..]: the tests of sokotool once more, without what Windows lacks
 and without what macOS lacks, side by side. PROGRAM is the sokoaudit that they run. Left out are the
 tests that need a browser, take long or measure time, and those that only work on texts in memory. A
-Python 3.8 is used where there is one. Ends in 'N passed, M failed'."""
+Python 3.8 is used where there is one. Ends in 'N passed, M failed'.
+
+What is simulated: functions and modules that are missing, new processes that start anew, \\ as
+os.sep, commands by PATHEXT, names of devices, a file that can't be replaced for a moment, many
+processors, a closed pipe as EINVAL, decomposed names, ends of names in another case, and the lines
+that make commands of sokotool.pyz.
+
+What isn't: os.path with drives and \\ (but for a few tests), files that can't be removed while they
+are open, names that differ only in case, paths of more than 260 characters, jobs of processes
+(ctypes.WinDLL), consoles and their code pages, cmd and PowerShell themselves, and all of the file
+systems. No test has run on Windows or macOS itself, only sokoaudit.exe under Wine (tests/run
+native)."""
 import glob
 import os
 import re

@@ -8,11 +8,12 @@ import errno
 import importlib
 import multiprocessing
 import os
+import shutil
 import signal
 import subprocess
 import sys
 import types
-from typing import Any
+from typing import Any, Optional
 
 # what uses os or signal, and is imported before they are cut
 LIBRARY = """argparse asyncio concurrent.futures.process contextlib difflib fileinput gettext glob
@@ -22,6 +23,8 @@ multiprocessing.queues multiprocessing.reduction multiprocessing.resource_tracke
 multiprocessing.spawn multiprocessing.synchronize multiprocessing.util pathlib pkgutil pprint random
 runpy selectors shlex shutil socket ssl stat subprocess tempfile threading traceback unittest
 unittest.mock urllib.request xml.etree.ElementTree xml.sax xml.sax.saxutils zipfile""".split()
+# the variable PATHEXT
+ENDS = (".com", ".exe", ".bat", ".cmd")
 LACKS = {
     "windows": {
         "modules": "resource fcntl termios pwd grp pty tty posix syslog",
@@ -67,6 +70,16 @@ def refuse_preexec() -> None:
             raise ValueError("preexec_fn is not supported on Windows platforms")
         start(self, *words, **named)
     setattr(subprocess.Popen, "__init__", init)
+
+
+def find_by_ends() -> None:
+    """Finds commands also by the ends of names of programs that are left out."""
+    find = shutil.which
+
+    def which(name: str, *words: Any, **named: Any) -> Optional[str]:
+        found = (find(name + end, *words, **named) for end in ("", *ENDS))
+        return next(filter(None, found), None)
+    setattr(shutil, "which", which)
 
 
 def lock_as_windows() -> None:
@@ -124,12 +137,13 @@ def become(system: str) -> None:
         refuse_limit()
         setattr(ctypes, "CDLL", Library)
         return
-    os.sep = "\\"
+    os.sep, os.O_BINARY = "\\", 0x8000  # Linux ignores the flag
     multiprocessing.set_start_method("spawn")
     spawn = multiprocessing.get_context("spawn")
     setattr(multiprocessing.context, "_concrete_contexts", {"spawn": spawn})
     setattr(ctypes, "CDLL", no_library)
     refuse_preexec()
+    find_by_ends()
 
 
 if os.environ.get("LACKING"):

@@ -17,7 +17,7 @@ BYTES = """(async () => {
     return reader.result.slice(reader.result.indexOf(",") + 1);
 })()"""
 # what the viewer reads, with all that it makes when it is asked for
-DATA = "JSON.parse(JSON.stringify(shownData, (key, it) => /card|board/.test(key) ? 0 : it))"
+DATA = "JSON.parse(JSON.stringify(shownData))"
 
 
 class Tab(Browser):
@@ -29,7 +29,7 @@ class Tab(Browser):
         """Opens the page anew."""
         self.open("file://" + self.page)
 
-    def wait(self, expression: str, seconds: float = 100) -> None:
+    def wait(self, expression: str, seconds: float = 30) -> None:
         """Waits until an expression holds."""
         end = time.monotonic() + seconds
         while not self.ask(f"Boolean({expression})"):
@@ -41,7 +41,7 @@ class Tab(Browser):
         """Gives the page files, and waits for the result. Returns the page's message, or ''."""
         self.ask(HIDE)
         self.choose(*names)
-        self.wait(IDLE)
+        self.wait(IDLE, 100)
         return self.message()
 
     def choose(self, *names: str) -> None:
@@ -52,19 +52,31 @@ class Tab(Browser):
 
     def paste(self, field: str, text: str) -> str:
         """Pastes a text into a field, and waits for the result. Returns the page's message."""
-        self.ask(f"{HIDE}; $('{field}').select(); 0")
+        self.ask(f"{HIDE}; if ($('{field}').closest('details')) $('more').open = true; "
+                 f"$('{field}').select(); 0")
         self.call("Input.insertText", text=text)
         self.ask(f"$('{field}').dispatchEvent(new ClipboardEvent('paste')); 0")
         self.wait(IDLE)
         return self.message()
 
+    def opened(self, number: int = 0) -> None:
+        """Opens a level, if one is named, and waits until it is drawn, or isn't."""
+        if number:
+            self.ask(f"$('page').contentWindow.go({number})")
+        self.wait("$('page').contentDocument.querySelector("
+                  "'#level:not([hidden]) :is(.two, .misjudged)')")
+
     def message(self) -> str:
         """The page's message, or ''."""
-        return self.ask("$('message').hidden ? '' : $('message').textContent")
+        return str(self.ask("$('message').hidden ? '' : $('message').textContent"))
+
+    def told(self) -> Sequence[str]:
+        """What the page says was read with a change, or not at all."""
+        return list(self.ask("[...$('told').children].map(it => it.textContent)"))
 
     def text(self, name: str) -> str:
         """The text of an element of the page."""
-        return self.ask(f"$('{name}').textContent")
+        return str(self.ask(f"$('{name}').textContent"))
 
     def saved(self, what: str) -> bytes:
         """The bytes of a result of the last run: its report, answers or page."""
@@ -72,5 +84,5 @@ class Tab(Browser):
 
     def frame(self, selector: str) -> Sequence[str]:
         """The texts of the elements in the frame that fit a selector."""
-        return self.ask("[...$('page').contentDocument.querySelectorAll("
-                        f"{json.dumps(selector)})].map(e => e.textContent)")
+        return list(self.ask("[...$('page').contentDocument.querySelectorAll("
+                             f"{json.dumps(selector)})].map(e => e.textContent)"))

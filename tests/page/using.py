@@ -14,6 +14,7 @@ LEVEL = "####\n# .#\n#  ###\n#*@  #\n#  $ #\n#  ###\n####\n"
 LETTERS = "dlUrrrdLullddrUluRuulDrddrruLdlUU"
 LINE = "level 1 solved moves 33 pushes 8 changes 4\n"
 CORNER = "#####\n#$ .#\n# @ #\n#####\n"
+CORRIDOR = "#" * 106 + "\n#  @$" + " " * 99 + ".#\n" + "#" * 106 + "\n"
 MADE = "pattern 2,2 @ *\npattern 2,3 @ *\npattern 3,3 @ *\npattern 4,3 @ *\n"
 # what stands below the level, and what becomes of it
 BELOW = {
@@ -21,14 +22,19 @@ BELOW = {
     f"Title: x\n\nSolution: {LETTERS}": "solved",
     f"Solution/Solver (moves 33)\n{LETTERS[:10]}\n{LETTERS[10:]}": "solved",
     f"Dull\n\n{LETTERS}": "solved", "Dull\n": "missing", "Solution\nlurd\n": "refused",
+    LETTERS.lower(): "solved", LETTERS.upper(): "solved", f"L\u00f6sung: {LETTERS}": "solved",
+    f"; {LETTERS}": "solved", f"\"{LETTERS[:9]}\"\n\n  {LETTERS[9:]}": "solved",
+    f"Saved game\n{LETTERS}": "solved", "Solution: 16000000(ud)": "missing",
     f"Solution 1\nlllllllll\nSolution 2\n{LETTERS}": "solved",
     "dlU3rdLu2l2drUluR2ulDr2d2ruLdl2U": "solved", "2(u)": "missing",
     "Solution\n99999999999(u)": "missing", f"Solution\r\n{LETTERS}\r\n": "solved",
 }
-UNREAD = "2 lines of letters solve no level or aren't needed: lines 8, 10."
+ANSWERS = f"sokoban-answers 1\nlevel 1\nsolution\n{LETTERS}\nend\n"
+UNREAD = [f"line {at}: letters that solve no level: letter {why}" for at, why in (
+    (8, "1, l: blocked"), (10, "3, r: wall"))]
 HOSTILE = ("<img src=x onerror=\"document.title='run'\"></script>"
            "<script>document.title='run'</script>")
-NAMES = ["levels", "the solutions below its levels"]
+NAMES = ["levels", "the solutions in it"]
 # what a browser does that has no vectors, or no WebAssembly
 LACKS = "WebAssembly.validate = () => false", "delete globalThis.WebAssembly"
 
@@ -39,7 +45,7 @@ def below(check: Comparison, tab: Tab) -> None:
         tab.paste("levels", LEVEL + letters)
         check.same(f"below: {letters!r}", status, tab.text("lines").split()[2])
     tab.paste("levels", f"{LEVEL}llllllllll\nx\nrrrrrrrrrr\nx\n{LETTERS}\n")
-    check.same("letters that aren't read", True, UNREAD in tab.text("notes"))
+    check.same("letters that aren't read", UNREAD, tab.told())
     tab.paste("levels", f"{LEVEL}\nsokoban-answers 1\nlevel 1\nsolution\n{LETTERS}\nend\n")
     check.same("both texts in one", LINE, tab.text("lines")[:len(LINE)])
 
@@ -49,6 +55,7 @@ def viewing(check: Comparison, tab: Tab) -> None:
     tab.paste("levels", LEVEL + LETTERS)
     check.same("one level is shown at once", [f"\u2713 {LINE.strip()}"],
                tab.frame("#level .verdict"))
+    tab.opened()
     tab.ask("$('page').focus(); 0")
     tab.press("ArrowRight", "ArrowRight")
     tab.wait("$('page').contentWindow.location.hash === '#1:2'")
@@ -77,6 +84,38 @@ def making(check: Comparison, tab: Tab) -> None:
     check.same("the saved page opens", "\u2715 2",
                tab.ask("document.querySelector('.card.unsolvable b').textContent"))
     check.same("the saved page asks for nothing", 1, len(tab.requests))
+    tab.ask("go(2)")
+    tab.wait("document.querySelector('.judged')")
+    check.same("the saved page judges too", "same verdict.", tab.ask(
+        "document.querySelector('.judged').textContent.slice(-13)"))
+    tab.ask("DATA.levels[0].rows = DATA.levels[1].rows; go(1)")
+    tab.wait("document.querySelector('.misjudged')")
+    check.same("no error of the saved page", [], tab.errors)
+
+
+def keeping(check: Comparison, tab: Tab) -> None:
+    """Made certificates are put between the old records, which stay as they are."""
+    old = (f"sokoban-answers 1\r\n; checked by Anna\nlevel 2\n; mine\nsolution\n{LETTERS}\nend\n\n"
+           "; the last\nlevel 3\nunsolvable\nzone 2,2\nend")
+    write("keep.xsb", "\n".join((CORNER, LEVEL, CORNER, CORNER)))
+    write("keep.answers", old)
+    tab.give("keep.xsb", "keep.answers")
+    tab.click("#make")
+    tab.wait("$('lines').textContent.startsWith('level 1 unsolvable')")
+    record = f"unsolvable\n{MADE}end\n"
+    check.same("old records and comments stay", old.replace("1\r\n", f"1\r\nlevel 1\n{record}")
+               + f"\nlevel 4\n{record}", tab.saved("answers").decode())
+    check.same("so does their verdict", "level 3 refused line 19 syntax",
+               tab.text("lines").splitlines()[2])
+    tab.ask("clear(); 0")
+    with open(f"{TOP}/samples/zones.xsb", encoding="utf-8") as file:
+        tab.paste("answers", "sokoban-answers 1\n; mine\n")
+        tab.paste("levels", file.read())
+    tab.click("#make")
+    tab.wait("$('notes').textContent.includes('Certificates were made')")
+    check.same("a header that rises is said", [True, "sokoban-answers 2"], [
+        "'sokoban-answers 2' now" in tab.text("notes"),
+        tab.saved("answers").decode().splitlines()[0]])
 
 
 def several(check: Comparison, tab: Tab) -> None:
@@ -101,7 +140,7 @@ def hostile(check: Comparison, tab: Tab) -> None:
     name = HOSTILE.replace("/", "\u2215") + ".xsb"
     write(name, f"{HOSTILE}\n{LEVEL}Title: {HOSTILE}\n\n{HOSTILE}\n{LEVEL}{LETTERS}\n")
     tab.give(name)
-    tab.ask("$('page').contentWindow.go(1)")
+    tab.opened(1)
     check.same("hostile titles are texts", True, HOSTILE in tab.frame("#heading")[0])
     tab.ask("savePage().then(() => 0)")
     check.same("no text becomes markup", ["sokoaudit", 0], tab.ask(
@@ -111,8 +150,11 @@ def hostile(check: Comparison, tab: Tab) -> None:
     asked = tab.requests
     check.same("nothing is asked for", [], [it for it in asked if it[:5] not in ("file:", "blob:")])
     tab.open("file://" + os.path.abspath("saved.html"))
-    check.same("nor becomes it markup in the saved page", 0,
-               tab.ask("document.querySelectorAll('img, main script').length"))
+    check.same("nor becomes it markup in the saved page", [0, 7, False], tab.ask(
+        "[document.images.length, document.scripts.length, document.title === 'run']"))
+    tab.ask("document.body.append(Object.assign(document.createElement('script'), "
+            "{ textContent: \"document.title = 'run'\" }))")
+    check.same("no other script runs in it", False, tab.ask("document.title === 'run'"))
     tab.fresh()
     tab.ask("document.body.append(Object.assign(document.createElement('script'), "
             "{ textContent: \"document.title = 'run'\" }))")
@@ -125,7 +167,7 @@ def stopping(check: Comparison, tab: Tab) -> None:
     """A run that is cancelled, and a memory that doesn't grow."""
     write("slow.xsb", text(crowded(300, 255, 400, True)))
     tab.give("slow.xsb")
-    tab.ask("run('make', 'Looking for certificates', {}), 0")
+    tab.ask("make(), 0")
     check.same("the page answers while the program runs", [False, True], tab.ask(
         "[$('busy').hidden, $('busy').textContent.includes('Looking for certificates')]"))
     tab.click("#cancel")
@@ -192,6 +234,14 @@ def browsers(check: Comparison, tab: Tab) -> None:
         tab.fresh()
         check.same(lack, True, "no WebAssembly" in tab.message() and "reference" in tab.message())
         tab.call("Page.removeScriptToEvaluateOnNewDocument", identifier=made)
+    tab.fresh()
+    tab.ask("globalThis.whole = $('thread').textContent; $('thread').textContent = '(', 0")
+    check.same("a thread that doesn't start", "This browser can't run the program",
+               tab.paste("levels", LEVEL)[:34])
+    tab.ask("$('thread').textContent = whole; clear(); 0")
+    tab.errors.clear()
+    tab.paste("levels", LEVEL + LETTERS)
+    check.same("the next one does", LINE, tab.text("lines")[:len(LINE)])
 
 
 def reaching(check: Comparison, tab: Tab) -> None:
@@ -203,7 +253,7 @@ def reaching(check: Comparison, tab: Tab) -> None:
     tab.wait("document.activeElement.id === 'total'")
     check.same("an audit by keys", LINE, tab.text("lines")[:len(LINE)])
     names = tab.spoken()
-    for pair in (("textbox", "Levels and perhaps the solution below each"), ("button", "Cancel"),
+    for pair in (("textbox", "Levels, with their solutions"), ("button", "Cancel"),
                  ("heading", "total 1 solved 1 unsolvable 0 refused 0 missing 0")):
         check.same(f"spoken: {pair}", pair != ("button", "Cancel"), pair in names)
     for dark in (False, True):
@@ -220,4 +270,62 @@ def reaching(check: Comparison, tab: Tab) -> None:
     check.same("a dropped file", LINE, tab.text("lines")[:len(LINE)])
 
 
-PARTS = below, viewing, making, several, hostile, stopping, growth, browsers, reaching
+def fields(check: Comparison, tab: Tab) -> None:
+    """What stays in the fields and what goes, the buttons beside them, and the notes."""
+    write("one.xsb", LEVEL)
+    write("two.xsb", CORNER)
+    write("plain answers.txt", "R\n")
+    for name in ("one.answers", "three.answers"):
+        write(name, ANSWERS)
+    tab.give("one.xsb", "one.answers")
+    check.same("levels and answers", LINE, tab.text("lines")[:len(LINE)])
+    check.same("all is answered", "fine", tab.ask("$('total').className"))
+    tab.give("two.xsb")
+    check.same("new levels drop the former answers", "level 1 missing",
+               tab.text("lines").splitlines()[0])
+    check.same("something is open", "open", tab.ask("$('total').className"))
+    tab.give("one.xsb", "plain answers.txt")
+    check.same("a file that is named answers", "answers line 1 header", tab.message())
+    tab.give("one.xsb", "two.xsb", "one.answers", "three.answers")
+    check.same("answers without levels", True, "three.answers: no levels" in tab.message())
+    tab.give("one.xsb", "two.xsb")
+    tab.wait("document.querySelectorAll('#each li').length === 2")
+    tab.click("#levels-file button")
+    check.same("several files are removed at once", [True, True], tab.ask(
+        "['levels', 'answers'].map(it => $(`${it}-file`).hidden)"))
+    tab.fresh()
+    tab.paste("answers", ANSWERS)
+    tab.paste("levels", f"{LEVEL}\nsokoban-answers 1\n")
+    check.same("typed answers stay", ANSWERS, tab.ask("$('answers').value"))
+    check.same("they count", LINE, tab.text("lines")[:len(LINE)])
+    tab.fresh()
+    tab.ask("$('levels').focus(); 0")
+    tab.paste("levels", LEVEL + "Solution\n" + LETTERS)
+    tab.opened()
+    check.same("the focus stays in the field", ["levels", False], tab.ask(
+        "[document.activeElement.id, $('page').contentDocument.hasFocus()]"))
+    tab.paste("levels", "no level\n")
+    check.same("no level", ["No level is found.", "A row has"], [tab.message(), tab.told()[0][:9]])
+    tab.click("#example")
+    tab.wait(f"{IDLE} && $('lines').textContent.includes('level 2')")
+    check.same("the example", "total 2 solved 1 unsolvable 0 refused 0 missing 1",
+               tab.text("total"))
+    tab.ask(f"clear(); $('levels').value = {(CORNER + chr(10) + LEVEL + LETTERS)!r}; dispatchEvent("
+            "new KeyboardEvent('keydown', { key: 'Enter', ctrlKey: true })); 0")
+    tab.wait(IDLE)
+    check.same("Ctrl and Enter audit", "level 1 missing", tab.text("lines").splitlines()[0])
+    tab.click("#make")
+    tab.wait("$('lines').textContent.includes('level 1 unsolvable patterns 4')")
+    check.same("made answers stand in order", ["level 1", "level 2"],
+               [it for it in tab.saved("answers").decode().splitlines() if it[:5] == "level"])
+    tab.ask("$('levels').dispatchEvent(new Event('input')); 0")
+    check.same("an edited text leaves its result pale", True,
+               tab.ask("$('result').classList.contains('stale')"))
+    tab.ask("HTMLAnchorElement.prototype.click = function () { window.to = this.download; }; 0")
+    for what in ("report", "answers"):
+        tab.click(f"#save-{what}")
+        check.same(f"the name of saved {what}", f"levels.{what}", tab.ask("to"))
+
+
+PARTS = (below, fields, viewing, making, keeping, several, hostile, stopping, growth, browsers,
+         reaching)

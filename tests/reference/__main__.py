@@ -8,6 +8,8 @@ program, *library = arguments("reference PROGRAM [LIBRARY]")
 cases, more = Cases("reference"), ["--library", *library] if library else []
 cases.side_by_side({
     "samples": (parts.samples,),
+    "what hinders a run": (parts.hindered,),
+    "what is no comparison": (parts.statuses,),
     "random cases": (parts.random_cases, *more, program),
     "small levels": (claims.judge_sets, "--samples", "300", *more, program),
 })

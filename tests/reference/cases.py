@@ -148,7 +148,7 @@ def solution(rng: Random) -> Case:
 class Closing:
     """A list to which lines are added for the results of its pushes."""
 
-    def __init__(self, rng: Random, board: Board, most: int):
+    def __init__(self, rng: Random, board: Board, most: int) -> None:
         self.rng, self.board, self.most = rng, board, most
         self.lines: List[Line] = []
         self.regions: List[Set[Cell]] = []

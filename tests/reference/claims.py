@@ -159,7 +159,7 @@ def due(case: Case) -> str:
 class Claims:
     """Checks a program's claims about levels."""
 
-    def __init__(self, others: Sequence[Auditor]):
+    def __init__(self, others: Sequence[Auditor]) -> None:
         self.program, self.comparison = others[0], Comparison(others)
         self.counts: Dict[str, int] = Counter()
         self.alone: Dict[Tuple[FrozenSet[Cell], FrozenSet[Cell], Cell], bool] = {}

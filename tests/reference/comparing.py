@@ -74,7 +74,7 @@ class Program(Auditor):
     """A program, which gets the texts as files."""
     name = "program"
 
-    def __init__(self, path: str):
+    def __init__(self, path: str) -> None:
         self.path = os.path.realpath(path)
         self.folder = tempfile.mkdtemp(dir="/dev/shm" if os.path.isdir("/dev/shm") else None)
 
@@ -110,7 +110,7 @@ class Library(Auditor):
     """The library for C, in this process."""
     name = "library"
 
-    def __init__(self, path: str):
+    def __init__(self, path: str) -> None:
         self.calls = ctypes.CDLL(os.path.realpath(path))
         folder = os.path.dirname(os.path.realpath(path))
         self.module = load("sokoaudit", os.path.join(folder, "sokoaudit.py"))
@@ -195,7 +195,7 @@ class Comparison:
     """The reference and what is compared with it. A result is a level's report line, a level's
     record or its lack of one, a map, or an error."""
 
-    def __init__(self, others: Sequence[Auditor]):
+    def __init__(self, others: Sequence[Auditor]) -> None:
         self.reference, self.others = Reference(), others
         self.counts: Dict[str, int] = Counter()
 

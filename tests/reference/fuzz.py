@@ -24,6 +24,7 @@ from tests.reference.reducing import keep, reduced
 Found = Optional[Tuple[List[Case], Pair, str]]  # cases that differ, their texts, the difference
 BATCH = 100  # cases in a collection
 TORN = 10  # torn texts of a few of these cases
+INTERRUPT = "interrupt"
 
 
 def batches(rng: random.Random, count: int) -> Iterator[Tuple[List[Case], Pair, str]]:
@@ -52,7 +53,7 @@ def run(arguments: argparse.Namespace, comparison: Comparison) -> Tuple[Counts[s
             if time.monotonic() > end:
                 break
     except KeyboardInterrupt:
-        pass
+        kinds[INTERRUPT] += 1
     return kinds, None
 
 
@@ -75,7 +76,8 @@ def options(words: Sequence[str]) -> argparse.Namespace:
 
 
 def main(words: Sequence[str]) -> int:
-    """Prints what was compared, and the first difference; the status is 1 if there is one."""
+    """Prints what was compared, and the first difference. The status is 1 if there is one, and 2 if
+    nothing was compared or an interrupt ended the run."""
     arguments = options(words)
     began = time.monotonic()
     with Program(arguments.program) as program:
@@ -90,7 +92,7 @@ def main(words: Sequence[str]) -> int:
         print("seed %d: %d results compared in %.0f s: %s" % (
             arguments.seed, sum(comparison.counts.values()), time.monotonic() - began, said))
         if not found:
-            return 0
+            return 0 if comparison.counts and not kinds[INTERRUPT] else 2
         cases, pair, difference = found
         print("found after %d cases: %s" % (sum(kinds.values()), difference))
         print(keep(arguments, reduced(cases, pair, comparison), comparison))

@@ -1,8 +1,15 @@
-"""Parts of the comparison with the reference: the samples, and random cases."""
-import glob
+"""Parts of the comparison with the reference: the samples, what hinders a run, and random cases.
 
+tests/run reference.parts: all but the last, which need no program. Ends in 'N passed, M failed'.
+"""
+import glob
+import unittest.mock
+
+from tests.inputs import LEVELS
 from tests.reference import fuzz
-from tests.runner import TOP, Cases, read, run
+from tests.reference.comparing import Comparison
+from tests.runner import TOP, Cases, enter_folder, read, run, write
+from tests.tables.rows import text
 
 # files with expected output, and the words: {0} is the name without its end, {1} and {2} its parts
 PRINTED = (
@@ -11,6 +18,40 @@ PRINTED = (
     ("samples/*.map", "dead {1}.xsb {2}"),
     ("tests/samples/*.error", "audit {0}.xsb {0}.answers"),
 )
+# what hinders a run, by docs/formats.md: a command of bash, and what it prints on both streams
+ONE = "level 1 missing\ntotal 1 solved 0 unsolvable 0 refused 0 missing 1\nstatus 1\n"
+HINDERED = {
+    '"$0" audit - answers <levels': ONE,
+    '"$0" audit levels - <answers': ONE,
+    '"$0" audit - - <levels': "cannot read answers\nstatus 2\n",
+    '"$0" audit none none': "cannot read levels\nstatus 2\n",
+    '"$0" audit levels none': "cannot read answers\nstatus 2\n",
+    '"$0" make .': "cannot read levels\nstatus 2\n",
+    '"$0" make levels >/dev/full': "cannot write\nstatus 2\n",
+    '"$0" make levels 2>&1 >&-': "cannot write\nstatus 2\n",
+    '"$0" make none 2>&-': "status 2\n",
+    '"$0" make most': "sokoban-answers 1\nstatus 0\n",
+    '"$0" make more': "levels too long\nstatus 2\n",
+    'ulimit -v 40000; "$0" make most': "out of memory\nstatus 2\n",
+    '"$0" dead levels 2': "no such level\nstatus 2\n",
+    '"$0" dead levels 10000': "no such level\nstatus 2\n",
+    '"$0" dead levels 10001 2>&1 | grep -c "no such level"': "0\nstatus 1\n",
+    '"$0" dead many 10000': "board player\nstatus 2\n",
+    '"$0" make many | wc -l': "1\nstatus 0\n",
+    '"$0" make too-many': "too many levels\nstatus 2\n",
+}
+
+
+def hindered(cases: Cases) -> None:
+    """A case for each way in which a run of the reference is hindered."""
+    write("levels", text(LEVELS["straight"]))
+    write("answers", "sokoban-answers 1\n")
+    write("most", " " * 33554432)
+    write("more", " " * 33554433)
+    write("many", "#\n\n" * 10000)
+    write("too-many", "#\n\n" * 10001)
+    for command, wanted in HINDERED.items():
+        cases.prints(command, wanted, command, f"{TOP}/reference/sokoaudit")
 
 
 def samples(cases: Cases) -> None:
@@ -24,7 +65,27 @@ def samples(cases: Cases) -> None:
             cases.same(f"the reference: {file}", read(file), printed)
 
 
+def statuses(cases: Cases) -> None:
+    """A case each: a comparison of nothing, and one that an interrupt ends, aren't equal ones."""
+    def interrupted(comparison: Comparison, *_: object, **__: object) -> None:
+        comparison.counts["one"] += 1
+        raise KeyboardInterrupt
+
+    words = ["--seed", "1", "--cases", "0", f"{TOP}/reference/sokoaudit"]
+    cases.holds("a comparison of nothing", fuzz.main(words) == 2)
+    with unittest.mock.patch.object(Comparison, "of", interrupted):
+        words[3] = "1"
+        cases.holds("an interrupted comparison", fuzz.main(words) == 2)
+
+
 def random_cases(cases: Cases, *words: str) -> None:
     """A case: the program and the reference agree on 3,000 random cases."""
     given = ["--seed", "1", "--cases", "3000", "--keep", f"{TOP}/out/fuzz", *words]
     cases.holds("the program and the reference agree", fuzz.main(given) == 0)
+
+
+if __name__ == "__main__":
+    both, _room = Cases("reference"), enter_folder()
+    for part in (samples, hindered, statuses):
+        part(both)
+    both.finish()

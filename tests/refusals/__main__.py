@@ -7,6 +7,7 @@ from tests.runner import Cases, arguments, enter_folder
 
 program, calls = arguments("refusals PROGRAM CALLS")
 cases, _room = Cases("refusals"), enter_folder()
+cases.demands("cc")
 refuse = refusing.library(cases)
 # each call is a part of its own, so that all processors are used to the end
 parts = {f"{sets}, {call}": (refusing.of_call, calls, refuse, sets, call)

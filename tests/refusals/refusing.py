@@ -34,18 +34,19 @@ class Refusals:
         self.counts: Counts = Counter()
         self.variables = {**os.environ, "LD_PRELOAD": refuse, "REFUSE_COUNT": "refused"}
 
-    def row(self, name: str, given: Sequence[str], ample: Came, before: float = inf) -> None:
-        """Runs with each allocation refused in turn, alone and with all after it, until nothing is
-        refused. Each run has to print what is wanted with ample memory, or run out of memory; the
-        last one, and the one with ample memory, may not run out. After the first allocations, as
-        many as are made `before` a call, a run may pass over no refusal: then a call that never
-        runs out of memory allocates nothing."""
+    def row(self, name: str, given: Sequence[str], ample: Came, before: float = inf,
+            first: int = 1) -> None:
+        """Runs with each allocation from the first one on refused in turn, alone and with all after
+        it, until nothing is refused. Each run has to print what is wanted with ample memory, or run
+        out of memory; the last one, and the one with ample memory, may not run out. After the first
+        allocations, as many as are made `before` a call, a run may pass over no refusal: then a
+        call that never runs out of memory allocates nothing."""
         self.cases.holds(f"{name}: ample memory", not self.ending(ample, ample), *ample)
         for all_after in (False, True):
-            number = met = 1
+            number, met = first, 1
             while met:
                 refused = f"{number} {10 ** 9 if all_after else number}"
-                came, (met, _) = self.run(given, REFUSE=refused)
+                came, (met, *_) = self.run(given, REFUSE=refused)
                 ending = self.ending(came, ample) if met else ""
                 if came == ample and (not met or number <= before):
                     ending = "ample"
@@ -54,7 +55,8 @@ class Refusals:
                 number += 1
 
     def run(self, given: Sequence[str], **variables: str) -> Tuple[Came, List[int]]:
-        """What a run prints, and how many allocations were refused and made."""
+        """What a run prints, how many allocations were refused and made, and a number that tells
+        their order."""
         came = run_apart([self.program, *given], env={**self.variables, **variables})
         return came, [*map(int, read("refused").split())]
 
@@ -108,16 +110,19 @@ def call_ending(came: Came, ample: Came) -> str:
 
 def of_call(cases: Cases, program: str, refuse: str, sets: str, call: str) -> Counts:
     """A call that the crate `calls` makes on these sets, on each row for which its values can be
-    made, once for each result. It runs out of memory if an allocation is refused."""
+    made, once for each order of allocations and frees. It runs out of memory if an allocation is
+    refused."""
     runs, done = Refusals(cases, program, refuse, call_ending), set()
     for name, *texts in CALLED:
         given = words(sets, call, *texts)
-        ample = run_apart([program, *given])
-        if call_ending(ample, ample) != "unmade" and ample[0] not in done:
-            done.add(ample[0])
+        ample, (_, _, order) = runs.run(given)
+        if call_ending(ample, ample) != "unmade" and order not in done:
+            done.add(order)
             # the program reads its words, and makes no call of this name
-            _, (_, words_alone) = runs.run(["fuses", "none", *given[2:]])
-            runs.row(f"{call}, {name}", given, ample, words_alone)
+            _, (_, words_alone, _) = runs.run(["fuses", "none", *given[2:]])
+            # how it reads them is tried once
+            first = 1 if len(done) == 1 else words_alone + 1
+            runs.row(f"{call}, {name}", given, ample, words_alone, first)
     cases.holds(f"{call} is made", done)
     is_frugal = calls_in(SETS[sets])[call]
     cases.holds(f"{call} runs out of memory exactly if it allocates",

@@ -1,6 +1,6 @@
-"""tests/run tables PROGRAM: runs each row of the tables in this folder. The fields that aren't
-named below are the files of a new folder, in which the program runs with the row's words; the
-default is an audit. Ends in 'N passed, M failed'."""
+"""tests/run tables PROGRAM [TABLE..]: runs each row of the tables in this folder, or of those that
+are named. The fields that aren't named below are the files of a new folder, in which the program
+runs with the row's words; the default is an audit. Ends in 'N passed, M failed'."""
 import glob
 import os
 from typing import Any, Mapping
@@ -24,9 +24,10 @@ def run_row(cases: Cases, program: str, table: str, row: Mapping[str, Any]) -> N
     cases.same(f"{table}: {row['name']}", wanted, printed + said)
 
 
-(program,) = arguments("tables PROGRAM")
+program, *named = arguments("tables PROGRAM [TABLE..]")
 cases = Cases("tables")
-for table in sorted(os.path.basename(it)[:-6] for it in glob.glob(f"{TOP}/tests/tables/*.table")):
+every = sorted(os.path.basename(it)[:-6] for it in glob.glob(f"{TOP}/tests/tables/*.table"))
+for table in named or every:
     for row in rows(table):
         run_row(cases, program, table, row)
 cases.finish()

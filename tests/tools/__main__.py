@@ -12,8 +12,9 @@ if names:
     tests = loader.loadTestsFromNames([f"tests.tools.{it}" for it in names])
 else:
     tests = loader.discover("tests/tools", top_level_dir=".")
-result = unittest.TextTestRunner(stream=sys.stdout, verbosity=0).run(tests)
 cases = Cases("tools")
+runner = unittest.TextTestRunner(stream=sys.stdout, verbosity=0, failfast=cases.ends_first)
+result = runner.run(tests)
 for test, why in result.skipped:
     cases.skip(str(test), why)
 failed = len(result.failures) + len(result.errors)

@@ -13,7 +13,7 @@ import shutil
 import subprocess
 import tempfile
 import time
-from typing import Any, Dict, List, Optional, Tuple
+from typing import Any, Callable, Dict, List, Optional, Tuple
 
 NAMES = ("chromium", "chromium-browser", "google-chrome")
 PROGRAM = next(filter(None, map(shutil.which, NAMES)), None)
@@ -39,10 +39,11 @@ class Browser:
     errors of the page's script."""
 
     def __init__(self) -> None:
-        self.number, self.loaded, self.is_running = 0, False, False
+        self.number, self.loaded, self.is_traced, self.is_running = 0, False, False, False
         self.session: Optional[str] = None
         self.requests: List[str] = []
         self.errors: List[str] = []
+        self.traced: List[Dict[str, Any]] = []
 
     def start(self) -> None:
         """Starts the browser, if it isn't running."""
@@ -97,7 +98,7 @@ class Browser:
         while True:
             for target in self.call("Target.getTargets")["targetInfos"]:
                 if target["type"] == "page":
-                    return target["targetId"]
+                    return str(target["targetId"])
             time.sleep(.02)
 
     # ---- messages
@@ -126,7 +127,7 @@ class Browser:
                 raise OSError("the browser has gone" if ready else "the browser doesn't answer")
             self.left += data
         raw, self.left = self.left.split(b"\0", 1)
-        message = json.loads(raw)
+        message: Dict[str, Any] = json.loads(raw)
         self._event(message.get("method", ""), message.get("params", {}))
         return message
 
@@ -138,6 +139,10 @@ class Browser:
             self.errors.append(details.get("exception", {}).get("description", details["text"]))
         elif name == "Page.loadEventFired":
             self.loaded = True
+        elif name == "Tracing.dataCollected":
+            self.traced += values["value"]
+        elif name == "Tracing.tracingComplete":
+            self.is_traced = True
 
     # ---- what a user does
 
@@ -190,6 +195,24 @@ class Browser:
         end = time.monotonic() + seconds
         while not self.ask(expression) and time.monotonic() < end:
             time.sleep(.02)
+
+    def longest(self, work: Callable[[], None]) -> float:
+        """Does some work, and returns the longest time in milliseconds for which the page's script
+        didn't answer meanwhile: the processor time of its longest task. So the time that other
+        programs take doesn't count."""
+        self.traced, self.is_traced = [], False
+        self.call("Tracing.start", traceConfig={"includedCategories": ["toplevel"]})
+        work()
+        self.call("Tracing.end")
+        while not self.is_traced:
+            self._message()
+        threads = {(it["pid"], it["tid"]) for it in self.traced
+                   if it["name"] == "thread_name" and it["args"]["name"] == "CrRendererMain"}
+        times: List[float] = [
+            it.get("tdur", 0) for it in self.traced
+            if it["name"].endswith("RunTask") and (it["pid"], it["tid"]) in threads]
+        self.traced = []
+        return float(max(times)) / 1000
 
     def picture(self, name: str) -> None:
         """Writes what the tab shows as a picture, to look at."""

@@ -17,10 +17,12 @@ class Killed(BaseException):
 
 
 class Meanwhile:
-    """Does something at a call of a function, before the function does anything."""
+    """Does something at a call of a function, before the function does anything. If there is no
+    such call in a run that ends, the test fails. With 0 calls nothing is done, and `left` counts
+    the calls down."""
 
-    def __init__(self, name: str, calls: int, act: Callable[[], Any]) -> None:
-        self.left, self.act = calls, act
+    def __init__(self, name: str, calls: int, act: Callable[[], Any] = lambda: None) -> None:
+        self.name, self.left, self.act = name, calls, act
         self.patches = [self.patch(*MOMENTS[name])]
 
     def patch(self, target: Any, name: str) -> Any:
@@ -37,13 +39,16 @@ class Meanwhile:
         if self.left == 0:
             self.act()
 
-    def __enter__(self) -> None:
+    def __enter__(self) -> "Meanwhile":
         for patch in self.patches:
             patch.start()
+        return self
 
-    def __exit__(self, *_: object) -> None:
+    def __exit__(self, kind: object, *_: object) -> None:
         for patch in self.patches:
             patch.stop()
+        if kind is None and self.left > 0:
+            raise AssertionError(f"{self.name} was called {self.left} times too few")
 
 
 class EndsEarly(Meanwhile):

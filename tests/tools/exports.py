@@ -134,7 +134,6 @@ def _boards() -> None:
     reported("a strange top", "#?#####\n" + A[8:])
     reported("a row of other walls", A.replace("#######\n#@", "#######\n%@"))
     reported("numbered rows", "1 #######\n2 #@ $ .#\n3 #######\n")
-    reported("rows in quotes", '"#######"\n"#@ $ .#"\n"#######"\n')
     reported("other walls", f"{A}\nXXXXX\nX@$.X\nXXXXX\n")
     wall = "\u2588"
     reported("blocks", f"{A}\n{wall * 5}\n{wall}@$.{wall}\n{wall * 5}\n")
@@ -150,6 +149,51 @@ def _boards() -> None:
     reported("nothing", "")
     reported("no text", b"PK\3\4\0\0\0\0" + A.encode())
     reported("JSON", '{"levels": [["####", "#@.#"]]}')
+
+
+def _dressed() -> None:
+    """Rows in other texts."""
+    one, two, three = ALPHA.split("\n")
+    for name, text in (
+            ("quotes", f'"{one}"\n"{two}"\n"{three}"\n'),
+            ("Python", f"level = [\n    '{one}',\n    '{two}',\n    '{three}',\n]\n"),
+            ("Python's bytes", f"[b'{one}',\n b'{two}',\n b'{three}']\n"),
+            ("Java", f'String[] m = {{"{one}",\n "{two}",\n "{three}"}};\n'),
+            ("Java, one string", f'String m = "{one}\\n" +\n "{two}\\n" +\n "{three}\\n";\n'),
+            ("C", f'const char *m =\n "{one}\\n"\n "{two}\\n"\n "{three}\\n";\n'),
+            ("C in a line", f'm = "{one}\\n{two}\\n{three}\\n";\n'),
+            ("JSON in a line", f'{{"rows": ["{one}", "{two}", "{three}"]}}\n'),
+            ("JSON in lines", f'[\n "{one}",\n "{two}",\n "{three}"\n]\n'),
+            ("YAML", f"rows:\n  - '{one}'\n  - '{two}'\n  - '{three}'\n"),
+            ("ticks", f"`{one}`\n`{two}`\n`{three}`\n"),
+            ("Org", f"* First\n: {one}\n: {two}\n: {three}\n"),
+            ("fences", f"```{one}\n{two}\n{three}```\n"),
+            ("fence above", f"```{one}\n{two}\n{three}\n```\n"),
+            ("fence below", f"```\n{one}\n{two}\n{three}```\n"),
+            ("SokoSolve", "<Row>#######</Row>\n<Row>#P.X.O#</Row>\n<Row>#######</Row>\n"),
+            ("colours", A.replace("#", "\x1b[1;31m#\x1b[0m")),
+            ("hidden blanks", A.replace("@", "\u200b@"))):
+        right("dressed by " + name, text)
+    right("dressed, two", f'[["{one}",\n "{two}",\n "{three}"],\n' + '["######",\n "#@ $.#",\n '
+          '"######"]]\n', (ALPHA, BETA))
+    right("dressed, solved", f"A\n```{one}\n{two}\n{three}```\nSolution: r\u200bRR\n", s1="rRR")
+    for name, text in (
+            ("a title in the line", f'{{"title": "A", "rows": ["{one}", "{two}", "{three}"]}}\n'),
+            ("letters in the line", f'["{one}", "{two}", "{three}"], rRR\n'),
+            ("a row is missing", f'"{one}"\n"{two}"\n"#@####"\n'),
+            ("a row of another form", f'"{one}"\n\'{two}\'\n"{three}"\n'),
+            ("an illegal level", f'"{one}"\n"{two.replace("@", " ")}"\n"{three}"\n'),
+            ("a row between", f'"{one}"\n{two}\n"{three}"\n'),
+            ("SokoSolve that is open", "<Row>#######</Row>\n<Row>#P.X.O#</Row>\n")):
+        reported("dressed, " + name, text)
+    for name, text in (
+            ("Gnu Robbo", f"[name]\nA\n[last_level]\n1\n[level]\n1\n[size]\n7.3\n[data]\n{A}"),
+            ("xsok", f";WALLS\n.  1 2\n;OBJECTS\n@  0\n$  1\n-  4\n;LEVEL 1\n{A}"),
+            ("Boulder Dash", f"[BDCFF]\n[map]\n{A}"),
+            ("PuzzleScript", f"LEGEND\n. = Floor\nCOLLISIONLAYERS\nFloor\nLEVELS\n{A}"),
+            ("a picture", f"/* XPM */\nstatic char * x[] = {{\n{A}}};\n")):
+        reported("other game: " + name, text)
+    right("xsok's Sokoban", f";WALLS\n.  1 2\n#  0\n\n;OBJECTS\n@  0\n$  1\n;LEVEL 1\n{A}")
 
 
 def _texts() -> None:
@@ -215,5 +259,6 @@ def _slc() -> None:
 
 _solutions()
 _boards()
+_dressed()
 _texts()
 _slc()

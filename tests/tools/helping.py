@@ -7,13 +7,14 @@ import shutil
 import sys
 import tempfile
 import unittest
-from typing import Any, NamedTuple, Tuple, Union
+from typing import Any, Dict, NamedTuple, Tuple, Union
 
 from sokotool.main import main
 
-from tests.runner import TOP, call
+from tests import runner
 
 # the system whose lacks this run has: windows, macos or none
+TOP = runner.TOP
 LACKING = os.environ.get("LACKING", "")
 not_on_windows = unittest.skipIf(LACKING == "windows", "Windows has no such thing")
 is_slow = unittest.skipIf(LACKING, "it takes long or measures time, and asks nothing of the system")
@@ -23,6 +24,16 @@ needs_a_memory_limit = unittest.skipIf(LACKING, "there is no limit of memory")
 PROGRAM = os.path.join(TOP, "crates/sokoaudit/out/sokoaudit")
 SAMPLES = os.path.join(TOP, "samples")
 ONE = "#####\n#@$.#\n#####\n"
+
+
+def plain_variables() -> Dict[str, str]:
+    """Returns the variables of this process, without one by which Python keeps nothing back."""
+    return {name: it for name, it in os.environ.items() if name != "PYTHONUNBUFFERED"}
+
+
+def used() -> float:
+    """Returns the processor seconds of this process, and of those it started that have ended."""
+    return sum(os.times()[:4])
 
 
 class Result(NamedTuple):
@@ -81,12 +92,12 @@ class Case(unittest.TestCase):
 
     def audit(self, levels: str, answers: str) -> bytes:
         """Runs sokoaudit, and returns its report."""
-        return call([PROGRAM, "audit", levels, answers], joined=True).output
+        return runner.call([PROGRAM, "audit", levels, answers], joined=True).output
 
     def convert(self, text: Union[str, bytes], name: str = "mine.txt") -> Converted:
         """Converts one file, and returns the run, the levels' text and the answers' text."""
         self.write(name, text)
-        result = self.tool("convert", "out", name)
+        result = self.tool("convert", "out", name, "--replace")
         if not os.path.exists("out.xsb"):
             return result, None, None
         return result, self.read("out.xsb"), self.read("out.answers")

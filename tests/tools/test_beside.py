@@ -1,9 +1,11 @@
 """The command check beside others: what is typed while it runs, other runs, older files, slips."""
 import os
 import subprocess
+import threading
 import unittest.mock
+from typing import Callable, Dict, Optional
 
-from sokotool import auditor, boards, levels
+from sokotool import auditor, boards, levels, own_files
 from tests.tools.ending import Meanwhile
 from tests.tools.helping import TOP
 from tests.tools.test_check import CORNER, LONG, LOST, Check
@@ -12,11 +14,11 @@ from tests.tools.test_check import CORNER, LONG, LOST, Check
 class Beside(Check):
     """What is typed while a check runs, and other checks beside it."""
 
-    def typed(self, name, text):
+    def typed(self, name: str, text: str) -> Callable[[], None]:
         """Returns a function that types a text at the end of a file."""
         return lambda: self.write(name, self.read(name) + text.encode())
 
-    def test_typed_during_the_search(self):
+    def test_typed_during_the_search(self) -> None:
         """A comment and a solution that were typed then, and what the search found."""
         self.write("a.txt", CORNER + "\n" + LONG.replace("Solution", "No solution"))
         record = "; by me\nlevel 1\nsolution\nRurD\nend\n; a note\n"
@@ -30,11 +32,11 @@ class Beside(Check):
         again = self.tool("check", "mine", "a.txt", "--best", "pushes")
         self.assertEqual((again.status, again.err), (0, ""))
 
-    def test_typed_while_it_reads_and_audits(self):
+    def test_typed_while_it_reads_and_audits(self) -> None:
         self.write("a.txt", CORNER)
         self.check("mine", "a.txt")
-        for moment in ("audit", "progress", "write"):
-            for calls in (1, 2, 3):
+        for moment, most in (("audit", 2), ("progress", 3), ("write", 3)):
+            for calls in range(1, most + 1):
                 self.write("a.txt", self.read("a.txt") + b"\n" + LONG.replace(
                     "@ ", "@" + " " * (calls + 3 * (moment == "audit") + 6 * (
                         moment == "write"))).encode())
@@ -43,7 +45,7 @@ class Beside(Check):
                 self.assertIn("edited by hand: level", result.out.decode())
                 self.assertIn(f"{moment} {calls}\n".encode(), self.read("mine.xsb"))
 
-    def test_file_that_changes_again_and_again(self):
+    def test_file_that_changes_again_and_again(self) -> None:
         """After three rounds the run ends, and all files are whole."""
         self.write("a.txt", CORNER)
         self.check("mine", "a.txt")
@@ -60,14 +62,38 @@ class Beside(Check):
         self.assertEqual(now.pop("mine.xsb").replace(b"typed\n", b""), files.pop("mine.xsb"))
         self.assertEqual(now, files)
 
-    def type_and_audit(self, audit):
+    def test_file_that_changes_again_and_again_has_no_find_lost(self) -> None:
+        """What the search found is in NAME.memory, and the next run has it without a search."""
+        self.write("a.txt", CORNER + "\n" + LONG.replace("Solution", "No solution"))
+        self.check("mine", "a.txt")
+        write, began = own_files.Files.write, threading.Event()
+
+        def typing(files: own_files.Files, written: Dict[str, Optional[bytes]]) -> None:
+            if began.is_set():
+                self.typed("mine.xsb", "typed\n")()
+            write(files, written)
+        with unittest.mock.patch.object(own_files.Files, "write", typing), Meanwhile(
+                "search", 1, began.set):
+            result = self.tool("check", "mine", "a.txt")
+        self.assertEqual(result.status, 2)
+        self.assertEqual(result.err.splitlines()[-1], "check: mine.xsb was changed by somebody "
+                         "else, again and again: the files are as they were, and the next run has "
+                         "what was found")
+        self.write("a.txt", CORNER)  # nor with a run in between that has no place for it
+        self.check("mine", "a.txt")
+        self.write("a.txt", CORNER + "\n" + LONG.replace("Solution", "No solution"))
+        self.check("mine", "a.txt")
+        self.assertEqual(self.report()[-1], "total 2 solved 2 unsolvable 0 refused 0 missing 0")
+        self.assertNotIn(b'"found"', self.read("mine.memory"))
+
+    def type_and_audit(self, audit: Callable[..., bytes]) -> Callable[..., bytes]:
         """Returns an audit that types first."""
-        def typing(*words):
+        def typing(*words: str) -> bytes:
             self.typed("mine.xsb", "typed\n")()
             return audit(*words)
         return typing
 
-    def test_checks_at_once(self):
+    def test_checks_at_once(self) -> None:
         """They wait for each other, and nothing is lost."""
         for number in range(6):
             row = "#@" + " " * number + "$  .#"
@@ -88,7 +114,7 @@ class Beside(Check):
         self.assertEqual(self.report()[-1], "total 6 solved 6 unsolvable 0 refused 0 missing 0")
         self.assertFalse([name for name in os.listdir() if name.startswith(".sokotool")])
 
-    def test_check_that_is_killed_bars_no_other(self):
+    def test_check_that_is_killed_bars_no_other(self) -> None:
         self.write("a.txt", CORNER)
         self.write(".sokotool-mine.lock", "")
         self.assertEqual(self.check("mine", "a.txt").err, "")
@@ -98,7 +124,7 @@ class Beside(Check):
 class Older(Check):
     """Files that are put back or lost."""
 
-    def test_answer_that_was_found_and_lost(self):
+    def test_answer_that_was_found_and_lost(self) -> None:
         """It is searched again, and without a search the summary says so."""
         self.write("a.txt", CORNER)
         self.tool("check", "mine", "a.txt")
@@ -109,10 +135,10 @@ class Older(Check):
                 self.write("mine.answers", text)
             self.assertIn("1 level was searched before, up to 0.1 s each: 1 an answer that is lost",
                           self.lines(self.check("mine", "a.txt")))
-            self.assertIn("level 1: solved", self.tool("check", "mine", "a.txt").err)
+            self.assertIn("level 1: found a solution", self.tool("check", "mine", "a.txt").err)
             self.assertEqual(self.read("mine.answers"), found)
 
-    def test_outcomes_are_in_the_summary(self):
+    def test_outcomes_are_in_the_summary(self) -> None:
         self.write("a.txt", CORNER + "\n" + LOST.replace("#$ .#", "# $.#"))
         self.check("mine", "a.txt")
         memory = self.read("mine.memory")
@@ -124,7 +150,7 @@ class Older(Check):
             "2 levels were searched before, up to 20 s each: 1 stopped, 1 gave up with full tables",
             "1 level was searched before by the solver mine, up to 60 s each: 1 without an answer"])
 
-    def test_older_memory(self):
+    def test_older_memory(self) -> None:
         """It has fewer levels than the collection has now."""
         self.write("a.txt", CORNER)
         self.check("mine", "a.txt")
@@ -136,7 +162,7 @@ class Older(Check):
         self.assertEqual((result.status, result.err), (1, ""))
         self.assertEqual(self.report()[-1], "total 2 solved 1 unsolvable 0 refused 0 missing 1")
 
-    def test_slips_in_the_answers(self):
+    def test_slips_in_the_answers(self) -> None:
         """Each gets a sentence that says what to type, and no file is changed."""
         self.write("a.txt", CORNER + "\n" + LONG)
         self.check("mine", "a.txt")
@@ -157,7 +183,7 @@ class Older(Check):
             self.assertEqual((result.status, result.err), (2, f"check: mine.answers {why}\n"))
             self.assertEqual(files, {name: self.read(name) for name in os.listdir()})
 
-    def test_letters_in_the_wrong_case(self):
+    def test_letters_in_the_wrong_case(self) -> None:
         """They are put right in the answers and in other files, with their lines and comments."""
         self.write("a.txt", CORNER)
         self.check("mine", "a.txt")
@@ -169,23 +195,17 @@ class Older(Check):
         self.write("own", "sokoban-answers 1\nlevel 1\nsolution\nRURD\nend\n")
         self.assertEqual(self.check("other", "a.txt", "--answers", "own").status, 0)
 
-    def test_files_that_convert_wrote(self):
-        """They count as written by check, but for what was typed since."""
+    def test_files_that_convert_wrote(self) -> None:
+        """They count as typed: what the exports lack stays."""
         self.write("a.txt", "A\n" + CORNER + "\nB\n" + LONG)
-        for typed in ("", "typed\n"):
-            self.assertEqual(self.tool("convert", "mine", "a.txt", "--replace").status, 0)
-            self.write("mine.xsb", self.read("mine.xsb") + typed.encode())
-            self.write("mine.answers", self.read("mine.answers") + b"; a comment\n")
-            self.write("b.txt", "A\n" + CORNER)
-            self.check("mine", "b.txt")
-            self.assertEqual(len(self.report()), 3 if typed else 2)
-            self.assertNotIn(b"convert wrote", self.read("mine.answers"))
-            self.assertIn(b"; a comment\n", self.read("mine.answers"))
-            for name in os.listdir():
-                if name.startswith("mine"):
-                    os.remove(name)
+        self.assertEqual(self.tool("convert", "mine", "a.txt").status, 0)
+        self.write("mine.answers", self.read("mine.answers") + b"; a comment\n")
+        self.write("b.txt", "A\n" + CORNER)
+        self.check("mine", "b.txt")
+        self.assertEqual(len(self.report()), 3)
+        self.assertIn(b"; a comment\n", self.read("mine.answers"))
 
-    def test_kept_files(self):
+    def test_kept_files(self) -> None:
         """They never appear empty, and text that is typed there stays."""
         self.write("a.txt", CORNER)
         self.check("mine", "a.txt")

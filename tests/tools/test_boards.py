@@ -4,19 +4,21 @@ import os
 import random
 import time
 import unittest
-from typing import Any, Dict
+from typing import Any, Dict, Hashable, List, Sequence, Set, Tuple
 
 from solve import search
 from sokotool import boards, changes, levels
-from tests.tools.helping import SAMPLES, Case
+from tests.tools.helping import ONE, SAMPLES, Case
 
 MAPS = "/usr/share/games/cavepacker/maps"
 CORNER = "Corner\n######\n#    #\n#@$  #\n#  . #\n######\n"
 # the same board turned right, in a frame
 TURNED = "Turned\n#######\n#######\n## @ ##\n## $ ##\n##.  ##\n##   ##\n#######\n"
+Rows = List[str]
+Cell = Tuple[int, int]
 
 
-def turned(rows, way):
+def turned(rows: Rows, way: int) -> Rows:
     """Returns a picture in one of its eight turns and mirrors."""
     width = max(map(len, rows))
     rows = [row.ljust(width) for row in rows]
@@ -27,7 +29,7 @@ def turned(rows, way):
     return rows
 
 
-def framed(chance, rows):
+def framed(chance: random.Random, rows: Rows) -> Rows:
     """Returns a picture with other outer walls: more of them, and floor beyond."""
     width = max(map(len, rows))
     rows = [row.ljust(width) for row in rows]
@@ -40,13 +42,13 @@ def framed(chance, rows):
     return [row for row in rows if "#" in row]
 
 
-def shape_of(rows):
+def shape_of(rows: Rows) -> Hashable:
     """Returns the cells of a picture that are connected to the player, a box or a goal, moved to
     the corner, and whether the player's part is open."""
     cells = {(x, y): c for y, row in enumerate(rows) for x,
              c in enumerate(row.ljust(max(map(len, rows))))}
 
-    def reached(work):
+    def reached(work: List[Cell]) -> Set[Cell]:
         found = set(work)
         for x, y in work:
             for near in ((x + 1, y), (x - 1, y), (x, y + 1), (x, y - 1)):
@@ -66,7 +68,7 @@ def shape_of(rows):
                               for x, y in kept)
 
 
-def random_rows(chance, loose=.1):
+def random_rows(chance: random.Random, loose: float = .1) -> Rows:
     """Returns a level of a small room with one or two boxes, or at times some loose picture."""
     width, height = chance.randint(2, 5), chance.randint(2, 4)
     cells = [chance.choice("     #") for _ in range(width * height)]
@@ -84,12 +86,12 @@ def random_rows(chance, loose=.1):
     return [row for row in rows if "#" in row]
 
 
-def text_of(pictures):
+def text_of(pictures: Sequence[Rows]) -> str:
     return "\n".join("\n".join(rows) + "\n" for rows in pictures)
 
 
 class Forms(unittest.TestCase):
-    def test_turns(self):
+    def test_turns(self) -> None:
         """A turn takes each cell of a level to the equal cell of the other, and its inverse back.
         """
         chance = random.Random(31)
@@ -108,7 +110,7 @@ class Forms(unittest.TestCase):
                             self.assertEqual(second.rows[down - 1][to - 1], cell)
                 self.assertEqual(turn.inverse().after(turn), boards.Turn(1, 0, 0, 1))
 
-    def test_letters(self):
+    def test_letters(self) -> None:
         for way, words, letters in ((1, "turned right", b"urdlURDL"),
                                     (2, "turned by half", b"rdluRDLU"),
                                     (3, "turned left", b"dlurDLUR"),
@@ -119,7 +121,7 @@ class Forms(unittest.TestCase):
             turn = one.turn_to(other)
             self.assertEqual((turn.words, turn.letters(b"lurdLURD")), (words, letters))
 
-    def test_ten_thousand_in_two_seconds(self):
+    def test_ten_thousand_in_two_seconds(self) -> None:
         chance = random.Random(32)
         found = levels.read(text_of([framed(chance, random_rows(chance))
                                      for _ in range(10000)]).encode())
@@ -129,27 +131,38 @@ class Forms(unittest.TestCase):
 
 
 class Twins(Case):
-    def test_words(self):
+    def test_words(self) -> None:
         self.write("a.xsb", CORNER + "\n" + TURNED)
         self.write("b.xsb", CORNER)
         result = self.tool("twins", "a.xsb", "b.xsb")
         self.assertEqual((result.status, result.out.decode()),
-                         (1, "level 2\ta.xsb:9\tlevel 1\ta.xsb:2\tturned right\n"
-                             "level 1\tb.xsb:2\tlevel 1\ta.xsb:2\tas it is\n"))
+                         (1, "level 2\ta.xsb:9\tlevel 1\ta.xsb:2\tturned right\tTurned\tCorner"
+                             "\t\t\n"
+                             "level 1\tb.xsb:2\tlevel 1\ta.xsb:2\tas it is\tCorner\tCorner\t\t\n"))
         self.assertEqual(self.tool("twins", "b.xsb").status, 0)
 
-    def test_walls_alone_are_no_board(self):
+    def test_walls_alone_are_no_board(self) -> None:
         self.write("a.xsb", "####\n\n####\n\n" + CORNER)
         self.assertEqual((self.tool("twins", "a.xsb").status, self.tool("twins", "a.xsb").out),
                          (0, b""))
 
-    def test_too_large_a_level_is_known_by_its_rows(self):
+    def test_too_large_a_level_is_known_by_its_rows(self) -> None:
         large = "#" * 256 + "\n#@$.#\n#####\n"
         self.write("a.xsb", large + "\n" + large + "\n" + large.replace("@$", "$@"))
         self.assertEqual(self.tool("twins", "a.xsb").out,
-                         b"level 2\ta.xsb:5\tlevel 1\ta.xsb:1\tas it is\n")
+                         b"level 2\ta.xsb:5\tlevel 1\ta.xsb:1\tas it is\t\t\t\t\n")
 
-    def compare(self, pictures):
+    def test_authors(self) -> None:
+        """A level's own author comes first, and then that of its collection."""
+        own, whole = CORNER + "Author: Ann\n", "Set\nAuthor: Bob\n\n" + ONE
+        self.write("a.xsb", own + "\n" + ONE)
+        self.write("b.xsb", whole + "\n" + CORNER + "Autor: Eva\n")
+        found = [line.split("\t")[1:4:2] + line.split("\t")[7:]
+                 for line in self.tool("twins", "a.xsb", "b.xsb").out.decode().splitlines()]
+        self.assertEqual(found, [["b.xsb:4", "a.xsb:9", "Bob", ""],
+                                 ["b.xsb:9", "a.xsb:2", "Eva", "Ann"]])
+
+    def compare(self, pictures: Sequence[Rows]) -> int:
         """Twins finds the same pairs in a file as a comparison of all eight turns."""
         self.write("a.xsb", text_of(pictures))
         first: Dict[Any, Any] = {}
@@ -165,7 +178,7 @@ class Twins(Case):
         self.assertEqual([(int(line[0][6:]), int(line[2][6:])) for line in printed], wanted)
         return len(wanted)
 
-    def test_every_pair_and_no_other(self):
+    def test_every_pair_and_no_other(self) -> None:
         chance = random.Random(33)
         pairs = 0
         for _ in range(10):
@@ -177,7 +190,7 @@ class Twins(Case):
         self.assertGreater(pairs, 200)
 
     @unittest.skipUnless(os.path.isdir(MAPS), "Debian's cavepacker-data isn't installed")
-    def test_maps(self):
+    def test_maps(self) -> None:
         chance = random.Random(34)
         names = sorted(name for name in os.listdir(MAPS) if name.endswith(".sok"))
         self.tool("convert", "maps", *(os.path.join(MAPS, name) for name in names))
@@ -191,7 +204,7 @@ class Twins(Case):
 
 
 class Matches(unittest.TestCase):
-    def test_levels_with_the_same_board_are_matched_by_their_neighbours(self):
+    def test_levels_with_the_same_board_are_matched_by_their_neighbours(self) -> None:
         """A twin that is inserted is the new one, wherever its twins are."""
         drawn = ["#" * (n + 6) + "\n#@" + " " * n + "$ .#\n" + "#" * (n + 6) for n in range(5)]
         was = [0, 1, 2, 0, 3, 0, 4]
@@ -200,13 +213,13 @@ class Matches(unittest.TestCase):
             states = []
             for several in (was, now):
                 found = levels.read("\n\n".join(drawn[it] for it in several).encode())
-                states.append(changes.State(found, boards.forms_of(found), []))
-            kept = {match.new: match.old for match in changes.matches(*states)}
+                states.append(changes.Snapshot(found, boards.forms_of(found), []))
+            kept = {match.new: match.old for match in changes.matches(states[0], states[1])}
             self.assertEqual(kept, {new: new - (new > at) for new in range(8) if new != at}, at)
 
 
 class Carry(Case):
-    def answer(self):
+    def answer(self) -> None:
         """Writes answers to old.xsb: solutions by a plain search, and lists or zones for the other
         levels."""
         records = []
@@ -223,10 +236,10 @@ class Carry(Case):
         self.write("old.answers", self.tool("merge", "zone", "solved", "found").out)
 
     @staticmethod
-    def is_closed(level):
+    def is_closed(level: levels.Level) -> bool:
         return boards.form_of(level).kind == boards.CLOSED
 
-    def test_random_collections(self):
+    def test_random_collections(self) -> None:
         chance = random.Random(35)
         zone = ["#######", "#@ .  #", "#     #", "# $ $.#", "#######"]
         for _ in range(4):
@@ -252,7 +265,7 @@ class Carry(Case):
                 self.assertEqual(line.split(" ", 2)[2], before[place].split(" ", 2)[2],
                                  "\n".join(old[place]))
 
-    def test_cells_that_do_not_count(self):
+    def test_cells_that_do_not_count(self) -> None:
         """Cells outside the room are left out, since they may be walls on the new board."""
         self.write("old.xsb", "#########\n#$ .# ###\n# @ #   #\n#########\n")
         self.write("new.xsb", "#####\n#$ .#\n# @ #\n#####\n")
@@ -264,7 +277,7 @@ class Carry(Case):
         self.assertEqual(result.out.decode(),
                          "sokoban-answers 1\nlevel 1\nunsolvable\n; mine\npattern 2,2 @ 3,2\nend\n")
 
-    def test_what_is_reported(self):
+    def test_what_is_reported(self) -> None:
         self.write("old.xsb", CORNER + "\n" + TURNED + "\n#####\n#@$.#\n#####\n")
         self.write("new.xsb", TURNED)
         self.write("old.answers",
@@ -284,7 +297,7 @@ class Carry(Case):
                          "; by hand\nlevel 1\nsolution\nDr\n; then\ndL\nend\n; by hand\nlevel 2\n"
                          "solution\nRu\n; then\nrD\nend\n")
 
-    def test_refused_records_stay(self):
+    def test_refused_records_stay(self) -> None:
         """Lines that aren't of the grammar stay as they are."""
         os.symlink(SAMPLES, "samples")
         result = self.tool("carry", "samples/every.xsb", "samples/every.answers",

@@ -2,6 +2,7 @@
 import os
 import shutil
 
+from tests.tools.helping import Result
 from tests.tools.test_check import Check
 
 # Two steps to the right push the box to the far goal, and a walk around it to the near one.
@@ -14,15 +15,15 @@ BOTH = b"sokoban-answers 1\nlevel 1\nsolution\nurrrdL\nend\n"
 
 
 class Both(Check):
-    def setUp(self):
+    def setUp(self) -> None:
         super().setUp()
         self.write("a.sok", EXPORT)
 
-    def both(self, *words: str):
+    def both(self, *words: str) -> Result:
         """Keeps both of the best, without a search."""
         return self.check("mine", *words, "--best", "both")
 
-    def test_each_in_its_file(self):
+    def test_each_in_its_file(self) -> None:
         result = self.both("a.sok")
         self.assertEqual(self.lines(result), [
             "mine: 2 levels, 2 solved, 0 unsolvable, 0 refused, 0 missing",
@@ -32,7 +33,7 @@ class Both(Check):
         self.assertEqual(self.audit("mine.xsb", "mine.other.answers").splitlines()[0],
                          b"level 1 solved moves 6 pushes 1 changes 1")
 
-    def test_both_stay_without_the_option(self):
+    def test_both_stay_without_the_option(self) -> None:
         """They stay if levels move or the exports are away, and go if one is asked for."""
         self.both("a.sok")
         os.remove("a.sok")
@@ -48,7 +49,7 @@ class Both(Check):
         self.assertEqual(self.report()[1], "level 2 solved moves 3 pushes 2 changes 1")
         self.assertEqual(self.read("mine.other.answers"), BOTH.replace(b"level 1", b"level 2"))
 
-    def test_what_is_typed_there_stays(self):
+    def test_what_is_typed_there_stays(self) -> None:
         """A better one with a comment takes the place, and a worse or refused one is kept apart."""
         self.both("a.sok")
         self.write("mine.other.answers", "sokoban-answers 1\n; mine\nlevel 1\nsolution\nlrurrrdL\n"
@@ -58,14 +59,14 @@ class Both(Check):
         for text in (b"; mine\n", b"lrurrrdL\n", b"; wrong\n", b"rrrr\n"):
             self.assertIn(text, self.read("mine.kept.answers"), result)
 
-    def test_letters_that_do_not_solve_are_not_there(self):
+    def test_letters_that_do_not_solve_are_not_there(self) -> None:
         self.write("a.sok", EXPORT.replace(PUSHES, "urrrdR"))
         result = self.both("a.sok")
         self.assertEqual(self.read("mine.other.answers"), b"sokoban-answers 1\n")
         self.assertIn("problem: a.sok line 12: the solution of level 1 leaves 1 box",
                       result.out.decode())
 
-    def test_solutions_from_lists_and_friends(self):
+    def test_solutions_from_lists_and_friends(self) -> None:
         """Both may come from files without levels, and from another collection."""
         self.both("a.sok")
         os.mkdir("friend")
@@ -80,7 +81,7 @@ class Both(Check):
         self.assertEqual(self.read("listed.other.answers"), BOTH)
         self.assertIn(b"rRR", self.read("listed.answers"))
 
-    def test_export_gives_both(self):
+    def test_export_gives_both(self) -> None:
         """In the forms that programs write, from which check reads both again."""
         self.both("a.sok")
         for form, heads in (("sok", ["Solution/Moves\nrRR", "Solution/Pushes\nurrrdL"]),

@@ -1,17 +1,19 @@
 """The command check: the whole job, what it takes over from the last run, and what it reports as
 changed."""
 import os
+import random
 import re
 import shutil
 import subprocess
-import time
+import sys
 import unittest
 import unittest.mock
+from typing import Any, Callable, Iterator, List
 
 from sokotool import auditor, boards, levels, outcomes, searches
 from tests.tools import helping
 from tests.tools.ending import EndsEarly, Killed
-from tests.tools.helping import ONE, SAMPLES, TOP, Case
+from tests.tools.helping import ONE, SAMPLES, TOP, Case, Result, is_slow, used
 
 MAPS = "/usr/share/games/cavepacker/maps"
 CORNER = "Corner\n######\n#    #\n#@$  #\n#  . #\n######\n"
@@ -22,26 +24,27 @@ LONG = "Title: Long\n########\n#@ $  .#\n########\nSolution: rRRR\n"
 class Check(Case):
     maxDiff = None
 
-    def setUp(self):
+    def setUp(self) -> None:
         super().setUp()
         patch = unittest.mock.patch.dict(os.environ, SOKOAUDIT=helping.PROGRAM)
         patch.start()
         self.addCleanup(patch.stop)
 
-    def check(self, *words, given=b""):
+    def check(self, *words: str, given: bytes = b"") -> Result:
         """Runs check without a search."""
         return self.tool("check", *words, "--seconds", "0", given=given)
 
-    def lines(self, result):
-        """Returns the summary without the note of the reference."""
-        return [line for line in result.out.decode().splitlines() if line != auditor.REFERENCE_NOTE]
+    def lines(self, result: Result) -> List[str]:
+        """Returns the summary without the note of the reference and the files that were written."""
+        return [line for line in result.out.decode().splitlines()
+                if line != auditor.REFERENCE_NOTE and not line.startswith("wrote: ")]
 
-    def report(self, name="mine"):
+    def report(self, name: str = "mine") -> List[str]:
         """The lines of a report."""
         return [line for line in self.read(f"{name}.report").decode().splitlines()
                 if not line.startswith(";")]
 
-    def exports(self):
+    def exports(self) -> List[str]:
         """Copies the exports without the two faults that tear levels, and writes answers to two
         levels of the editor."""
         if not os.path.exists("exports"):
@@ -52,7 +55,7 @@ class Check(Case):
                        "level 2\nsolution\ndrU ldlluR drU\nend\n")
         return sorted(os.path.join("exports", name) for name in os.listdir("exports"))
 
-    def change_exports(self):
+    def change_exports(self) -> None:
         """One level is inserted before all, one turned, one mended, and the last removed."""
         self.write("exports/a.txt", LONG)
         editor = self.read("exports/editor.slc").decode()
@@ -67,7 +70,7 @@ class Check(Case):
 
 
 class Whole(Check):
-    def test_exports_as_they_are(self):
+    def test_exports_as_they_are(self) -> None:
         shutil.copytree(os.path.join(SAMPLES, "exports"), "exports")
         result = self.tool("check", "mine", *(os.path.join("exports", name)
                                               for name in sorted(os.listdir("exports"))))
@@ -76,17 +79,19 @@ class Whole(Check):
         self.assertEqual(lines[0], "mine: 13 levels, 8 solved, 1 unsolvable, 4 refused, 0 missing")
         self.assertIn("problem: exports/player.sok line 24: the solution of level 12 cannot be "
                       "played: move 2 (u) wall", lines)
-        self.assertIn("no answer: level 3 refused board player\tline", " ".join(lines))
+        self.assertIn("no answer: exports/forum.txt line 3: level 3 refused board player: The "
+                      "level doesn't have exactly one player, @ or +. It has 0 players.\t"
+                      "A friend's level, copied from a page", lines)
         self.assertLess(len(lines), 24)
-        self.assertEqual([line for line in result.err.splitlines() if ": solved" in line],
-                         [f"check: level {level}: solved ({done} of 3 done, {done} found)"
+        self.assertEqual([line for line in result.err.splitlines() if ": found" in line],
+                         [f"check: level {level}: found a solution ({done} of 3 done, {done} found)"
                           for done, level in enumerate((1, 2, 12), 1)])
 
-    def test_two_times_and_then_changes(self):
+    def test_two_times_and_then_changes(self) -> None:
         first = self.check("mine", *self.exports(), "--answers", "hand")
         left = ("problem: exports/player.sok line 24: the solution of level 10 cannot be played: "
                 "move 2 (u) wall")
-        rest = [left, "no answer: level 10 missing\tline 58\tA letter too many"]
+        rest = [left, "no answer: exports/player.sok line 18: level 10 missing\tA letter too many"]
         self.assertEqual(first.status, 1)
         self.assertEqual(self.lines(first),
                          ["mine: 11 levels, 9 solved, 1 unsolvable, 0 refused, 1 missing", *rest])
@@ -118,7 +123,7 @@ class Whole(Check):
         self.assertIn(b"; Corner turn\nlevel 2\nsolution\nLdlU\nend\n", self.read("mine.answers"))
         self.assertEqual(self.check("mine", *self.exports()).status, 0)
 
-    def test_answers_by_the_numbers_that_levels_had_or_have(self):
+    def test_answers_by_the_numbers_that_levels_had_or_have(self) -> None:
         """The same file of answers can be named again after its levels moved."""
         self.check("mine", *self.exports(), "--answers", "hand")
         self.change_exports()
@@ -132,7 +137,18 @@ class Whole(Check):
             "problem: hand line 6: no level has the board of this record"])
         self.assertEqual(result.status, 1)
 
-    def test_mended_board_keeps_its_answer_if_that_still_solves_it(self):
+    def test_equal_answers_of_a_level_that_is_away(self) -> None:
+        """The answer goes to the level that has the board, so there is no problem."""
+        self.write("a.txt", ONE + "\n" + ONE)
+        self.check("mine", "a.txt")
+        self.write("a.txt", ONE)
+        self.write("hand", "sokoban-answers 1\n" + "".join(
+            f"level {number}\nsolution\nR\nend\n" for number in (1, 2)))
+        result = self.check("mine", "a.txt", "--answers", "hand")
+        self.assertNotIn("problem: hand", result.out.decode())
+        self.assertEqual(result.status, 0)
+
+    def test_mended_board_keeps_its_answer_if_that_still_solves_it(self) -> None:
         self.write("a.txt", CORNER + "\n" + LOST)
         self.write("hand", "sokoban-answers 1\nlevel 1\nsolution\nRurD\nend\n")
         self.assertEqual(self.check("mine", "a.txt", "--answers", "hand").status, 0)
@@ -149,7 +165,7 @@ class Whole(Check):
         self.assertIn("kept in mine.kept.xsb: 1 answer of levels that are away",
                       self.lines(result))
 
-    def test_best_of_several(self):
+    def test_best_of_several(self) -> None:
         """Of several solutions the one with the fewest moves or pushes is kept, whichever file it
         is from."""
         self.write("a.txt",
@@ -172,27 +188,27 @@ class Whole(Check):
                       "moves 14 pushes 3 changes 3)"[:16],
                       " ".join(self.lines(self.check("first", "a.txt", "--answers", "other"))))
 
-    def test_certificate_that_is_refused_gives_way(self):
+    def test_certificate_that_is_refused_gives_way(self) -> None:
         self.write("a.txt", LOST)
         self.write("wrong", "sokoban-answers 1\nlevel 1\nunsolvable\npattern 3,3 @ *\nend\n")
         result = self.check("mine", "a.txt", "--answers", "wrong")
         self.assertEqual((result.status, self.report()[0]), (1, "level 1 unsolvable patterns 4"))
         self.assertIn("problem: wrong line 2: refused for level 1: start", self.lines(result))
 
-    def test_search(self):
+    def test_search(self) -> None:
         """Levels that make leaves are searched, with a line for each, and not once more after a
         certificate was found."""
         with open(os.path.join(SAMPLES, "deadlocks.xsb"), "rb") as file:
             self.write("a.txt", file.read())
         result = self.tool("check", "mine", "a.txt", "--jobs", "2")
         said = ["check: 3 levels to search, at most 10 s each, 60 s in all"]
-        said += [f"check: level {level}: found ({done} of 3 done, {done} found)"
+        said += [f"check: level {level}: found a certificate ({done} of 3 done, {done} found)"
                  for done, level in enumerate((4, 5, 6), 1)]
         self.assertEqual((result.status, result.err.splitlines()), (0, said))
         again = self.tool("check", "mine", "a.txt")
         self.assertEqual((again.status, again.err), (0, ""))
 
-    def test_many_problems_are_all_on_standard_error(self):
+    def test_many_problems_are_all_on_standard_error(self) -> None:
         self.write("a.txt", CORNER + "Solution: d\n" * 12)
         result = self.check("mine", "a.txt")
         problems = [f"a.txt line {line}: the solution of level 1 leaves 1 box off the goals"
@@ -202,12 +218,12 @@ class Whole(Check):
                          [f"problem: {problem}" for problem in problems[:7]] +
                          ["problem: and 5 more"])
 
-    def test_twins_are_named(self):
+    def test_twins_are_named(self) -> None:
         self.write("a.txt", CORNER + "\n" + CORNER.replace("Corner", "Again"))
         self.assertIn("twins: level 2 is level 1, as it is",
                       self.lines(self.check("mine", "a.txt")))
 
-    def test_summary_fits_a_screen(self):
+    def test_summary_fits_a_screen(self) -> None:
         """Whatever happens, the summary has at most 24 lines."""
         boards = [CORNER.replace("#@$  #", "#@$  #\n#" +
                                  format(number, "04b").translate({48: "_", 49: "#"}) + "#")
@@ -221,15 +237,15 @@ class Whole(Check):
 class Time(Check):
     """The search: what is said at its start, what it is given, and what is remembered of it."""
 
-    def setUp(self):
+    def setUp(self) -> None:
         super().setUp()
         with open(os.path.join(SAMPLES, "deadlocks.xsb"), "rb") as file:
             self.write("a.txt", file.read())
 
-    def test_files_are_written_before_the_search_and_after_it(self):
+    def test_files_are_written_before_the_search_and_after_it(self) -> None:
         seen = []
 
-        def results(_self, _watch):
+        def results(_self: searches.Searches, _watch: Callable[[], None]) -> Iterator[Any]:
             seen.extend(self.report())
             yield from ()
         with unittest.mock.patch.object(searches.Searches, "results", results):
@@ -240,14 +256,14 @@ class Time(Check):
         self.assertEqual((result.status, self.report()[-1]),
                          (0, "total 6 solved 0 unsolvable 6 refused 0 missing 0"))
 
-    def test_interrupt_ends_the_search_and_the_files_are_written(self):
+    def test_interrupt_ends_the_search_and_the_files_are_written(self) -> None:
         real = searches.Searches.results
 
-        def results(of, watch):
-            for number, result in enumerate(real(of, watch)):
-                if number:
-                    raise KeyboardInterrupt
+        def results(of: searches.Searches, watch: Callable[[], None]) -> Iterator[Any]:
+            for result in real(of, watch):
                 yield result
+                if result.record:
+                    raise KeyboardInterrupt
         with unittest.mock.patch.object(searches.Searches, "results", results):
             result = self.tool("check", "mine", "a.txt", "--jobs", "1")
         self.assertEqual((result.status, self.report()[-1]),
@@ -255,7 +271,7 @@ class Time(Check):
         self.assertEqual(self.lines(result)[0],
                          "mine: 6 levels, 0 solved, 4 unsolvable, 0 refused, 2 missing")
 
-    def test_second_interrupt_ends_the_run(self):
+    def test_second_interrupt_ends_the_run(self) -> None:
         patches = [unittest.mock.patch.object(searches.Searches, "results",
                                               side_effect=KeyboardInterrupt),
                    unittest.mock.patch.object(searches.Searches, "rest",
@@ -264,7 +280,7 @@ class Time(Check):
             self.assertEqual(self.tool("check", "mine", "a.txt").status, 130)
         self.assertEqual(self.report()[-1], "total 6 solved 0 unsolvable 3 refused 0 missing 3")
 
-    def test_budget_of_the_whole_run(self):
+    def test_budget_of_the_whole_run(self) -> None:
         """The budget ends the search, and the next run goes on."""
         self.write("a.txt", CORNER + "\n" + CORNER.replace("#    #", "##   #", 1))
         result = self.tool("check", "mine", "a.txt", "--search", "0.000001")
@@ -272,12 +288,12 @@ class Time(Check):
                                      "all\ncheck: 2 levels left: the next run goes on with them\n")
         self.assertEqual(self.tool("check", "mine", "a.txt", "--search", "0").err, "")
         result = self.tool("check", "mine", "a.txt")
-        self.assertIn("level 2: solved (2 of 2 done, 2 found)", result.err)
+        self.assertIn("level 2: found a solution (2 of 2 done, 2 found)", result.err)
         again = self.tool("check", "mine", "a.txt", "--seconds", "20")
         self.assertEqual((again.err, self.lines(again)[-1]),
                          ("", "nothing changed since the last time"))
 
-    def test_levels_are_searched_again_only_with_more_time(self):
+    def test_levels_are_searched_again_only_with_more_time(self) -> None:
         forms = boards.forms_of(levels.read(self.read("a.txt")))
         kept = outcomes.Outcomes({})
         self.assertEqual(kept.due(forms, "find", 10), forms)
@@ -290,7 +306,7 @@ class Time(Check):
         kept.keep(forms[0], "find", "late", 2)
         self.assertEqual(outcomes.Outcomes(kept.kept).of(forms[0], "find"), ("late", 9))
 
-    def test_name_that_cannot_be_written_is_noticed_first(self):
+    def test_name_that_cannot_be_written_is_noticed_first(self) -> None:
         os.mkdir("folder.report")
         with unittest.mock.patch.object(auditor.Auditor, "run", side_effect=AssertionError):
             for name, why in (("nodir/x", "nodir/x.xsb: No such file or directory"),
@@ -302,7 +318,7 @@ class Time(Check):
 class Typed(Check):
     """What a keeper typed stays."""
 
-    def test_answer_of_a_level_that_is_away_for_one_run(self):
+    def test_answer_of_a_level_that_is_away_for_one_run(self) -> None:
         self.write("a.txt", LOST)
         self.write("b.txt", CORNER)
         self.write("own", "sokoban-answers 1\n; by hand\nlevel 2\nsolution\nRurD\nend\n")
@@ -319,7 +335,7 @@ class Typed(Check):
         self.assertIn(b"; by hand\nlevel 2\nsolution\nRurD\nend\n", self.read("mine.answers"))
         self.assertFalse(os.path.exists("mine.kept.xsb"))
 
-    def test_refused_record_stays_until_another_is_accepted(self):
+    def test_refused_record_stays_until_another_is_accepted(self) -> None:
         self.write("a.txt", CORNER)
         self.check("mine", "a.txt")
         record = b"; a draft\nlevel 1\nsolution\nRur\nend\n"
@@ -327,7 +343,8 @@ class Typed(Check):
         for _ in range(2):
             result = self.check("mine", "a.txt")
             self.assertEqual(result.status, 1)
-            self.assertIn("no answer: level 1 refused unsolved 1\tline", result.out.decode())
+            self.assertIn("no answer: a.txt line 2: level 1 refused unsolved 1: The letters end "
+                          "with boxes off the goals.\tCorner\n", result.out.decode())
             self.assertIn(record, self.read("mine.answers"))
         self.write("a.txt", CORNER + "Solution: RurD\n")
         result = self.check("mine", "a.txt")
@@ -336,7 +353,7 @@ class Typed(Check):
                       self.lines(result))
         self.assertIn(record, self.read("mine.kept.answers"))
 
-    def test_answer_that_was_computed_goes_for_a_better_one(self):
+    def test_answer_that_was_computed_goes_for_a_better_one(self) -> None:
         self.write("a.txt", CORNER)
         self.tool("check", "mine", "a.txt")
         self.assertEqual(self.report()[0][:14], "level 1 solved")
@@ -349,7 +366,7 @@ class Typed(Check):
                          (0, "level 2 solved moves 4 pushes 2 changes 1"))
         self.assertFalse(os.path.exists("mine.kept.xsb"))
 
-    def test_report_names_the_line_of_a_refused_certificate(self):
+    def test_report_names_the_line_of_a_refused_certificate(self) -> None:
         """The line is the one in NAME.answers as it is after the check, with its comments."""
         self.write("a.txt", LOST)
         self.check("mine", "a.txt")
@@ -361,10 +378,10 @@ class Typed(Check):
         lines = self.read("mine.answers").splitlines()
         number = lines.index(b"pattern 3,3 @ 2,3") + 1
         self.assertRegex(self.report()[0], f"level 1 refused line {number} ")
-        self.assertIn(f"no answer: level 1 refused line {number} ", result.out.decode())
+        self.assertIn(f": level 1 refused line {number} ", result.out.decode())
         self.assertLess(lines.index(b"; a heading"), lines.index(b"; a draft"))
 
-    def test_titles_and_texts(self):
+    def test_titles_and_texts(self) -> None:
         """They win over the exports, are reported once, and go with their level."""
         self.write("a.txt", "A\n" + LOST + "\nB\n" + CORNER)
         self.check("mine", "a.txt")
@@ -386,7 +403,7 @@ class Typed(Check):
         self.assertIn(b"Better B\nCorner\n######\n", self.read("mine.xsb"))
         self.assertNotIn(b"Better B", self.read("mine.kept.xsb"))
 
-    def test_order_of_the_levels(self):
+    def test_order_of_the_levels(self) -> None:
         """An order that the keeper chose stays, and a new level comes after the one that it follows
         in the exports."""
         boards_in_order = [LOST, CORNER, ONE]
@@ -405,7 +422,7 @@ class Typed(Check):
         self.assertEqual(self.report()[1], "level 2 solved moves 4 pushes 2 changes 1")
         self.assertIn("inserted: level 4", self.lines(result))
 
-    def test_level_that_is_typed_into_the_file(self):
+    def test_level_that_is_typed_into_the_file(self) -> None:
         self.write("a.txt", CORNER)
         self.check("mine", "a.txt")
         self.write("mine.xsb", self.read("mine.xsb") + b"\n" + LOST.encode())
@@ -414,7 +431,7 @@ class Typed(Check):
             self.assertEqual(self.report()[1], "level 2 unsolvable patterns 4")
         self.assertIn("nothing changed since the last time", self.lines(result))
 
-    def test_comments_between_and_in_records(self):
+    def test_comments_between_and_in_records(self) -> None:
         self.write("a.txt", CORNER + "\n" + LONG)
         self.check("mine", "a.txt")
         text = ("sokoban-answers 1\n; a heading\n\n; of one\nlevel 1\n; in it\nsolution\nRurD\n\n"
@@ -428,7 +445,7 @@ class Typed(Check):
         self.assertIn(b"; a heading\n\n\n; the second part\n\nlevel 1\n",
                       self.read("mine.answers"))
 
-    def test_write_that_is_cut_off_is_ended_by_the_next_run(self):
+    def test_write_that_is_cut_off_is_ended_by_the_next_run(self) -> None:
         self.write("a.txt", CORNER)
         self.check("mine", "a.txt")
         files = {name: self.read(name) for name in os.listdir() if name.startswith("mine")}
@@ -452,22 +469,53 @@ class Typed(Check):
 
 
 class Files(Check):
-    def test_inputs_are_not_written_over(self):
+    def test_inputs_are_not_written_over(self) -> None:
         self.write("mine.xsb", CORNER)
         os.symlink("mine.xsb", "link")
         for name in ("mine.xsb", "link", "./mine.xsb"):
             result = self.check("mine", name)
             self.assertEqual((result.status, result.out, result.err),
-                             (2, b"", f"check: would write over {name}\n"))
+                             (2, b"", f"check: would write over {name}: choose another NAME, "
+                              "such as checked\n"))
 
-    def test_nothing_is_written_on_errors(self):
+    def test_first_words_that_are_natural(self) -> None:
+        """They name no collection, or not its exports, and the message says what to type."""
+        self.write("first.xsb", CORNER)
+        self.write("first.answers", "sokoban-answers 1\n")
+        os.mkdir("Mein Ordner")
+        self.write("Mein Ordner/a.txt", CORNER)
+        here = sorted(os.listdir())
+        is_name = "check: the first word is the NAME of a collection, and "
+        for words, said in (
+                (("first", "first.xsb"),
+                 "check: would write over first.xsb: choose another NAME, such as checked\n"),
+                (("first.xsb", "first.answers"), is_name + "first.xsb is a file that is there\n"),
+                (("neu.xsb", "Mein Ordner"),
+                 is_name + "neu.xsb has an end: type it without .xsb\n"),
+                (("Mein Ordner",), "check: no EXPORT is named: first comes a new NAME for the "
+                                   "collection, as in 'sokotool check mine Mein Ordner'\n"),
+                (("x", "Mein", "Ordner"),
+                 "check: cannot read Mein: No such file or directory\n"
+                 "check: cannot read Ordner: No such file or directory\n"
+                 "check: these files have no level; put a name with blanks into quotes: "
+                 "'Mein Ordner'\n")):
+            result = self.tool("check", *words)
+            self.assertEqual((result.status, result.out), (2, b""), words)
+            self.assertEqual(result.err, said)
+        for option in ("--seconds", "--search"):
+            for number in ("-1", "nan", "x"):
+                self.assertEqual(self.tool("check", "x", "first.xsb", option, number).status, 2)
+        self.assertEqual(sorted(os.listdir()), here)
+
+    def test_nothing_is_written_on_errors(self) -> None:
         self.write("a.txt", CORNER)
         self.write("empty", "no rows\n")
         self.write("bad", "sokoban-answers 1\nlevel 1\n")
         self.check("mine", "a.txt")
         files = {name: self.read(name) for name in os.listdir()}
         for words, why in ((["empty"],
-                            "these files have no level\n  empty line 1: no level in this file"),
+                            "empty line 1: no level in this file\n"
+                            "check: these files have no level"),
                            (["a.txt", "--answers", "bad"],
                             "bad line 3: the last record lacks its last line, 'end'"),
                            (["gone"], "cannot read gone")):
@@ -482,7 +530,7 @@ class Files(Check):
         self.assertIn("mine.answers is there, but not its levels", self.check("mine", "a.txt").err)
         self.assertEqual(self.read("mine.answers"), b"by hand\n")
 
-    def test_answers_written_by_hand_into_the_file_stay(self):
+    def test_answers_written_by_hand_into_the_file_stay(self) -> None:
         """Records that are added to NAME.answers, and a report that is missing."""
         self.write("a.txt", CORNER)
         self.check("mine", "a.txt")
@@ -495,13 +543,13 @@ class Files(Check):
                          ["nothing changed since the last time"])
         self.assertTrue(os.path.exists("mine.report"))
 
-    def test_levels_on_standard_input(self):
+    def test_levels_on_standard_input(self) -> None:
         result = self.check("mine", "-", given=LOST.encode())
         self.assertEqual((result.status, self.report()[0]), (0, "level 1 unsolvable patterns 4"))
 
 
 class Screen(Check):
-    def test_terminal(self):
+    def test_terminal(self) -> None:
         """On a terminal a status line is replaced, and the summary stays."""
         if not shutil.which("script"):
             self.skipTest("there is no command script here")
@@ -511,21 +559,54 @@ class Screen(Check):
                        stdin=subprocess.DEVNULL)
         said = self.read("said").decode()
         self.assertIn(" \rcheck: auditing", said)
-        self.assertIn(" \rcheck: level 1: solved (1 of 1 done, 1 found)\r\n", said)
+        self.assertIn(" \rcheck: level 1: found a solution (1 of 1 done, 1 found)\r\n", said)
         self.assertIn("mine: 1 levels, 1 solved, 0 unsolvable, 0 refused, 0 missing\r\n", said)
+
+
+@is_slow
+class Unchanged(Check):
+    @is_slow
+    def test_a_run_that_changes_nothing_takes_no_longer_than_the_first(self) -> None:
+        """The least processor time of several runs: a busy machine makes some seem longer."""
+        chance, text = random.Random(7), ""
+        for number in range(400):
+            width, height = chance.randint(10, 18), chance.randint(7, 11)
+            rows = [[*"#" * width], *([*"#" + " " * (width - 2) + "#"] for _ in range(height - 2)),
+                    [*"#" * width]]
+            hall, end = chance.randint(1, height - 2), chance.randint(4, width - 2)
+            for _ in range(9):
+                row = chance.choice([row for row in range(1, height - 1) if row != hall])
+                rows[row][chance.randint(1, width - 2)] = "#"
+            rows[hall][1:3] = "@$"
+            rows[hall][end] = "."
+            text += "\n".join("".join(row) for row in rows)
+            text += f"\nTitle: {number}\nSolution: {'R' * (end - 2)}\n\n"
+        self.write("a.txt", text)
+        times: List[List[float]] = [[], []]
+        for _ in range(4):
+            for name in [name for name in os.listdir() if name.startswith("mine")]:
+                os.remove(name)
+            for spent in times:
+                began = used()
+                done = subprocess.run([sys.executable, os.path.join(TOP, "sokotool"), "check",
+                                       "mine", "a.txt", "--seconds", "0"],
+                                      stdout=subprocess.DEVNULL, check=False)
+                spent.append(used() - began)
+                self.assertEqual(done.returncode, 0)
+        self.assertLess(min(times[1]), 1.2 * min(times[0]), times)
 
 
 @unittest.skipUnless(os.path.isdir(MAPS), "Debian's cavepacker-data isn't installed")
 class Maps(Check):
-    def test_maps_in_a_minute(self):
+    def test_maps_in_a_minute(self) -> None:
         names = sorted(os.path.join(MAPS, name) for name in os.listdir(MAPS)
                        if name.endswith((".sok", ".sol")))
-        began = time.monotonic()
+        began = used()
         result = self.check("maps", *names)
-        self.assertLess(time.monotonic() - began, 60)
+        self.assertLess(used() - began, 60)
         self.assertEqual(self.lines(result)[0],
                          "maps: 1015 levels, 1011 solved, 0 unsolvable, 1 refused, 3 missing")
-        began = time.monotonic()
+        began = used()
         self.assertEqual(self.lines(self.check("maps", *names))[-1],
                          "nothing changed since the last time")
-        self.assertLess(time.monotonic() - began, 60)
+        self.assertLess(used() - began, 60)

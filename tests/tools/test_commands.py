@@ -15,11 +15,11 @@ SEARCH = os.path.join(TOP, "examples/search.py")
 
 
 class Commands(Case):
-    def setUp(self):
+    def setUp(self) -> None:
         super().setUp()
         os.symlink(SAMPLES, "samples")
 
-    def test_help_of_every_command(self):
+    def test_help_of_every_command(self) -> None:
         for words in [(), *((name,) for name in main.COMMANDS)]:
             for option in ("-h", "--help"):
                 result = self.tool(*words, option)
@@ -31,20 +31,20 @@ class Commands(Case):
             if words:
                 self.assertEqual(self.tool(*words).status, 2)
 
-    def test_called_through_a_link(self):
+    def test_called_through_a_link(self) -> None:
         os.symlink(os.path.join(TOP, "sokotool"), "tool")
         found = subprocess.run(["./tool", "warn", "samples/first.xsb"], stdout=subprocess.PIPE,
                                stderr=subprocess.STDOUT, check=False)
         self.assertEqual((found.returncode, found.stdout), (0, b""))
 
-    def test_reader_that_closes_the_pipe(self):
+    def test_reader_that_closes_the_pipe(self) -> None:
         self.write("many.xsb", "\n".join([ONE] * 9000))
         self.write("report", b"".join(b"level %d missing\n" % n for n in range(1, 9001)))
         found = subprocess.run(f"{TOP}/sokotool named many.xsb report | head -n 1", shell=True,
                                stdout=subprocess.PIPE, stderr=subprocess.PIPE, check=False)
         self.assertEqual((found.stdout, found.stderr), (b"level 1 missing\tmany.xsb:1\t\n", b""))
 
-    def test_devices_and_locales(self):
+    def test_devices_and_locales(self) -> None:
         self.write("a.xsb", "\u2603\n" + ONE)
         self.write("r", "level 1 missing\ntotal 1 solved 0 unsolvable 0 refused 0 missing 1\n")
         named = f"{TOP}/sokotool named a.xsb r"
@@ -60,12 +60,12 @@ class Commands(Case):
 
 
 class Warn(Case):
-    def test_exports(self):
+    def test_exports(self) -> None:
         os.symlink(SAMPLES, "samples")
         self.assertEqual(self.tool("warn", "samples/exports.xsb").out,
                          self.expected("exports.warnings"))
 
-    def test_what_is_reported(self):
+    def test_what_is_reported(self) -> None:
         reported: List[Tuple[Union[str, bytes], str]] = [
             ("", "line 0: no level in this file"), ("Nothing\n", "line 1: no level"),
             (ONE.replace("@", "@~"), "line 2: looks like a row, but"),
@@ -77,6 +77,7 @@ class Warn(Case):
             (ONE.replace("\n", "\r"), "CR alone"),
             (ONE.encode("utf-16"), "UTF-16"),
             (ONE.replace("#@", "\u00a0#@"), "line 2: a coded or marked row"),
+            (f"{ONE}Comment:\n{ONE}Comment-End:\n", "line 5: a row in a comment"),
             (ONE.replace("#####\n", "#####\n\n", 1), "has 0 players")]
         for text, why in reported:
             self.write("a.xsb", text)
@@ -84,7 +85,7 @@ class Warn(Case):
             self.assertEqual(result.status, 1, text)
             self.assertIn(why, result.out.decode())
 
-    def test_silence(self):
+    def test_silence(self) -> None:
         for text in (ONE, "### 1 ###\n" + ONE, "## Bob ##\n\n" + ONE + "Author: #1\n", "\ufeff" +
                      ONE.replace("\n", "\r\n")):
             self.write("a.xsb", text)
@@ -115,12 +116,12 @@ def digest(rows: List[str]) -> str:
 
 
 class Named(Case):
-    def test_exports(self):
+    def test_exports(self) -> None:
         os.symlink(SAMPLES, "samples")
         self.assertEqual(self.tool("named", "samples/exports.xsb", "samples/exports.report").out,
                          self.expected("exports.named"))
 
-    def test_authors_are_no_titles(self):
+    def test_authors_are_no_titles(self) -> None:
         self.write("a.xsb", "Its room: first\n" + ONE + "Author: Ben\n\n" + ONE +
                    "Title : Third  \n")
         self.write("r",
@@ -131,7 +132,7 @@ class Named(Case):
                          ["level 1 missing\ta.xsb:2\tIts room: first",
                           "level 2 missing\ta.xsb:7\tThird"])
 
-    def test_report_of_another_collection(self):
+    def test_report_of_another_collection(self) -> None:
         self.write("a.xsb", ONE)
         self.write("r",
                    "level 1 missing\nlevel 2 missing\ntotal 2 solved 0 unsolvable 0 refused 0 "
@@ -141,7 +142,7 @@ class Named(Case):
                          (1, "named: r isn't a report on a.xsb: it has 2 levels, and the "
                              "collection has 1\n"))
 
-    def test_report_that_is_not_whole(self):
+    def test_report_that_is_not_whole(self) -> None:
         self.write("a.xsb", ONE + "\n" + ONE)
         for text, why in (("", "it isn't a report"), (ONE, "it isn't a report"),
                           ("level 1 missing\n", "it is cut: it has 1 levels and no total line"),
@@ -152,7 +153,7 @@ class Named(Case):
             self.assertEqual((result.status, result.err),
                              (1, f"named: - isn't a report on a.xsb: {why}\n"))
 
-    def test_json(self):
+    def test_json(self) -> None:
         """Each line of the report on all cases gives an object, from which the line can be made
         again."""
         os.symlink(SAMPLES, "samples")
@@ -169,9 +170,10 @@ class Named(Case):
                     words += [name, str(value)]
                 elif name == "row":
                     words[-1] += f",{value}"
-                elif name not in ("version", "file", "line", "title", "board"):
+                elif name not in ("version", "file", "line", "title", "board", "reason"):
                     words.append(str(value))
             self.assertEqual(" ".join(["level", *words]), line)
+            self.assertEqual("reason" in one, one["status"] == "refused")
             self.assertEqual(f"{one['file']}:{one['line']}\t{one['title']}",
                              place.partition("\t")[2])
         self.assertEqual(objects[0],
@@ -183,9 +185,11 @@ class Named(Case):
                                        "column": 2, "row": 3, "direction": "r",
                                        "file": "samples/every.xsb", "line": 106,
                                        "title": "A push that leads out",
-                                       "board": objects[19]["board"]})
+                                       "board": objects[19]["board"],
+                                       "reason": "No pattern of the list covers the result of "
+                                                 "this push."})
 
-    def test_boards_in_json(self):
+    def test_boards_in_json(self) -> None:
         """The digest of a board is the one that docs/formats.md describes, and turns, mirrors,
         frames and other characters for floor don't change it."""
         room = ["#######", "#@ .  #", "#_$_###", "#######"]
@@ -200,14 +204,14 @@ class Named(Case):
         self.assertEqual(found, [digest(room)] * 4 + [digest(ONE.split())])
         self.assertEqual(len(set(found)), 2)
 
-    def test_control_characters_are_not_printed(self):
+    def test_control_characters_are_not_printed(self) -> None:
         self.write("a.xsb", "\x1b[2J\u202eevil\n" + ONE)
         self.write("r", "level 1 missing\ntotal 1 solved 0 unsolvable 0 refused 0 missing 1\n")
         self.assertIn(b"\ta.xsb:2\t [2J evil\n", self.tool("named", "a.xsb", "r").out)
 
 
 class Merge(Case):
-    def test_deadlocks(self):
+    def test_deadlocks(self) -> None:
         os.symlink(SAMPLES, "samples")
         for name, *words in (("pair", "4", "3,2", "5,2"), ("whole", "6")):
             searched = call([SEARCH, "samples/deadlocks.xsb", *words])
@@ -216,7 +220,7 @@ class Merge(Case):
                            "pair")
         self.assertEqual((result.status, result.out), (0, self.sample("deadlocks.answers")))
 
-    def test_comments_and_order(self):
+    def test_comments_and_order(self) -> None:
         self.write("a",
                    "sokoban-answers 2\n; lost\n\n; kept\nlevel 3\nsolution\nr\n; inside\n\nR\n"
                    "end\nlevel 1\nsolution\nend\n")
@@ -227,7 +231,7 @@ class Merge(Case):
                          "sokoban-answers 2\nlevel 1\nsolution\nend\nlevel 2\nunsolvable\nend\n"
                          "; kept\nlevel 3\nsolution\nr\n; inside\n\nR\nend\n")
 
-    def test_faults(self):
+    def test_faults(self) -> None:
         for text, why in (("", "is no answers file: line 1 isn't 'sokoban-answers 1'"),
                           ("x\n", "is no answers file: line 1 isn't 'sokoban-answers 1'"),
                           ("sokoban-answers 1\nlevel 0\n", "line 2: 'level 0' is neither a line "
@@ -248,7 +252,7 @@ class Merge(Case):
             result = self.tool("merge", "a")
             self.assertEqual((result.status, result.out, result.err), (2, b"", f"merge: a {why}\n"))
 
-    def test_long_lists_take_no_time(self):
+    def test_long_lists_take_no_time(self) -> None:
         record = "level %d\nunsolvable\n" + "pattern 2,2 3,3 @ 4,4 5,5\n" * 65536 + "end\n"
         self.write("a", "sokoban-answers 1\n" + record % 1)
         began = time.process_time()

@@ -1,18 +1,19 @@
 """What convert reads, and what it must never do."""
 import base64
 import os
+from typing import Dict, List
 
-from tests.tools.helping import ONE, SAMPLES, Case
+from tests.tools.helping import ONE, SAMPLES, Case, Converted, used
 from sokotool import answers, levels
 
 OTHER = "######\n#@ $.#\n######\n"
 
 
-def rows_of(text):
+def rows_of(text: bytes) -> List[str]:
     return [b"\n".join(level.rows).decode() for level in levels.read(text)]
 
 
-def letters_of(text):
+def letters_of(text: bytes) -> Dict[int, str]:
     return {record.level: record.letters.decode() for record in answers.read(text).records}
 
 
@@ -22,7 +23,7 @@ LONG = "#######\n#@ $ .#\n#######\n"
 class Inputs(Case):
     """No input is written over, and results appear whole or not at all."""
 
-    def test_input_is_never_written_over(self):
+    def test_input_is_never_written_over(self) -> None:
         os.mkdir("here")
         os.chdir("here")
         for name in ("mine.xsb", os.path.abspath("mine.xsb"), "../here/mine.xsb", "link", "hard"):
@@ -35,7 +36,7 @@ class Inputs(Case):
             self.assertEqual((result.status, self.read("mine.xsb")), (2, ONE.encode()), name)
             self.assertIn("would write over", result.err)
 
-    def test_outputs_stay_where_an_input_is_missing(self):
+    def test_outputs_stay_where_an_input_is_missing(self) -> None:
         self.write("keep.xsb", "kept")
         self.write("keep.answers", "kept")
         self.write("keep.txt", ONE)
@@ -43,7 +44,7 @@ class Inputs(Case):
         self.assertEqual((self.read("keep.xsb"), self.read("keep.answers")), (b"kept", b"kept"))
         self.assertEqual(sorted(os.listdir(".")), ["keep.answers", "keep.txt", "keep.xsb"])
 
-    def test_outputs_stay_where_one_cannot_be_written(self):
+    def test_outputs_stay_where_one_cannot_be_written(self) -> None:
         self.write("mine.txt", ONE)
         self.write("keep.xsb", "kept")
         os.mkdir("keep.answers")
@@ -55,7 +56,7 @@ class Inputs(Case):
 class Levels(Case):
     """Levels stay as they are, and no level is lost unreported."""
 
-    def test_headings_are_no_rows(self):
+    def test_headings_are_no_rows(self) -> None:
         for heading in ("### 1 ###", "#2.", "#3 Bob", "#1 ", "#1", "#5#", "## Bob ##", "# Bob #",
                         "#B", "# 7 #", "#12.", "### 2 levels ###"):
             for text in (heading + "\n" + ONE, ONE + heading + "\n", ONE + "\n" + heading + "\n\n" +
@@ -66,14 +67,14 @@ class Levels(Case):
                 self.assertEqual(result.status, 0, result.err)
                 self.assertIn(heading.encode(), found)
 
-    def test_heading_between_two_levels(self):
+    def test_heading_between_two_levels(self) -> None:
         for heading in ("### 1 ###", "#2.", "#3 Bob", "#1 "):
             result, found, _ = self.convert(ONE + heading + "\n" + OTHER)
             self.assertEqual(rows_of(found), [ONE.strip(), OTHER.strip()])
             self.assertEqual(result.status, 1)
             self.assertIn("mine.txt line 4: ", result.err)
 
-    def test_marked_outer_floor(self):
+    def test_marked_outer_floor(self) -> None:
         for mark in "~x^\u00a0":
             marked = f"{mark}####{mark}{mark}\n{mark}#  ###\n##$@.#\n######\n"
             result, found, solved = self.convert(ONE + "Solution\nR\n\n" + marked + "\n" + OTHER +
@@ -84,31 +85,31 @@ class Levels(Case):
             self.assertIn("line 7: floor outside the walls is marked, and was read as floor",
                           result.err)
 
-    def test_outer_marks_between_walls(self):
+    def test_outer_marks_between_walls(self) -> None:
         text = "####~~####\n#  #~~#  #\n#  ####  #\n#@ $ .   #\n##########\n"
         result, found, _ = self.convert(text)
         self.assertEqual(rows_of(found), [text.replace("~", " ").strip()])
         self.assertEqual(result.status, 0)
 
-    def test_marks_inside_are_reported(self):
+    def test_marks_inside_are_reported(self) -> None:
         result, found, _ = self.convert("######\n#@x$.#\n######\n")
         self.assertEqual(result.status, 1)
         self.assertIn("mine.txt line 2: looks like a row, but 'x' is no character of rows",
                       result.err)
         self.assertIn(b"#@x$.#", found)
 
-    def test_strange_rows_are_reported(self):
+    def test_strange_rows_are_reported(self) -> None:
         for row, line in (("#@&$.#", 2), ("#@\t$.#", 2), ("# $X@#", 2)):
             result, _, _ = self.convert("######\n" + row + "\n######\n")
             self.assertEqual(result.status, 1)
             self.assertIn(f"mine.txt line {line}: ", result.err)
 
-    def test_row_without_wall_is_reported(self):
+    def test_row_without_wall_is_reported(self) -> None:
         result, _, _ = self.convert("#####\n @$. \n#####\n")
         self.assertIn("line 2: a row without a wall", result.err)
         self.assertEqual(result.status, 1)
 
-    def test_line_ends_and_encodings(self):
+    def test_line_ends_and_encodings(self) -> None:
         text = "Gr\u00fc\u00dfe\n" + ONE + "\n\n" + OTHER + "Solution\nrR\n"
         for end in ("\n", "\r\n", "\r", "\r\r\n"):
             for code in ("utf-8", "utf-8-sig", "latin-1", "utf-16", "utf-16-le", "utf-16-be"):
@@ -118,24 +119,32 @@ class Levels(Case):
                 self.assertEqual(letters_of(solved), {2: "rR"})
                 self.assertIn("Gr\u00fc\u00dfe\n".encode(), found)
 
-    def test_what_is_no_text_is_reported(self):
+    def test_many_ends_of_lines(self) -> None:
+        """A text of a million ends of lines takes no longer than another one."""
+        began = used()
+        for end in ("\r", "\n", "\r\n"):
+            result, found, _ = self.convert(ONE + end * 100_000 + OTHER)
+            self.assertEqual((result.status, rows_of(found)), (0, [ONE.strip(), OTHER.strip()]))
+        self.assertLess(used() - began, 10)
+
+    def test_what_is_no_text_is_reported(self) -> None:
         for data in (b"\0\1\2\3" + ONE.encode(), b"\xff\xfe\x00", b"", b"Nothing here\n"):
             result, _, _ = self.convert(data)
             self.assertEqual(result.status, 1)
             self.assertIn("mine.txt line 1: ", result.err)
 
-    def test_maze_files(self):
+    def test_maze_files(self) -> None:
         text = ("*****\nMaze: 1\nFile offset: 148C\nSize X: 7\nSize Y: 3\nEnd: 1\nLength: 3\n\n"
                 "XXXXXXX\nX@*.& X\nXXXXXXX\n\n*****\nMaze: 2\n\nXXXXX\nX@*.X\nXXXXX\n")
         result, found, _ = self.convert(text)
         self.assertEqual((result.status, rows_of(found)),
                          (0, ["#######\n#@$.* #\n#######", ONE.strip()]))
 
-    def test_blanks_after_a_row(self):
+    def test_blanks_after_a_row(self) -> None:
         result, found, _ = self.convert("#####\t\n#@$.# \t \n#####\n")
         self.assertEqual((result.status, rows_of(found)), (0, [ONE.strip()]))
 
-    def test_coded_rows(self):
+    def test_coded_rows(self) -> None:
         rows = "######\n#@ $.#\n######"
         for text in ("6#\n#@-$.#\n6#\n", "6#|#@-$.#|6#\n", "######\n#p bo#\n######\n",
                      "6#|\n#p_bo#|\n6#\n", "2(3#)\n#@-$.#\n3(##)\n"):
@@ -148,7 +157,7 @@ class Levels(Case):
 class Solutions(Case):
     """No solution is lost unreported."""
 
-    def test_headings(self):
+    def test_headings(self) -> None:
         for line in ("Solution R", "Solution=R", "Solution: R", "Solution 1: R (1 moves)",
                      "Best solution: R", "LURD: R", "; Solution: R",
                      "Solution (1/1): R",
@@ -158,14 +167,14 @@ class Solutions(Case):
             result, _, solved = self.convert(ONE + "\n" + line + "\n")
             self.assertEqual((letters_of(solved), result.status), ({1: "R"}, 0), (line, result.err))
 
-    def test_heading_without_letters_is_reported(self):
+    def test_heading_without_letters_is_reported(self) -> None:
         for line in ("Solution", "Solution\n\nNext level", "Solution: see my page", "Solution 1:",
                      "Best solution (12 moves)"):
             result, _, solved = self.convert(ONE + line + "\n\n" + OTHER)
             self.assertEqual((letters_of(solved), result.status), ({}, 1), line)
             self.assertIn("mine.txt line 4: a solution heading with no letters", result.err)
 
-    def test_sentences_are_no_headings(self):
+    def test_sentences_are_no_headings(self) -> None:
         for line in ("No solution known", "The solution is hard", "Solution files are on my page",
                      "Solutions: 3"):
             result, found, solved = self.convert(ONE + line + "\n\n" + OTHER +
@@ -174,13 +183,13 @@ class Solutions(Case):
                              (line, result.err))
             self.assertIn(line.encode(), found)
 
-    def test_snapshot_is_no_solution(self):
+    def test_snapshot_is_no_solution(self) -> None:
         for head in ("Snapshot", "Save Game 1", "Saved game", "Snapshot: 1", "; Snapshot"):
             result, _, solved = self.convert(OTHER + f"\nSolution\n\n{head}\nr\n")
             self.assertEqual((letters_of(solved), result.status), ({}, 1), head)
             self.assertIn("a solution heading with no letters", result.err)
 
-    def test_one_that_solves_is_preferred(self):
+    def test_one_that_solves_is_preferred(self) -> None:
         result, _, solved = self.convert(OTHER + "Solution\nr\n\nSolution\nrR\n")
         self.assertEqual((letters_of(solved), result.status), ({1: "rR"}, 1))
         self.assertIn("line 5: the solution of level 1 leaves 1 box off the goals", result.err)
@@ -189,7 +198,7 @@ class Solutions(Case):
         self.assertIn("line 5: the solution of level 1 cannot be played: move 1 (u) wall",
                       result.err)
 
-    def test_exports_of_players(self):
+    def test_exports_of_players(self) -> None:
         yasc = ("::::::::::::::::::::\n:: Wall  #   Box  $\n::   _#_ Floor, ## Solution and "
                 "snapshot ##\n\n"
                 "[Collection]\nDate Created: 2001\n\nLevel 1\n\n" + OTHER +
@@ -205,7 +214,7 @@ class Solutions(Case):
                                  ({1: "rR"}, [OTHER.strip()] * 2, 0), result.err)
                 self.assertEqual(levels.read(found)[0].title, title)
 
-    def test_solution_in_its_own_file(self):
+    def test_solution_in_its_own_file(self) -> None:
         self.write("a.sok", OTHER)
         self.write("a.sol", "2r")
         self.write("b.sok", OTHER + "\n" + OTHER)
@@ -220,11 +229,11 @@ class Solutions(Case):
 class Slc(Case):
     """SLC files are read as XML."""
 
-    def slc(self, levels_text, head='<?xml version="1.0"?>'):
+    def slc(self, levels_text: str, head: str = '<?xml version="1.0"?>') -> Converted:
         return self.convert(head + "<SokobanLevels><Title>T</Title><LevelCollection>" +
                             levels_text + "</LevelCollection></SokobanLevels>", "a.slc")
 
-    def test_forms(self):
+    def test_forms(self) -> None:
         rows = "<L>#####</L><L>#@$.#</L><L>#####</L>"
         for level in ('<Level Id="A &amp; B">' + rows, "<Level Id='A &#38; B'>" + rows,
                       '<Level\n  Id="A &amp; B">' +
@@ -237,12 +246,12 @@ class Slc(Case):
                              (level, result.err))
             self.assertEqual(levels.read(found)[0].title, "A & B")
 
-    def test_commented_level(self):
+    def test_commented_level(self) -> None:
         result, found, _ = self.slc("<!-- <Level><L>####</L></Level> --><Level><L>#####</L><L>"
                                     "#@$.#</L><L>#####</L></Level>")
         self.assertEqual((result.status, rows_of(found)), (0, [ONE.strip()]))
 
-    def test_faults_are_reported(self):
+    def test_faults_are_reported(self) -> None:
         good = "<Level><L>#####</L><L>#@$.#</L><L>#####</L></Level>"
         for bad, why in (("<Level><L>#?#</L></Level>", "looks like a row"),
                          ("<Level", "cannot be read on"), ("&bomb;", "cannot be read on")):
@@ -256,32 +265,39 @@ class Slc(Case):
 class Limits(Case):
     """Nothing grows past the auditor's limits."""
 
-    def test_long_rows(self):
+    def test_long_rows(self) -> None:
         result, found, _ = self.convert("30000000#\n" * 200)
         self.assertEqual(result.status, 1)
         self.assertLess(len(found), 10000)
 
-    def test_widest_row(self):
+    def test_widest_row(self) -> None:
         result, found, _ = self.convert("255#\n#@$.251-\n255#\n".replace("251-", "250-#"))
         self.assertEqual((result.status, len(rows_of(found)[0].split("\n")[0])), (0, 255))
         self.assertEqual(self.convert("256#\n#@$.251-#\n256#\n")[0].status, 1)
 
-    def test_long_solutions(self):
+    def test_long_solutions(self) -> None:
         result, _, solved = self.convert(ONE + "Solution\n99999999999999999999(r)\n" + OTHER +
                                          "Solution: 40000000r\n")
         self.assertEqual((result.status, letters_of(solved)), (1, {}))
         self.assertIn("is longer than", result.err)
 
-    def test_too_many_levels(self):
+    def test_too_many_levels(self) -> None:
         result, found, _ = self.convert("\n".join([ONE] * 10001))
         self.assertEqual((result.status, found), (2, None))
         self.assertEqual(self.convert("\n".join([ONE] * 10000))[0].status, 0)
+
+    def test_many_coded_levels_of_a_folder(self) -> None:
+        os.mkdir("inbox")
+        self.write("inbox/a.txt", "7#|#@2-$.#|7#\n\n" * 10001)
+        result = self.tool("convert", "--split", "out", "inbox")
+        self.assertEqual((result.status, result.err), (
+            0, "convert: 10001 levels in 2 collections, 0 solutions, 0 left out\n"))
 
 
 class Samples(Case):
     """The folder of exports, as the pages walk through it."""
 
-    def test_exports(self):
+    def test_exports(self) -> None:
         os.symlink(SAMPLES, "samples")
         files = sorted(os.path.join("samples/exports", name)
                        for name in os.listdir("samples/exports"))
@@ -291,14 +307,14 @@ class Samples(Case):
         self.assertEqual(self.read("exports.answers"), self.sample("exports.answers"))
 
 
-def titles_of(text):
+def titles_of(text: bytes) -> List[str]:
     return [level.title for level in levels.read(text)]
 
 
 class Kept(Case):
     """Titles, comments and attributions are kept."""
 
-    def test_what_a_heading_says_more_stays(self):
+    def test_what_a_heading_says_more_stays(self) -> None:
         """Words in the heading of a solution that are no counts stay as text."""
         for text in ("Solution (by NAME, 2003-05-01): rRR", "Solution: rRR by NAME",
                      "Solution 3/2 by NAME, 1 May 2003\nrRR",
@@ -314,7 +330,7 @@ class Kept(Case):
             _, found, solved = self.convert(LONG + text + "\n")
             self.assertEqual((letters_of(solved), b"olution" in found), ({1: "rRR"}, False), text)
 
-    def test_letters_under_a_soft_heading(self):
+    def test_letters_under_a_soft_heading(self) -> None:
         for text in ("L\u00f6sung: rRl", "Moves: rRl", "Answer: rRl", "Solution of One: rR"):
             result, _, _ = self.convert(LONG + text + "\n")
             self.assertEqual(result.status, 1, text)
@@ -322,25 +338,24 @@ class Kept(Case):
         for text in ("Moves: 12", "Answer: unknown", "My solution is by R. Durr"):
             self.assertEqual(self.convert(LONG + text + "\n")[0].status, 0, text)
 
-    def test_bullets(self):
+    def test_bullets(self) -> None:
         for bullet in ("* ", ". "):
             text = "".join(bullet + row + "\n" for row in LONG.splitlines())
             result, found, _ = self.convert(text)
             self.assertEqual(rows_of(found), [LONG.strip()])
             self.assertIn("line 1: each row has a bullet in front", result.err)
 
-    def test_forms_that_are_not_read(self):
+    def test_forms_that_are_not_read(self) -> None:
         """They are reported beside a readable level too."""
         rows = LONG.splitlines()
-        for text in ("".join(f'"{row}",\n' for row in rows), "'" + "\\n".join(rows) + "'\n",
-                     "".join(";".join(row) + "\n" for row in rows),
+        for text in ("".join(";".join(row) + "\n" for row in rows),
                      base64.b64encode(LONG.encode() * 3).decode() + "\n",
                      "".join("1111111\n" for row in rows)):
             result, found, _ = self.convert(LONG + "\n" + text)
             self.assertEqual((result.status, rows_of(found)), (1, [LONG.strip()]), text)
             self.assertIn("line 5: ", result.err)
 
-    def test_titles_of_many_kinds(self):
+    def test_titles_of_many_kinds(self) -> None:
         for text, wanted in (
                 (f"Titel: First\n{ONE}", "First"), (f"{ONE}Titre : First\n", "First"),
                 (f"{ONE}Name: First\n", "First"), (f"{ONE}Level: 1\n", "1"),
@@ -355,7 +370,7 @@ class Kept(Case):
             _, found, _ = self.convert(text)
             self.assertEqual(titles_of(found), [wanted], text)
 
-    def test_titles(self):
+    def test_titles(self) -> None:
         above = f"Title: First\n{ONE}\nTitle: Second\n{OTHER}"
         below = f"{ONE}Title: First\n\n{OTHER}Title: Second\n"
         for text in (above, below, "Title: All\nAuthor: A\n\n" + below):
@@ -363,7 +378,7 @@ class Kept(Case):
             self.assertEqual((result.status, titles_of(found)), (0, ["First", "Second"]), text)
             self.assertEqual(titles_of(text.encode()), ["First", "Second"])
 
-    def test_titles_of_letters_and_digits(self):
+    def test_titles_of_letters_and_digits(self) -> None:
         """They are titles if they are nearer to the level below, and no solution."""
         for text, wanted in (
                 ("Dull\n" + ONE + "\nLull\n" + ONE, ["Dull", "Lull"]),
@@ -377,12 +392,12 @@ class Kept(Case):
             self.assertEqual(titles_of(self.read("a.xsb")), wanted, text)
             self.assertEqual(titles_of(self.convert(text)[1]), wanted, text)
 
-    def test_titles_lose_their_marks(self):
+    def test_titles_lose_their_marks(self) -> None:
         for line in ("<h2>First</h2>", "# First", "; ## First", "Title=First", "\fFirst",
                      "\fTitle: First", "<b>First</b><br>"):
             self.assertEqual(titles_of(self.convert(line + "\n" + ONE)[1]), ["First"], line)
 
-    def test_name_of_a_file_is_no_title(self):
+    def test_name_of_a_file_is_no_title(self) -> None:
         _, found, _ = self.convert(ONE + "\n" + ONE)
         self.assertIn(b"; File: mine.txt\n", found)
         self.assertEqual(titles_of(found), ["", ""])
@@ -391,7 +406,7 @@ class Kept(Case):
             self.assertNotIn(b"Title: ", exported)
             self.assertNotIn(b'Id="mine', exported)
 
-    def test_titles_of_two_files(self):
+    def test_titles_of_two_files(self) -> None:
         self.write("a.txt", f"Title: First\n{ONE}\nTitle: Second\n{OTHER}")
         self.write("b.txt", f"Title: All\n\n{ONE}\n{OTHER}Title: Fourth\n")
         self.assertEqual(self.tool("convert", "out", "a.txt", "b.txt").status, 0)
@@ -399,7 +414,7 @@ class Kept(Case):
         self.assertEqual(titles_of(self.read("out.xsb"))[3], "Fourth")
         self.assertIn(b"\nCollection: All\n", self.read("out.xsb"))
 
-    def test_comment(self):
+    def test_comment(self) -> None:
         text = f"{ONE}Comment:\nsuch as\n{OTHER}Comment-End:\nSolution: R\n\n{OTHER}"
         result, found, solved = self.convert(text)
         self.assertEqual((result.status, letters_of(solved)), (0, {1: "R"}))
@@ -409,7 +424,7 @@ class Kept(Case):
         self.write("a.xsb", text)
         self.assertIn(b"a.xsb line 6: a row in a comment", self.tool("warn", "a.xsb").out)
 
-    def test_attribution(self):
+    def test_attribution(self) -> None:
         rows = "".join(f"<L>{row}</L>" for row in ONE.split())
         for name in ("Id", "ID", "id"):
             result, found, _ = self.convert(
@@ -420,14 +435,14 @@ class Kept(Case):
             for line in ("; Nice ones", "Copyright: Jane Doe", "Copyright: Jim", "Author: Bob"):
                 self.assertIn(line.encode(), found.split(b"\n"))
 
-    def test_other_games(self):
+    def test_other_games(self) -> None:
         result, found, solved = self.convert(
             f"{ONE}Solution: R\n\n{OTHER}Title: Six\nType: Hexoban\nSolution: rR\n\n{OTHER}rR\n")
         self.assertEqual((result.status, letters_of(solved)), (1, {1: "R", 2: "rR"}))
         self.assertEqual(titles_of(found), ["", ""])
         self.assertIn("line 6: a level of Hexoban, which is not read", result.err)
 
-    def test_unsolved_is_reported(self):
+    def test_unsolved_is_reported(self) -> None:
         for letters in ("r", "r\n\nr"):
             text = f"#######\n#@ $ .#\n#######\nSolution:\n\n{letters}\n"
             result, _, solved = self.convert(text)
@@ -437,12 +452,12 @@ class Kept(Case):
             self.assertIn("1 levels, 1 solutions, 0 left out, 1 unsolved", result.err)
             self.assertTrue(letters_of(solved)[1].startswith("r"))
 
-    def test_best(self):
+    def test_best(self) -> None:
         text = "#######\n#     #\n#@ $ .#\n#######\nSolution\nrlrRR\n\nSolution\nrRR\n"
         for words, letters, status in ((("--best", "moves"), "rRR", 0), ((), "rlrRR", 1),
                                        (("--best", "pushes"), "rRR", 0)):
             self.write("a.txt", text)
-            result = self.tool("convert", "out", "a.txt", *words)
+            result = self.tool("convert", "out", "a.txt", "--replace", *words)
             self.assertEqual((letters_of(self.read("out.answers")), result.status),
                              ({1: letters}, status))
         self.assertIn("line 9: another solution of level 1, 3 moves and 2 pushes, is left out: "

@@ -1,6 +1,7 @@
 """Each form of export is read as it was meant, or something is reported."""
+import os
 import random
-from typing import Counter
+from typing import Counter, Dict, List, Sequence, Tuple
 
 from sokotool import answers, levels
 
@@ -10,7 +11,7 @@ from .helping import Case
 FEWEST = 150
 
 
-def plain(rows) -> str:
+def plain(rows: Sequence[bytes]) -> str:
     """Rows with blanks for floor, without blanks around them."""
     text = b"\n".join(rows).decode().replace("-", " ").replace("_", " ")
     lines = text.split("\n")
@@ -29,7 +30,7 @@ class Exports(Case):
             return "right"
         return "reported" if result.status else "silent"
 
-    def test_all(self):
+    def test_all(self) -> None:
         self.assertGreaterEqual(len(ALL), FEWEST)
         self.assertEqual(len({export.name for export in ALL}), len(ALL))
         counts: Counter[str] = Counter()
@@ -44,6 +45,25 @@ class Exports(Case):
               f"{counts['silent']} silent")
 
 
+class OtherGames(Case):
+    def test_files_of_a_folder_are_one_note(self) -> None:
+        """One for each game. A file that is named itself is left out, and so says the status."""
+        os.mkdir("inbox")
+        robbo = "[last_level]\n1\n[level]\n1\n[size]\n7.3\n[data]\n" + ALPHA + "\n"
+        for name, text in (("a.dat", robbo), ("b.dat", robbo), ("c.txt", ALPHA),
+                           ("d.bd", "[BDCFF]\n" + ALPHA), ("e.txt", "nothing\n")):
+            self.write("inbox/" + name, text)
+        result = self.tool("convert", "out", "inbox")
+        self.assertEqual((result.status, result.err), (
+            0, "convert: 1 file has no level: e.txt\n"
+            "convert: 1 file of Boulder Dash is not read: d.bd\n"
+            "convert: 2 files of Gnu Robbo are not read: a.dat, b.dat\n"
+            "convert: 1 levels, 0 solutions, 0 left out\n"))
+        result = self.tool("convert", "out", "inbox/a.dat", "inbox/c.txt")
+        self.assertEqual((result.status, result.err.splitlines()[0]), (
+            1, "convert: inbox/a.dat line 1: a file of Gnu Robbo, which is not read"))
+
+
 BOARDS = [(ALPHA, "rRR"), (BETA, "rR"), (GAMMA, "LL"),
           ("######\n#    #\n#@$  #\n#  . #\n######", "RurD")]
 FIRST = ["", "Best ", "My ", "First ", "Move ", "Bob's ", "The "]
@@ -56,37 +76,46 @@ DRESS = [("", ""), ("[", "]"), ("<b>", "</b>"), ("**", "**"), ("- ", ""), ("* ",
 BETWEEN = ["", "", "", " ", ", ", ",", "\n", "\n\n", ";", "' '", "-"]
 
 
+def heading_by(chance: random.Random) -> str:
+    """A heading of a solution."""
+    before, after = chance.choice(DRESS)
+    return (before + chance.choice(FIRST) + chance.choice(WORDS) + chance.choice(NUMBERS)
+            + chance.choice(MARKS).replace("\n", after + "\n", 1) + " " * chance.randint(0, 1))
+
+
+def letters_by(chance: random.Random, solution: str) -> str:
+    """The letters of a solution as somebody may write them."""
+    parts = [chance.choice([it, it, it.lower(), it.upper()]) for it in solution]
+    between = chance.choice(BETWEEN)
+    at = chance.randint(1, len(parts))
+    return "".join(parts[:at]) + between + "".join(parts[at:])
+
+
+def made_by(chance: random.Random) -> Tuple[str, List[str], Dict[int, str]]:
+    """A random collection: its text, its boards, and the solutions of some of them."""
+    text, wanted = "", {}
+    drawn = [chance.choice(BOARDS) for _ in range(chance.randint(1, 5))]
+    for number, (board, solution) in enumerate(drawn, 1):
+        text += f"{board}\n" + chance.choice(["", "\n", "Author: B. Nobody\n"])
+        if chance.random() < .7:
+            text += heading_by(chance) + letters_by(chance, solution) + "\n"
+            wanted[number] = solution
+        text += "\n"
+    return text, [board for board, _ in drawn], wanted
+
+
 class Headings(Case):
     """Random collections with headings in every form are read as they were written, or reported."""
 
-    def heading(self, chance: random.Random) -> str:
-        before, after = chance.choice(DRESS)
-        return (before + chance.choice(FIRST) + chance.choice(WORDS) + chance.choice(NUMBERS)
-                + chance.choice(MARKS).replace("\n", after + "\n", 1) + " " * chance.randint(0, 1))
-
-    def letters(self, chance: random.Random, solution: str) -> str:
-        """The letters of a solution as somebody may write them."""
-        parts = [chance.choice([it, it, it.lower(), it.upper()]) for it in solution]
-        between = chance.choice(BETWEEN)
-        at = chance.randint(1, len(parts))
-        return "".join(parts[:at]) + between + "".join(parts[at:])
-
-    def test_there_and_back(self):
+    def test_there_and_back(self) -> None:
         chance = random.Random(57)
         counts: Counter[bool] = Counter()
         for _ in range(150):
-            text, wanted = "", {}
-            drawn = [chance.choice(BOARDS) for _ in range(chance.randint(1, 5))]
-            for number, (board, solution) in enumerate(drawn, 1):
-                text += f"{board}\n" + chance.choice(["", "\n", "Author: B. Nobody\n"])
-                if chance.random() < .7:
-                    text += self.heading(chance) + self.letters(chance, solution) + "\n"
-                    wanted[number] = solution
-                text += "\n"
+            text, boards, wanted = made_by(chance)
             result, found, solved = self.convert(text)
             read = [plain(level.rows) for level in levels.read(found)]
             kept = {it.level: it.letters.decode() for it in answers.read(solved).records}
-            self.assertEqual(read, [board for board, _ in drawn], text)
+            self.assertEqual(read, boards, text)
             self.assertTrue(kept == wanted or result.status == 1, (text, kept, wanted))
             counts[kept == wanted] += 1
             self.assertNotIn(b"refused move", self.audit("out.xsb", "out.answers"))

@@ -10,7 +10,7 @@ import zipfile
 
 from sokotool import answers, levels, main
 
-from .helping import ONE, TOP, Case, is_slow, needs_a_memory_limit, not_on_windows
+from .helping import ONE, TOP, Case, Result, is_slow, needs_a_memory_limit, not_on_windows
 
 TOOL = os.path.join(TOP, "sokotool")
 OTHER = "######\n#@ $.#\n######\n"
@@ -34,79 +34,50 @@ def limited() -> None:
 class Replacing(Case):
     """No file of a keeper is replaced, unless it is asked for."""
 
-    def convert_named(self, *words):
+    def convert_named(self, *words: str) -> Result:
         return self.tool("convert", "mine", *words)
 
-    def setUp(self):
+    def setUp(self) -> None:
         super().setUp()
         self.write("a.txt", ONE)
 
-    def assert_refused(self, result, *says):
+    def assert_refused(self, result: Result, *says: str) -> None:
         self.assertEqual(result.status, 2, result.err)
         for text in says:
             self.assertIn(text, result.err)
 
-    def test_answers_by_hand_stay(self):
-        self.write("mine.answers", HAND)
-        self.assert_refused(self.convert_named("a.txt"), "mine.answers has the answer of level 1")
-        self.assertEqual(self.read("mine.answers"), HAND.encode())
-        self.assertEqual(sorted(os.listdir(".")), ["a.txt", "mine.answers"])
+    def test_files_that_are_there_stay(self) -> None:
+        for name, text in (("mine.answers", HAND), ("mine.xsb", OTHER), ("mine.xsb", ONE + "me\n")):
+            self.write(name, text)
+            self.assert_refused(self.convert_named("a.txt"),
+                                f"{name} is there already: --replace keeps it as {name}~\n")
+            self.assertEqual(self.read(name), text.encode())
+            self.assertEqual(sorted(os.listdir(".")), ["a.txt", name])
+            os.remove(name)
 
-    def test_replace_keeps_them(self):
-        self.write("mine.answers", HAND)
-        self.assertEqual(self.convert_named("a.txt", "--replace").status, 0)
-        self.assertEqual(self.read("mine.answers~"), HAND.encode())
-        self.assertEqual(answers.read(self.read("mine.answers")).records, [])
-        self.write("mine.answers", HAND.replace("\nR\n", "\nr\n"))
-        self.assert_refused(self.convert_named("a.txt", "--replace"), "mine.answers~ is there")
-        self.assertEqual(self.read("mine.answers~"), HAND.encode())
+    def test_replace_keeps_the_former_ones(self) -> None:
+        for hand in (HAND, HAND.replace("\nR\n", "\nr\n")):
+            self.write("mine.answers", hand)
+            self.assertEqual(self.convert_named("a.txt", "--replace").status, 0)
+            self.assertEqual(self.read("mine.answers~"), hand.encode())
+            self.assertEqual(answers.read(self.read("mine.answers")).records, [])
+        self.assertFalse(os.path.exists("mine.xsb~"))
 
-    def test_levels_by_hand_stay(self):
-        for text in (OTHER, ONE + "Author: me\n"):
-            self.write("mine.xsb", text)
-            self.assert_refused(self.convert_named("a.txt"), "mine.xsb has 1 l")
-            self.assertEqual(self.read("mine.xsb"), text.encode())
-
-    def test_own_files_are_replaced(self):
-        self.assertEqual(self.convert_named("a.txt").status, 0)
+    def test_the_same_again_replaces_nothing(self) -> None:
+        for _ in range(2):
+            self.assertEqual(self.convert_named("a.txt").status, 0)
+        self.assertEqual(sorted(os.listdir(".")), ["a.txt", "mine.answers", "mine.xsb"])
         self.write("a.txt", OTHER + "rR\n")
-        self.write("b.txt", ONE)
-        self.assertEqual(self.convert_named("a.txt").status, 0)
-        self.assertEqual(self.convert_named("a.txt", "b.txt").status, 0)
-        self.assertEqual(len(levels.read(self.read("mine.xsb"))), 2)
-        self.assert_refused(self.convert_named("b.txt"), "mine.xsb has 1 level",
-                            "mine.answers has the answer of level 1")
+        self.assert_refused(self.convert_named("a.txt"), "mine.xsb is there already")
 
-    def test_own_files_that_were_edited_stay(self):
-        self.assertEqual(self.convert_named("a.txt").status, 0)
-        made = self.read("mine.answers")
-        edited = made.replace(b"answers 1\n", b"answers 1\nlevel 1\nsolution\nR\nend\n")
-        self.write("mine.answers", edited)
-        self.assert_refused(self.convert_named("a.txt"), "mine.answers has the answer of level 1")
-        self.assertEqual(self.read("mine.answers"), edited)
-        self.write("mine.answers", made)
-        self.write("mine.xsb", self.read("mine.xsb") + b"Title: mine\n")
-        self.assert_refused(self.convert_named("a.txt"), "mine.xsb has 1 line of text")
-
-    def test_what_the_new_file_has_too_is_no_loss(self):
-        self.write("a.txt", ONE + "R\n")
-        self.write("mine.answers", HAND)
-        self.write("mine.xsb", ONE)
-        self.assertEqual(self.convert_named("a.txt").status, 0)
-
-    def test_comments_are_a_loss(self):
-        self.write("a.txt", ONE + "R\n")
-        self.write("mine.answers", HAND + "; by me\n")
-        self.assert_refused(self.convert_named("a.txt"), "mine.answers has comments")
-
-    def test_write_protected(self):
+    def test_write_protected(self) -> None:
         self.write("mine.answers", HAND)
         os.chmod("mine.answers", 0o444)
         for words in ((), ("--replace",)):
             self.assert_refused(self.convert_named("a.txt", *words), "is write-protected")
         self.assertEqual(self.read("mine.answers"), HAND.encode())
 
-    def test_standard_input_that_is_the_output(self):
+    def test_standard_input_that_is_the_output(self) -> None:
         self.write("q.xsb", ONE + "Solution: R\n")
         with open("q.xsb", "rb") as file:
             ran = subprocess.run([TOOL, "convert", "q", "-"], stdin=file, stderr=subprocess.PIPE,
@@ -118,7 +89,7 @@ class Replacing(Case):
 class Whole(Case):
     """Outputs are whole, or there is an error."""
 
-    def setUp(self):
+    def setUp(self) -> None:
         super().setUp()
         self.write("many.xsb", "\n".join([ONE] * 3000))
         self.write("many.answers", b"sokoban-answers 1\n" + b"".join(
@@ -129,7 +100,7 @@ class Whole(Case):
         self.write("torn.xsb", "\n\n".join(["####"] * 3000))
 
     @not_on_windows
-    def test_a_full_disk(self):
+    def test_a_full_disk(self) -> None:
         """An unbuffered stream may write a part and report nothing."""
         for unbuffered in ("", "1"):
             env = {**os.environ, "PYTHONUNBUFFERED": unbuffered}
@@ -141,7 +112,7 @@ class Whole(Case):
                 said = f"{words.split()[0]}: cannot write: File too large\n"
                 self.assertEqual((ran.returncode, ran.stderr.decode()), (2, said))
 
-    def test_output_to_a_file(self):
+    def test_output_to_a_file(self) -> None:
         merged = self.tool("merge", "many.answers").out
         for words, printed in ((("merge", "many.answers"), merged),
                                (("named", "many.xsb", "many.report"),
@@ -149,13 +120,13 @@ class Whole(Case):
             result = self.tool(*words, "-o", "out")
             self.assertEqual((result.status, result.out, self.read("out")), (0, b"", printed))
 
-    def test_output_to_an_input(self):
+    def test_output_to_an_input(self) -> None:
         self.write("a", HAND)
         self.assertEqual(self.tool("merge", "a", "many.answers", "-o", "a").status, 0)
         self.assertEqual(len(answers.read(self.read("a")).records), 3000)
 
     @not_on_windows
-    def test_output_stays_after_an_error(self):
+    def test_output_stays_after_an_error(self) -> None:
         self.write("out", "kept")
         self.assertEqual(self.tool("merge", "many.answers", "many.xsb", "-o", "out").status, 2)
         ran = subprocess.run([TOOL, "merge", "many.answers", "-o", "out"], check=False,
@@ -164,12 +135,12 @@ class Whole(Case):
                          (2, b"merge: cannot write out: File too large\n"))
         self.assertEqual((self.read("out"), ".sok" in "".join(os.listdir("."))), (b"kept", False))
 
-    def test_output_to_a_device(self):
+    def test_output_to_a_device(self) -> None:
         self.assertEqual(self.tool("merge", "many.answers", "-o", "/dev/null").status, 0)
         self.assertFalse(os.path.isfile("/dev/null"))
 
     @not_on_windows
-    def test_interrupts(self):
+    def test_interrupts(self) -> None:
         """Once Python has started, the status is 130 at any moment and nothing is printed; outputs
         are whole or missing."""
         whole, files = 0.0, set()
@@ -197,7 +168,7 @@ class Whole(Case):
 class Reading(Case):
     """A file that can't be read is named with the reason; a folder stands for its files."""
 
-    def test_reasons(self):
+    def test_reasons(self) -> None:
         os.mkdir("folder")
         for words, why in ((("warn", "folder"), "Is a directory"),
                            (("warn", "none"), "No such file or directory"),
@@ -207,7 +178,7 @@ class Reading(Case):
             self.assertEqual((result.status, result.err),
                              (2, f"{words[0]}: cannot read {name}: {why}\n"))
 
-    def test_folder(self):
+    def test_folder(self) -> None:
         os.makedirs("exports/sub/empty")
         for name, text in (("b.txt", OTHER), ("a.txt", ONE), ("sub/c.txt", ONE), (".hidden", "x"),
                            ("sub/one.xsb", OTHER), ("sub/one.sol", "rR")):
@@ -221,7 +192,7 @@ class Reading(Case):
         self.assertEqual(self.tool("convert", "again", "exports/a.txt", "exports/sub").status, 0)
 
     @not_on_windows
-    def test_what_is_in_folders(self):
+    def test_what_is_in_folders(self) -> None:
         """Links to parents end, a pipe isn't opened, a file that can't be read is reported, and
         none of the files that are written is read."""
         os.makedirs("in/sub")
@@ -244,9 +215,9 @@ class Reading(Case):
         names = [name for name in os.listdir(".") if name != "pipe"]
         self.assertIn(b"nothing changed", self.tool("check", "my", *sorted(names)).out)
         self.assertEqual(self.tool("check", "my", "my.xsb").err,
-                         "check: would write over my.xsb\n")
+                         "check: would write over my.xsb: choose another NAME, such as checked\n")
 
-    def test_archives(self):
+    def test_archives(self) -> None:
         """A zip file is read as a folder, and one that can't be read is reported."""
         with zipfile.ZipFile("pack.zip", "w") as archive:
             for name, text in (("b/two.txt", OTHER), ("a.txt", ONE), ("b/two.SOL", "rR"),
@@ -263,7 +234,7 @@ class Reading(Case):
         self.assertEqual(result.status, 1)
         self.assertIn("convert: cannot read bad.zip/b/two.txt: Bad CRC-32", result.err)
 
-    def test_names_do_not_tell_where_files_are(self):
+    def test_names_do_not_tell_where_files_are(self) -> None:
         """The same exports give the same bytes in any folder."""
         written = []
         for folder in ("here", "some/where/else"):
@@ -280,15 +251,15 @@ class Reading(Case):
         self.assertEqual(written[:6] * 3, written[6:])
         self.assertNotIn(os.path.realpath(".").encode(), b"".join(written))
 
-    def test_encodings(self):
+    def test_encodings(self) -> None:
         """A file that isn't UTF-8 gets a note, and --encoding reads it right."""
         for name, text in (("koi8-r", "\u041f\u0435\u0440\u0432\u044b\u0439"),
                            ("windows-1251", "\u041f\u0435\u0440\u0432\u044b\u0439"),
                            ("GB18030", "\u7b2c\u4e00"), ("shift-jis", "\u6700\u521d")):
             self.write("a.txt", (text + "\n" + ONE).encode(name))
             result = self.tool("convert", "out", "a.txt", "--replace")
-            self.assertIn("convert: a.txt line 1: not UTF-8: read as Windows-1252; --encoding "
-                          "names another encoding\n", result.err)
+            self.assertIn("convert: a.txt line 1: not UTF-8: read as ", result.err)
+            self.assertIn("; --encoding names another encoding\n", result.err)
             for words in (("convert", "new", "a.txt", "--replace"),
                           ("check", "new", "a.txt", "--seconds", "0")):
                 result = self.tool(*words, "--encoding", name)
@@ -302,13 +273,13 @@ class Reading(Case):
         self.assertIn("there is no encoding klingon", self.tool("check", "out", "a.txt",
                                                                 "--encoding", "klingon").err)
 
-    def test_solution_file_before_its_level(self):
+    def test_solution_file_before_its_level(self) -> None:
         self.write("a.xsb", OTHER)
         self.write("a.sol", "2r")
         self.assertEqual(self.tool("convert", "out", "a.sol", "a.xsb").status, 0)
         self.assertIn(b"rR", self.read("out.answers"))
 
-    def test_too_many_levels(self):
+    def test_too_many_levels(self) -> None:
         self.write("first.txt", ONE)
         self.write("years.txt", "\n".join([ONE] * 9999 + [OTHER + "rR\n", ONE]))
         result = self.tool("convert", "out", "first.txt", "years.txt")
@@ -323,16 +294,16 @@ class Reading(Case):
         self.assertFalse(os.path.exists("out.xsb"))
         self.assertIn(b"total 2 solved 1 ", self.audit("out-2.xsb", "out-2.answers"))
 
-    def test_split_of_few(self):
+    def test_split_of_few(self) -> None:
         self.write("a.txt", ONE)
         self.assertEqual(self.tool("convert", "out", "a.txt", "--split").status, 0)
         self.assertEqual(len(levels.read(self.read("out-1.xsb"))), 1)
 
-    def test_standard_input_once(self):
+    def test_standard_input_once(self) -> None:
         for words in (("merge", "-", "-"), ("warn", "-", "-")):
             self.assertIn("standard input (-) is named twice", self.tool(*words).err)
 
-    def test_codings_by_line(self):
+    def test_codings_by_line(self) -> None:
         text = "Gr\u00f6\u00dfe\n".encode() + ONE.encode() + b"Ma\xdfe \x93q\x94\n"
         self.write("a.txt", text)
         self.assertEqual(self.tool("convert", "out", "a.txt").status, 0)
@@ -340,7 +311,7 @@ class Reading(Case):
         self.assertIn("Gr\u00f6\u00dfe\n", found)
         self.assertIn("Ma\u00dfe \u201cq\u201d\n", found)
 
-    def test_words_about_what_is_wrong(self):
+    def test_words_about_what_is_wrong(self) -> None:
         self.write("empty", "nothing\n")
         self.write("a.txt", ONE)
         for words, why in (
@@ -358,11 +329,11 @@ class Reading(Case):
                          "check: many.txt line 40001: more than 10000 levels\n")
 
     @needs_a_memory_limit
-    def test_hostile_lines(self):
+    def test_hostile_lines(self) -> None:
         """33 MB of such lines take at most 30 s and 1 GB; some are tried here within 1 GB."""
         import resource  # which Windows lacks
 
-        def bound():
+        def bound() -> None:
             resource.setrlimit(resource.RLIMIT_AS, (1_000_000_000, 1_000_000_000))
             resource.setrlimit(resource.RLIMIT_CPU, (30, 30))
         for unit, count in (("r,R,", 5_000_000), ("|#|#|", 2_000_000), ("1#\n", 1_000_000),
@@ -376,7 +347,7 @@ class Reading(Case):
                 os.remove(name)
 
     @is_slow
-    def test_short_lines(self):
+    def test_short_lines(self) -> None:
         """33 MB of short lines take at most 20 s and 1 GB; a twentieth is tried here."""
         for unit in ("a\n", "r\n", "#\n", "r a\n"):
             self.write("a.txt", (OTHER + unit * (1_650_000 // len(unit))))
@@ -387,7 +358,7 @@ class Reading(Case):
 
 
 class Words(Case):
-    def test_version(self):
+    def test_version(self) -> None:
         with open(os.path.join(TOP, "crates/arguments/src/command.rt"), encoding="utf-8") as file:
             source = file.read()
         version = source.partition('VERSION: &str = "')[2].partition('"')[0]
@@ -395,12 +366,12 @@ class Words(Case):
             result = self.tool(word)
             self.assertEqual((result.status, result.out.decode()), (0, f"sokotool {version}\n"))
 
-    def test_help(self):
+    def test_help(self) -> None:
         self.assertEqual(self.tool("help").out, self.tool("--help").out)
         self.assertEqual(self.tool("help", "convert").out, self.tool("convert", "--help").out)
         self.assertEqual(self.tool("help", "nothing").status, 2)
 
-    def test_completions(self):
+    def test_completions(self) -> None:
         offers = (". $0; COMP_WORDS=(sokotool \"$@\"); COMP_CWORD=$#; _sokotool; "
                   "printf '%s\\n' \"${COMPREPLY[@]}\"")
         self.write("my levels.xsb", ONE)
@@ -416,7 +387,7 @@ class Words(Case):
                 words = set(re.findall("[a-z]+", text.read()))
             self.assertLessEqual(set(main.COMMANDS), words, file)
 
-    def test_no_false_alarms(self):
+    def test_no_false_alarms(self) -> None:
         for text in (ONE + "Solution 1/1\nR\nSolution comment: hello\n",
                      "::   3#|#-#|3#  ::\n" + ONE):
             result, _, _ = self.convert(text)

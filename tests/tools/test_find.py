@@ -1,4 +1,5 @@
 """The command find, and its search."""
+import contextlib
 import os
 import random
 import signal
@@ -7,7 +8,9 @@ import time
 import unittest.mock
 
 import solve
-from tests.tools.helping import TOP, Case, is_slow, needs_copies, not_on_windows
+from typing import Any
+from tests.tools.helping import (TOP, Case, Result, is_slow, needs_copies, not_on_windows,
+                                 used)
 from sokotool import levels
 from sokotool.game import Board
 from sokotool.search import refute
@@ -38,18 +41,18 @@ KINDS = {
 SOLVABLE = "######\n#    #\n#@$  #\n#  . #\n######\n"
 
 
-def summary(result):
+def summary(result: Result) -> str:
     return result.err.splitlines()[-1]
 
 
-def total(levels, **counts):
+def total(levels: int, **counts: int) -> str:
     """Returns the last line: the number of levels with each outcome."""
     kinds = "found", "solvable", "stopped", "gave_up", "long", "illegal", "left"
     numbers = (f"{kind.replace('_', '-')} {counts.get(kind, 0)}" for kind in kinds)
     return f"find: total {levels} " + " ".join(numbers)
 
 
-def hall(side, boxes):
+def hall(side: int, boxes: int) -> str:
     """A level of one large room with many boxes, and a goal for each."""
     cells = [[" "] * (side - 2) for _ in range(side - 2)]
     cells[0][0] = "@"
@@ -62,7 +65,7 @@ def hall(side, boxes):
     return "\n".join(["#" * side, *rows, "#" * side]) + "\n"
 
 
-def random_level(rng):
+def random_level(rng: random.Random) -> str:
     """Returns a level with up to three boxes in a small room, with or without walls in it."""
     width, height = rng.randint(3, 5), rng.randint(3, 4)
     cells = [" " if rng.random() < 0.85 else "#" for _ in range(width * height)]
@@ -76,7 +79,7 @@ def random_level(rng):
 
 
 class Kinds(Case):
-    def test_each_kind(self):
+    def test_each_kind(self) -> None:
         self.write("kinds.xsb", "\n".join(level for level, _ in KINDS.values()))
         result = self.tool("find", "kinds.xsb", "--seconds", "60")
         self.assertEqual((result.status, summary(result)), (0, total(11, found=11)))
@@ -86,7 +89,7 @@ class Kinds(Case):
             self.assertIn(" unsolvable patterns ", line, kind)
             self.assertLessEqual(int(line.split()[-1]), most, kind)
 
-    def test_lists_as_by_hand(self):
+    def test_lists_as_by_hand(self) -> None:
         self.write("levels", SIDE + "\n" + CORRAL)
         lines = self.tool("find", "levels").out.splitlines()
         self.assertEqual(lines[3:6],
@@ -98,7 +101,7 @@ class Kinds(Case):
 
 
 class Levels(Case):
-    def test_solutions_are_printed(self):
+    def test_solutions_are_printed(self) -> None:
         """A level that the search solves gets its solution, and one that isn't legal nothing."""
         solved = "#####\n#@*.#\n#####\n"
         self.write("levels",
@@ -111,15 +114,16 @@ class Levels(Case):
         self.assertEqual(result.out.count(b"level "), 2)
         self.assertEqual((result.status, summary(result)), (1, total(4, solvable=2, illegal=2)))
 
-    def test_missing_in_a_report(self):
+    def test_missing_in_a_report(self) -> None:
         self.write("levels", "\n".join([CORNER, TWO_ON_A_WALL, SOLVABLE]))
         self.write("answers", b"sokoban-answers 1\nlevel 1\nunsolvable\npattern 2,2 @ *\nend\n")
         self.write("report", self.audit("levels", "answers"))
         result = self.tool("find", "levels", "report")
         self.assertEqual(result.out.splitlines()[1], b"level 2")
         self.assertEqual(result.err.splitlines(), [
-            "find: level 2: found (1 of 2 done, 1 found)",
-            "find: level 3: solved (2 of 2 done, 2 found)", total(2, found=1, solvable=1)])
+            "find: level 2: found a certificate (1 of 2 done, 1 found)",
+            "find: level 3: found a solution (2 of 2 done, 2 found)",
+            total(2, found=1, solvable=1)])
         self.assertEqual(result.status, 0)
         self.write("other", CORNER)
         self.write("nothing", "no rows\n")
@@ -133,14 +137,14 @@ class Levels(Case):
             refused = self.tool("find", *words)
             self.assertEqual((refused.status, refused.out, refused.err), (2, b"", f"find: {why}\n"))
 
-    def test_words(self):
+    def test_words(self) -> None:
         self.write("levels", CORNER)
         for words in (["--seconds", "0"], ["--seconds", "nan"], ["--jobs", "-1"], ["--jobs", "x"]):
             result = self.tool("find", "levels", *words)
             self.assertEqual((result.status, result.out), (2, b""), words)
 
     @needs_copies
-    def test_limits(self):
+    def test_limits(self) -> None:
         big = "\n".join(["#" * 60] + ["#" + row.ljust(58) + "#" for row in ["", "  @"] +
                                       [" $ " * 10, "", " . " * 10, ""] * 3] + ["#" * 60]) + "\n"
         self.write("levels", big)
@@ -156,7 +160,7 @@ class Levels(Case):
                           total(1, gave_up=1)])
 
     @is_slow
-    def test_time_is_kept_on_any_board(self):
+    def test_time_is_kept_on_any_board(self) -> None:
         """A search ends within a second of its time limit, not counting the time of a run that
         needs no search. The machine may be busy, so the best of three tries counts."""
         self.write("levels", CORNER)
@@ -167,13 +171,13 @@ class Levels(Case):
                             (side, boxes))
 
     def taken(self, *words: str) -> float:
-        """Returns the seconds that a search takes."""
-        began = time.monotonic()
+        """Returns the processor seconds that a search takes."""
+        began = used()
         self.tool("find", "levels", *words)
-        return time.monotonic() - began
+        return used() - began
 
     @needs_copies
-    def test_list_that_is_too_long(self):
+    def test_list_that_is_too_long(self) -> None:
         self.write("levels", TWO_ON_A_WALL)
         for name, most in (("search.closed.MOST_PATTERNS", 3), ("search.refute.MOST_PATTERNS", 6),
                            ("texts.MOST_BYTES", 150)):
@@ -183,10 +187,10 @@ class Levels(Case):
             self.assertEqual(summary(result), total(1, long=1))
 
     @needs_copies
-    def test_search_without_memory_costs_its_level_alone(self):
+    def test_search_without_memory_costs_its_level_alone(self) -> None:
         self.write("levels", "\n".join([CORNER, SIDE, SIDE, CORNER]))
 
-        def search(level, *limits):
+        def search(level: levels.Level, *limits: float) -> refute.Outcome:
             if level.number == 2:
                 raise MemoryError
             if level.number == 3:
@@ -199,7 +203,7 @@ class Levels(Case):
         self.assertEqual(result.err.count("gave up: out of memory"), 2)
         self.assertEqual((result.status, summary(result)), (1, total(4, found=2, gave_up=2)))
 
-    def test_jobs_print_the_same(self):
+    def test_jobs_print_the_same(self) -> None:
         rng = random.Random(5)
         self.write("levels", "\n".join([CORRAL] + [random_level(rng) for _ in range(30)]))
         alone = self.tool("find", "levels", "--seconds", "60")
@@ -208,15 +212,23 @@ class Levels(Case):
                          (alone.status, alone.out, alone.err))
 
 
+def end_group(group: int) -> None:
+    """Ends what a test has left of the processes of a group, where a system has groups."""
+    with contextlib.suppress(AttributeError, OSError):
+        os.killpg(group, signal.SIGKILL)
+
+
 class Signs(Case):
     """Messages, interrupts and the processes of a search."""
 
-    def find(self, *words, **streams):
-        return subprocess.Popen([os.path.join(TOP, "sokotool"), "find", *words],
-                                start_new_session=True, **streams)
+    def find(self, *words: str, **streams: Any) -> "subprocess.Popen[bytes]":
+        running = subprocess.Popen([os.path.join(TOP, "sokotool"), "find", *words],
+                                   start_new_session=True, **streams)
+        self.addCleanup(end_group, running.pid)
+        return running
 
     @not_on_windows
-    def test_interrupt_keeps_what_was_found(self):
+    def test_interrupt_keeps_what_was_found(self) -> None:
         self.write("levels", "\n".join([CORNER, hall(60, 60), CORNER]))
         with open("answers", "wb") as answers, open("said", "wb") as said:
             running = self.find("levels", "--seconds", "100", "--jobs", "3", stdout=answers,
@@ -232,17 +244,17 @@ class Signs(Case):
         self.assertEqual(self.read("said").decode().splitlines()[-1], total(3, found=2, left=1))
 
     @not_on_windows
-    def test_terminal_names_the_level_at_work(self):
+    def test_terminal_names_the_level_at_work(self) -> None:
         self.write("levels", hall(60, 60))
         import pty  # which Windows lacks
         ours, theirs = pty.openpty()
         self.find("levels", "--seconds", "3", stdout=subprocess.DEVNULL, stderr=theirs).wait(60)
         os.close(theirs)
         said = os.read(ours, 65536).decode()
-        self.assertIn(" \rfind: level 1 for 1 s (0 of 1 done)", said)
+        self.assertIn(" \rfind: 0 of 1 done, 0 found: level 1 for 1 s", said)
         self.assertTrue(said.rstrip().endswith(total(1, stopped=1)), said)
 
-    def test_searches_end_with_their_parent(self):
+    def test_searches_end_with_their_parent(self) -> None:
         self.write("levels", hall(60, 60))
         running = self.find("levels", "--seconds", "1000", stdout=subprocess.PIPE,
                             stderr=subprocess.DEVNULL)
@@ -256,7 +268,7 @@ class Signs(Case):
 
 class Search(Case):
     @is_slow
-    def test_random_levels(self):
+    def test_random_levels(self) -> None:
         """A list is found, and the audit accepts it, for each level that a plain search of all
         positions finds unsolvable, and for each other one a solution."""
         rng = random.Random(1)
@@ -274,7 +286,7 @@ class Search(Case):
         self.assertGreater(unsolvable, 100)
         self.assertEqual(self.tool("find", "levels", "--seconds", "60").out, first.out)
 
-    def test_floods(self):
+    def test_floods(self) -> None:
         """Floods by shifts and cell by cell find the same cells, and the sides of a box are the
         parts that a flood finds."""
         rng = random.Random(2)
@@ -291,7 +303,7 @@ class Search(Case):
                                                                                   place(other))
                         self.assertEqual(same, bool(part & other))
 
-    def test_pairs(self):
+    def test_pairs(self) -> None:
         """Two boxes are lost together exactly if a play of both can't bring them to goals."""
         rng = random.Random(3)
         for level in levels.read("\n".join(random_level(rng) for _ in range(40)).encode()):
@@ -305,5 +317,5 @@ class Search(Case):
             self.assertEqual(bool(known.lost_pair(room.boxes, room.player)), not is_solvable)
 
 
-def place(bit):
+def place(bit: int) -> int:
     return bit.bit_length() - 1

@@ -2,7 +2,7 @@
 never break convert."""
 import os
 import random
-from typing import Callable, Dict
+from typing import Callable, Dict, List, Tuple
 from xml.sax.saxutils import escape
 
 from tests.tools.helping import SAMPLES, Case
@@ -11,7 +11,11 @@ from sokotool.formats import coding
 from tests.tools.test_reading import random_letters
 
 
-def closed_level(chance):
+Rows = List[str]
+Listed = List[Tuple[Rows, str, str]]  # rows, titles and letters
+
+
+def closed_level(chance: random.Random) -> Rows:
     """Rows of a closed level with one player, boxes and goals, and perhaps floor outside the walls
     at its left and right."""
     width, height = chance.randint(4, 9), chance.randint(1, 5)
@@ -24,7 +28,7 @@ def closed_level(chance):
     return rows
 
 
-def collection(chance):
+def collection(chance: random.Random) -> Listed:
     """Levels with their titles and, for some, letters that play on them."""
     found = []
     for number in range(chance.randint(1, 6)):
@@ -40,7 +44,7 @@ def collection(chance):
     return found
 
 
-def is_solved(listed):
+def is_solved(listed: Tuple[Rows, str, str]) -> bool:
     """Whether the letters of a level solve it, or there are none."""
     rows, _, letters = listed
     level = levels.Level(1, [row.encode() for row in rows], 1)
@@ -49,7 +53,7 @@ def is_solved(listed):
 
 # ---- the writers
 
-def coded(chance, text, floor="-"):
+def coded(chance: random.Random, text: str, floor: str = "-") -> str:
     """Run-length coding of a text, with some runs left as they are."""
     out, at = "", 0
     while at < len(text):
@@ -62,11 +66,12 @@ def coded(chance, text, floor="-"):
     return out
 
 
-def in_letters(row):
+def in_letters(row: str) -> str:
     return row.translate(str.maketrans("$*@+.", "bBpPo")).replace(" ", "_")
 
 
-def xsb(chance, listed, spell=lambda row: row):
+def xsb(chance: random.Random, listed: Listed, spell: Callable[[str], str] = lambda row: row
+        ) -> str:
     out = []
     for rows, title, letters in listed:
         head = chance.choice(["; {}", "{}", "'{}'", "Title: {}"])
@@ -85,7 +90,7 @@ def xsb(chance, listed, spell=lambda row: row):
     return "\n".join(out)
 
 
-def joined(chance, listed):
+def joined(chance: random.Random, listed: Listed) -> str:
     out = []
     for rows, title, letters in listed:
         out += [title, "|".join(coded(chance, row) for row in rows)] + ([f"Solution: {letters}"]
@@ -93,7 +98,7 @@ def joined(chance, listed):
     return "\n".join(out)
 
 
-def slc(chance, listed):
+def slc(chance: random.Random, listed: Listed) -> str:
     quote = chance.choice("'\"")
     out = ["<?xml version='1.0' encoding='utf-8'?>",
            "<SokobanLevels><Title>All &amp; sundry</Title><LevelCollection>"]
@@ -103,7 +108,7 @@ def slc(chance, listed):
     return "\n".join(out + ["</LevelCollection></SokobanLevels>"])
 
 
-def mazes(chance, listed):
+def mazes(chance: random.Random, listed: Listed) -> str:
     out = []
     for number, (rows, _, letters) in enumerate(listed, 1):
         out += ["*" * 30, f"Maze: {number}", f"Size X: {len(rows[0])}", "Size Y: 2", ""]
@@ -123,7 +128,7 @@ WRITERS: Dict[str, Callable[..., str]] = {
 
 
 class ThereAndBack(Case):
-    def test_each_format(self):
+    def test_each_format(self) -> None:
         for name, writer in WRITERS.items():
             chance = random.Random(name)
             for _ in range(20):
@@ -146,7 +151,7 @@ class ThereAndBack(Case):
                     self.assertEqual([level.title.strip("'") for level in levels.read(found)],
                                      [title for _, title, _ in listed], (name, text))
 
-    def test_coding(self):
+    def test_coding(self) -> None:
         chance = random.Random(4)
         for _ in range(300):
             text = "".join(chance.choice("ab") * chance.randint(1, 4)
@@ -163,7 +168,7 @@ class Broken(Case):
     """Random and cut files: a message and a status, never a traceback, and no output past the
     limits."""
 
-    def test_random_and_cut_files(self):
+    def test_random_and_cut_files(self) -> None:
         chance = random.Random(5)
         whole = [writer(chance, collection(chance)).encode() for writer in WRITERS.values()]
         whole += [self.read(os.path.join(SAMPLES, "exports", name))
@@ -179,13 +184,13 @@ class Broken(Case):
             end = chance.choice([len(data), chance.randrange(len(data) + 1)])
             self.check(bytes(data[start:end]))
 
-    def test_noise(self):
+    def test_noise(self) -> None:
         chance = random.Random(6)
         for letters in (bytes(range(256)), b"#@$.* \n", b"#0123()ab|\n-", b"<L>/evl #\n"):
             for _ in range(8):
                 self.check(bytes(chance.choice(letters) for _ in range(chance.randint(0, 300))))
 
-    def check(self, data):
+    def check(self, data: bytes) -> None:
         result, found, solved = self.convert(data, "noise.txt")
         self.assertIn(result.status, (0, 1, 2), data)
         self.assertLess(len(found) + len(solved), 1_000_000)

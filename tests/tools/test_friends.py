@@ -14,13 +14,13 @@ PROOF = "level 1\nunsolvable\n; the corner\npattern 2,2 @ *\nend\n"
 class Answers(Check):
     """Answers files of sokotool or sokoaudit are read as exports."""
 
-    def friend(self, name, *ends):
+    def friend(self, name: str, *ends: str) -> None:
         """Copies samples into a folder."""
         os.makedirs("friend", exist_ok=True)
         for end in ends:
             shutil.copy(os.path.join(SAMPLES, name + end), "friend")
 
-    def test_solutions_and_certificates_come_in_by_board(self):
+    def test_solutions_and_certificates_come_in_by_board(self) -> None:
         self.friend("first", ".xsb", ".answers")
         self.friend("zones", ".xsb")
         shutil.copy(os.path.join(SAMPLES, "zones.made"), "friend/zones.answers")
@@ -39,7 +39,7 @@ class Answers(Check):
             for name in ("mine.xsb", "mine.answers"):
                 os.remove(name)
 
-    def test_merge_of_two_collections(self):
+    def test_merge_of_two_collections(self) -> None:
         """With all of their answers, and without the other files of both."""
         self.write("a.txt", CORNER + "\n" + LOST)
         self.write("b.txt", LONG + "\n" + CORNER)
@@ -61,7 +61,7 @@ class Answers(Check):
         self.assertEqual((result.status, result.err), (0, ""))
         self.assertEqual(files, {name: self.read(name) for name in files})
 
-    def test_levels_of_answers(self):
+    def test_levels_of_answers(self) -> None:
         """Those of the same name, or the only ones beside them; otherwise it is said what is
         missing."""
         os.mkdir("in")
@@ -82,7 +82,7 @@ class Answers(Check):
         self.check("other", "turned.txt", "in/a.answers")
         self.assertIn(b"; the corner\npattern 4,2 @ *\n", self.read("other.answers"))
 
-    def test_answers_that_do_not_hold(self):
+    def test_answers_that_do_not_hold(self) -> None:
         """They are reported, and come in nowhere."""
         self.write("a.xsb", CORNER + "\n" + LONG)
         self.write("a.answers", "sokoban-answers 1\nlevel 1\nsolution\nd\nend\n"
@@ -93,7 +93,7 @@ class Answers(Check):
         self.assertEqual([it.letters for it in answers.read(self.read("mine.answers")).records],
                          [b"rRRR"])
 
-    def test_of_several_solutions_the_best(self):
+    def test_of_several_solutions_the_best(self) -> None:
         self.write("a.txt", CORNER + "Solution: udRurD\n")
         self.write("b.xsb", CORNER)
         self.write("b.answers", "sokoban-answers 1\nlevel 1\nsolution\nRurD\nend\n")
@@ -106,7 +106,7 @@ class Answers(Check):
 class Folders(Check):
     """Files in folders that are no exports."""
 
-    def setUp(self):
+    def setUp(self) -> None:
         super().setUp()
         os.makedirs("inbox/docs")
         self.write("inbox/a.txt", LOST)
@@ -114,7 +114,7 @@ class Folders(Check):
         self.write("inbox/LICENSE", "All rights are yours.\n")
         self.write("inbox/docs/shot.png", b"\x89PNG\r\n\x1a\n\0\0\0\rIHDR\xff\xfe" + bytes(99))
 
-    def test_two_collections_in_one_folder(self):
+    def test_two_collections_in_one_folder(self) -> None:
         self.write("one.txt", CORNER + "Solution: RurD\n")
         self.write("two.txt", LOST)
         shutil.rmtree("inbox")
@@ -131,7 +131,7 @@ class Folders(Check):
         self.assertEqual(text, b"Corner\nCorner\nLost\nTitle: Long")
         self.assertEqual(len(levels.read(self.read("a.xsb"))), 4)
 
-    def test_written_files_in_an_archive(self):
+    def test_written_files_in_an_archive(self) -> None:
         shutil.rmtree("inbox")
         self.write("two.txt", LOST)
         self.check("b", "two.txt")
@@ -143,7 +143,7 @@ class Folders(Check):
         self.assertEqual((result.status, result.err), (0, ""))
         self.assertEqual(self.read("a.xsb").replace(b"; File: b.xsb\n", b""), self.read("b.xsb"))
 
-    def test_files_without_a_level_are_one_note(self):
+    def test_files_without_a_level_are_one_note(self) -> None:
         said = "3 files have no level: LICENSE, README.txt, docs/shot.png\n"
         for command in ("check", "convert"):
             words = ["--seconds", "0"] if command == "check" else []
@@ -158,12 +158,12 @@ class Folders(Check):
         result = self.check("mine", "pack.zip")
         self.assertEqual((result.status, result.err), (0, "check: 1 file has no level: LICENSE\n"))
 
-    def test_file_that_is_named_is_a_problem(self):
+    def test_file_that_is_named_is_a_problem(self) -> None:
         result = self.check("mine", "inbox/a.txt", "inbox/LICENSE")
         self.assertEqual(result.status, 1)
         self.assertIn("problem: inbox/LICENSE line 1: no level in this file", self.lines(result))
 
-    def test_what_looks_like_a_level_is_a_problem(self):
+    def test_what_looks_like_a_level_is_a_problem(self) -> None:
         """Also in a folder: rows that can't be read, and letters of no level."""
         texts = ["####\n", "11111\n10001\n10231\n11111\n", "Solution: rrrrlllluuuu\n",
                  "XXXXX\nX@$.X\nXXXXX\n", '{"levels": [["####", "#@.#"]]}']
@@ -174,7 +174,7 @@ class Folders(Check):
             self.assertEqual(result.status, 1, text)
             self.assertIn(b"problem: inbox/b.txt", result.out, text)
 
-    def test_ignored_names(self):
+    def test_ignored_names(self) -> None:
         self.write("inbox/b.txt", "####\n")
         self.write("inbox/docs/b.txt", CORNER)
         for text, wanted in (("b.txt\n", 1), ("/b.txt\ndocs/*.png\n", 2), ("docs/\nb*\n", 1),

@@ -5,17 +5,20 @@ Random histories: exports go, come back, are edited, turned and put in another o
 collection comes with its answers; records, comments, titles, texts and levels are typed, each with
 a word of its own, between runs and while one is under way; older files are put back; a run is
 interrupted, killed, meets a full disk, or another one runs beside it."""
+import contextlib
 import errno
 import glob
 import importlib.util
 import os
 import random
 import re
+import shutil
 import subprocess
 import sys
+import tempfile
 import unittest.mock
 from importlib.machinery import SourceFileLoader
-from typing import Any, Callable, Dict, List, NamedTuple, Set
+from typing import Any, Callable, Dict, List, NamedTuple, Sequence, Set, Tuple
 
 from sokotool import auditor, levels
 from tests.tools.ending import EndsEarly, Killed, Meanwhile
@@ -25,8 +28,8 @@ HISTORIES = 200
 RUNS = 6
 # what a keeper may put back from a backup
 ENDS = (".xsb", ".answers", ".report", ".html", ".memory", ".kept.xsb", ".kept.answers")
-# the moments of a run at which something may be done, with the most calls until then
-MOMENTS = (("progress", 4), ("audit", 4), ("search", 1), ("write", 12))
+# the moments of a run at which something may be typed, and those at which it may end
+MOMENTS, ENDINGS = ("progress", "audit", "search", "write"), ("progress", "os.replace", "write")
 
 
 class Drawn(NamedTuple):
@@ -312,9 +315,11 @@ class Histories(Case):
             said = self.run_whole(history, "typed") if before else self.run_somehow(history)
             if said == "refused" and not before:
                 return
-            for name, data in before.items() if said == "refused" else ():
-                self.write(name, data)
             self.assert_has_words(history.words, said, f"run {number} was {said}")
+            if said == "refused":
+                for name, data in before.items():
+                    self.write(name, data)
+                history.words &= words_in(former=False)
             history.note_files()
             for _ in range(history.chance.randint(0, 2)):
                 history.change_exports()
@@ -341,9 +346,9 @@ class Histories(Case):
             return self.run_whole(history, way)
         error = {"killed": Killed(), "interrupted": KeyboardInterrupt(),
                  "full": OSError(errno.ENOSPC, "No space left on device")}[way]
-        moment = chance.choice((
-            ("os.replace", chance.randint(1, 12)), ("write", chance.randint(1, 12)),
-            ("progress", chance.randint(1, 4))))
+        moment = self.moment(chance, ENDINGS[way == "full":])
+        if way == "full" and moment[0] == "progress":
+            return self.run_whole(history, "whole")
         with EndsEarly(error, *moment):
             try:
                 result = self.check()
@@ -351,6 +356,21 @@ class Histories(Case):
                 return way
         self.assertNotIn("Traceback", result.err)
         return way
+
+    def moment(self, chance: random.Random, names: Sequence[str]) -> Tuple[str, int]:
+        """Returns a function, and one of its calls in a run that is tried first, so that this
+        moment comes. A run without such a call, as one that writes nothing, shows its progress."""
+        name, copy = chance.choice(names), tempfile.mkdtemp()
+        shutil.copytree(".", copy, dirs_exist_ok=True)
+        ends = EndsEarly(Killed(), name, 1) if name == "search" else Meanwhile(name, 0)
+        with contextlib.suppress(Killed, AssertionError), ends:
+            self.check(int(name == "search"))
+        for path in glob.glob("*.*") + glob.glob(".soko*") + glob.glob("inbox/*"):
+            os.remove(path)
+        shutil.copytree(copy, ".", dirs_exist_ok=True)
+        shutil.rmtree(copy)
+        calls = int(ends.left == 0) if name == "search" else -ends.left
+        return (name, chance.randint(1, calls)) if calls else ("progress", 1)
 
     def run_whole(self, history: History, way: str) -> str:
         """Runs check to its end, perhaps while something is typed or another check runs."""
@@ -363,13 +383,15 @@ class Histories(Case):
                 beside.append(subprocess.Popen(
                     [os.path.join(TOP, "sokotool"), "check", "mine", "inbox", "--seconds", "0"],
                     stdout=subprocess.PIPE, stderr=subprocess.PIPE))
-        name, most = history.chance.choice(MOMENTS)
-        with Meanwhile(name, history.chance.randint(1, most), act):
+        name, calls = (self.moment(history.chance, MOMENTS) if way != "whole"
+                       else (history.chance.choice(MOMENTS), 0))
+        with Meanwhile(name, calls, act):
             result = self.check(int(name == "search"))
         for other in beside:
-            self.assertEqual(b"", other.communicate()[1].replace(
-                b"check: another check of mine is running: waiting for its end\n", b""))
-            self.assertIn(other.returncode, (0, 1))
+            error = other.communicate()[1].replace(
+                b"check: another check of mine is running: waiting for its end\n", b"")
+            if b"was changed after a write was cut off, and so was another" not in error:
+                self.assertEqual((error, other.returncode in (0, 1)), (b"", True))
         if "was changed after a write was cut off, and so was another" in result.err:
             return "refused"
         if result.status == 2 and "there is no such level" in result.err:

@@ -4,12 +4,12 @@ import os
 import random
 import unittest
 import unittest.mock
-from typing import Dict, List, Tuple
+from typing import Any, Dict, List, Tuple
 
 from sokotool import answers, levels
 from tests.tools import helping
 from tests.tools.exports import ALPHA, BETA, GAMMA
-from tests.tools.helping import Case
+from tests.tools.helping import Case, Result
 from tests.tools.test_export import MAPS, Generator
 
 THREE = f"Alpha\n{ALPHA}\n\nBeta\n{BETA}\n\nGamma ray\n{GAMMA}\n"
@@ -35,7 +35,7 @@ def solved(data: bytes) -> Dict[int, str]:
 
 
 class Lists(Case):
-    def converted(self, text: str, *words: str, name: str = "three.txt"):
+    def converted(self, text: str, *words: str, name: str = "three.txt") -> Tuple[Result, Any]:
         """Converts three levels with a list of this text."""
         self.write("three.sok", THREE)
         self.write(name, text)
@@ -45,7 +45,7 @@ class Lists(Case):
         result = self.tool("convert", "out", "three.sok", name, *words)
         return result, solved(self.read("out.answers"))
 
-    def test_forms(self):
+    def test_forms(self) -> None:
         """Each form is read, in any order and in any case of the letters."""
         titles = ["Alpha", "Beta", "Gamma ray"]
         for name, forms in (("other.txt", BY_TITLE), ("three.txt", BY_TITLE + BY_NUMBER + BOTH)):
@@ -58,7 +58,7 @@ class Lists(Case):
                         self.assertEqual((result.status, found), (0, SOLVED),
                                          (spelled, result.err))
 
-    def test_numbers_count_in_the_export_of_the_same_name(self):
+    def test_numbers_count_in_the_export_of_the_same_name(self) -> None:
         self.write("one.sok", f"{BETA}\n\n{BETA}\n")
         self.write("sub-list.sol", "1. rR\n")
         result, found = self.converted("2. rR\n1. rRR\n", "one.sok", "sub-list.sol")
@@ -69,7 +69,7 @@ class Lists(Case):
         result, found = self.converted("3. LL\n", "one.sok", "one.txt")
         self.assertEqual((result.status, found), (0, {3: "LL", 5: "rR"}))
 
-    def test_the_replay_decides(self):
+    def test_the_replay_decides(self) -> None:
         """Letters go to no level that they don't solve, and to the one of several that they do."""
         self.write("two.sok", f"Same\n{ALPHA}\n\nSame\n{BETA}\n\nTwin\n{GAMMA}\n\nTwin\n{GAMMA}\n")
         self.write("two.txt", "Same\nrR\n\nSame\nrRR\n\nTwin\nLL\n\n4. Twin\nLL\n\nSame\nLL\n\n"
@@ -84,7 +84,7 @@ class Lists(Case):
             "blocked",
             "convert: 4 levels, 3 solutions, 4 left out"])
 
-    def test_several_for_a_level(self):
+    def test_several_for_a_level(self) -> None:
         """The first is kept, or the best one; those of the levels' own file come first."""
         text = "Beta\nrlrR\n\nSolution 2\nrR\n\nAlpha: rRR\n"
         result, found = self.converted(text)
@@ -99,7 +99,7 @@ class Lists(Case):
         self.assertEqual(solved(self.read("other.answers")), {1: "rRR", 2: "rlrlrR"})
         self.assertEqual(result.err.count("another solution of level 2"), 2)
 
-    def test_titles_and_words_of_letters(self):
+    def test_titles_and_words_of_letters(self) -> None:
         """A title of letters is a title, and a name of letters is no solution."""
         self.write("a.sok", f"Title: Dull\n{ALPHA}\n\nTitle: Urd\n{BETA}\n")
         self.write("b.txt", "Solved by R. Dull\n\nDull\nrRR\n\nUrd\nr\nR\n")
@@ -107,16 +107,16 @@ class Lists(Case):
         self.assertEqual((result.status, solved(self.read("out.answers"))),
                          (0, {1: "rRR", 2: "rR"}))
 
-    def test_words_are_kept(self):
+    def test_words_are_kept(self) -> None:
         """What else is written in a list is in comments on the records."""
         self.converted("From a site\n\nAlpha\nby somebody, 2003\nrRR\n\nBeta: rR\nThe end\n")
-        self.assertEqual(self.read("out.answers").decode().splitlines()[:-1], [
+        self.assertEqual(self.read("out.answers").decode().splitlines(), [
             "sokoban-answers 1", "; From a site", "; by somebody, 2003", "level 1", "solution",
             "rRR", "end", "; The end", "level 2", "solution", "rR", "end"])
         self.converted("Words of R. Dull\n")
         self.assertIn(b"\n; Words of R. Dull\n", self.read("out.xsb"))
 
-    def test_no_list(self):
+    def test_no_list(self) -> None:
         """A file without levels or solutions is reported as before."""
         for text in ("Nothing here, by R. Dull\n", "Author: Dull\n", "\n"):
             result, found = self.converted(text, name="read.me")
@@ -124,7 +124,7 @@ class Lists(Case):
             self.assertEqual(result.err.splitlines()[0],
                              "convert: read.me line 1: no level in this file")
 
-    def test_split(self):
+    def test_split(self) -> None:
         """Levels of all parts get their solutions."""
         count = 10_001
         self.write("many.sok", "".join(f"{BETA}\nTitle: L{number}\n\n"
@@ -134,7 +134,7 @@ class Lists(Case):
         self.assertEqual([solved(self.read(f"out-{part}.answers")) for part in (1, 2)],
                          [{1: "rR"}, {1: "rR"}])
 
-    def test_check(self):
+    def test_check(self) -> None:
         with unittest.mock.patch.dict(os.environ, SOKOAUDIT=helping.PROGRAM):
             self.write("three.sok", THREE)
             self.write("three.txt", "1. rRR\n2. rlrR\n2. rR\n3. LLl\n")
@@ -158,7 +158,7 @@ class Lists(Case):
         chance.shuffle(lines)
         return text, "".join(form.format(n=n, t=t, s=s) for n, t, s in lines), wanted
 
-    def test_random(self):
+    def test_random(self) -> None:
         for seed in range(200):
             text, listed, wanted = self.listed(seed)
             self.write("a.sok", text)
@@ -169,7 +169,7 @@ class Lists(Case):
                 os.remove(name)
 
     @unittest.skipUnless(os.path.isdir(MAPS), "there is no cavepacker-data")
-    def test_cavepacker(self):
+    def test_cavepacker(self) -> None:
         """Lists of a thousand solutions, by title and by number."""
         files = sorted(glob.glob(MAPS + "/*.so[kl]"))
         self.tool("convert", "mine", *files)

@@ -6,11 +6,12 @@ import re
 import shutil
 import unittest
 from contextlib import redirect_stderr, redirect_stdout
+from typing import Any, Tuple
 
 from sokotool.main import main
 
 from tests.runner import call
-from tests.tools.helping import ONE, SAMPLES, Case
+from tests.tools.helping import ONE, SAMPLES, Case, Result
 
 NODE = shutil.which("node")
 NONE = "sokoban-answers 1\n"
@@ -29,28 +30,28 @@ CHANGES = (("moves 1", "moves 2"), ("patterns 3", "patterns 4"), ("zone 5", "zon
            ("total 23", "total 22"))
 
 
-def data_of(page):
-    """Returns the data of the page's script."""
-    line, = re.findall(r"^const DATA = (.*);$", page.decode(), re.M)
-    return json.loads(line)
+def data_of(made: bytes) -> Any:
+    """Returns the data of the page."""
+    data, = re.findall('id="data">(.*?)</script>', made.decode())
+    return json.loads(data)
 
 
 class Texts(Case):
     """The texts in the page, and the status."""
 
-    def setUp(self):
+    def setUp(self) -> None:
         super().setUp()
         os.symlink(SAMPLES, "samples")
 
-    def page(self, *words, given=b""):
+    def page(self, *words: str, given: bytes = b"") -> Tuple[Result, Any]:
         result = self.tool("page", *words, given=given)
         return result, data_of(result.out) if result.out else None
 
-    def samples(self, *names, given=b""):
+    def samples(self, *names: str, given: bytes = b"") -> Tuple[Result, Any]:
         words = ("-" if name == "-" else "samples/" + name for name in names)
         return self.page(*words, given=given)
 
-    def test_samples_belong_together(self):
+    def test_samples_belong_together(self) -> None:
         for name in ("every", "first", "exports", "deadlocks"):
             result, data = self.samples(*(f"{name}.{end}" for end in ("xsb", "answers", "report")))
             self.assertEqual((result.status, result.err, data["fault"]), (0, "", ""))
@@ -59,7 +60,7 @@ class Texts(Case):
             lines = self.sample(name + ".report").decode().rstrip().split("\n")[:-1]
             self.assertEqual([it["line"] for it in data["verdicts"].values()], lines)
 
-    def test_report_of_another_collection(self):
+    def test_report_of_another_collection(self) -> None:
         for words in (("first.xsb", "every.answers", "every.report"),
                       ("every.xsb", "first.answers", "every.report"),
                       ("first.xsb", "first.answers", "every.report"),
@@ -69,7 +70,7 @@ class Texts(Case):
             self.assertTrue(data["fault"])
             self.assertIn(data["fault"], result.err)
 
-    def test_report_that_was_changed(self):
+    def test_report_that_was_changed(self) -> None:
         report = self.sample("every.report").decode()
         for old, new in CHANGES:
             self.assertIn(old, report)
@@ -77,7 +78,7 @@ class Texts(Case):
             result, data = self.samples("every.xsb", "every.answers", "-", given=changed)
             self.assertEqual((result.status, bool(data["fault"])), (1, True), new)
 
-    def test_report_that_was_cut(self):
+    def test_report_that_was_cut(self) -> None:
         lines = self.sample("first.report").splitlines(True)
         for count in (0, 3, 5):
             cut = b"".join(lines[:count])
@@ -86,7 +87,7 @@ class Texts(Case):
                     else "it isn't a report")
             self.assertEqual((result.status, data["fault"]), (1, said))
 
-    def test_titles_as_by_named(self):
+    def test_titles_as_by_named(self) -> None:
         self.write("a.xsb", "First\n" + ONE + "Author: Ben\n\n" + ONE)
         self.write("a", NONE)
         self.write("r", "level 1 missing\nlevel 2 missing\n"
@@ -94,24 +95,25 @@ class Texts(Case):
         levels = self.page("a.xsb", "a", "r")[1]["levels"]
         self.assertEqual([level["title"] for level in levels], ["First", ""])
 
-    def test_no_text_ends_the_script(self):
+    def test_no_text_ends_the_script(self) -> None:
         self.write("a.xsb", TITLES + "@DATA@ @game.js@\n" + ONE)
         self.write("a", NONE)
         self.write("r", "level 1 missing\nlevel 2 missing\n"
                    "total 2 solved 0 unsolvable 0 refused 0 missing 2\n")
         result, data = self.page("a.xsb", "a", "r")
-        self.assertEqual(result.out.count(b"</script>"), 1)
+        # the data and the script end, and nothing else
+        self.assertEqual(result.out.count(b"</script>"), 2)
         self.assertEqual([level["title"] for level in data["levels"]],
                          ['</script><b>bold</b> "quoted" \\ back', "@DATA@ @game.js@"])
 
     @unittest.skipUnless(NODE, "node is not installed")
-    def test_script_parses(self):
+    def test_script_parses(self) -> None:
         page = self.samples("first.xsb", "first.answers", "first.report")[0].out.decode()
         script, = re.findall(r"<script>\n(.*)</script>", page, re.S)
         self.write("page.js", script)
         self.assertEqual(call([str(NODE), "--check", "page.js"]), (b"", b"", 0))
 
-    def test_words(self):
+    def test_words(self) -> None:
         first = [f"samples/first.{end}" for end in ("xsb", "answers", "report")]
         result = self.tool("page", "-", "-", first[2])
         self.assertEqual((result.status, result.err),
@@ -120,7 +122,7 @@ class Texts(Case):
         self.assertEqual(result.status, 2)
         self.assertTrue(result.err.endswith("the following arguments are required: REPORT\n"))
 
-    def test_terminal(self):
+    def test_terminal(self) -> None:
         words = ["page", *(f"samples/first.{end}" for end in ("xsb", "answers", "report"))]
         with redirect_stdout(Terminal()) as screen, redirect_stderr(io.StringIO()) as err:
             self.assertEqual(main(words), 2)
@@ -133,5 +135,5 @@ class Texts(Case):
 class Terminal(io.StringIO):
     """Standard output that is a terminal."""
 
-    def isatty(self):
+    def isatty(self) -> bool:
         return True

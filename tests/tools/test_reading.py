@@ -1,11 +1,12 @@
 """Levels, the game and answers, compared with sokoaudit."""
 import random
+from typing import Optional
 
 from tests.tools.helping import Case
 from sokotool import answers, game, levels, report
 
 
-def line_of(level, record):
+def line_of(level: levels.Level, record: Optional[answers.Record]) -> str:
     """Returns the report line by the modules; certificates aren't checked."""
     board = game.Board(level)
     if board.fault:
@@ -20,7 +21,7 @@ def line_of(level, record):
 
 
 class Same(Case):
-    def compare(self, text, written):
+    def compare(self, text: bytes, written: bytes) -> int:
         """The modules and sokoaudit agree on each line of a collection and its solutions."""
         self.write("l", text)
         self.write("a", written)
@@ -35,11 +36,11 @@ class Same(Case):
                 self.assertEqual(line_of(level, record), line.text, level.rows)
         return len(found)
 
-    def test_samples(self):
+    def test_samples(self) -> None:
         for name in ("every", "first", "exports", "deadlocks"):
             self.compare(self.sample(name + ".xsb"), self.sample(name + ".answers"))
 
-    def test_random_levels(self):
+    def test_random_levels(self) -> None:
         chance = random.Random(20)
         for _ in range(5):
             drawn = [random_level(chance) for _ in range(200)]
@@ -51,7 +52,7 @@ class Same(Case):
                                     for level in found if chance.random() < .9])
             self.compare(text, written)
 
-    def test_answers_faults(self):
+    def test_answers_faults(self) -> None:
         chance = random.Random(21)
         kept = self.sample("every.answers").split(b"\n")
         self.write("l", self.sample("every.xsb"))
@@ -71,7 +72,7 @@ class Same(Case):
             except answers.Fault as fault:
                 self.assertEqual(said, f"answers line {fault.line} {fault.why}\n")
 
-    def test_writers(self):
+    def test_writers(self) -> None:
         text = answers.text([answers.solution(1, b"r" * 141),
                              answers.patterns(2, [([(3, 2), (2, 2)], None),
                                                   ([(2, 2)], [(4, 3), (3, 2)])])])
@@ -83,7 +84,7 @@ class Same(Case):
         self.assertEqual(answers.text([]), b"sokoban-answers 1\n")
 
 
-def random_level(chance):
+def random_level(chance: random.Random) -> str:
     """Rows of a small board, most often closed and with one player."""
     width, height = chance.randint(3, 8), chance.randint(3, 6)
     cells = [[chance.choice("    ##..$*@" if chance.random() < .3 else "     .$#")
@@ -103,7 +104,7 @@ def random_level(chance):
     return "\n".join(rows)
 
 
-def random_letters(chance, level):
+def random_letters(chance: random.Random, level: levels.Level) -> bytes:
     """Letters that mostly can be played on a level, up to a position that solves it."""
     board = game.Board(level)
     if board.player is None or board.fault == "size":

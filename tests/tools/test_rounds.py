@@ -4,13 +4,13 @@ import subprocess
 import sys
 import time
 import unittest.mock
-from typing import Any, Dict, List, Tuple
+from typing import Any, Callable, Dict, Iterator, List, Sequence, Tuple
 
 from sokotool import boards, levels, rounds
+from sokotool.jobs import Jobs, Result
 from sokotool.outcomes import Outcomes
 from sokotool.progress import Progress
-from sokotool.search.budget import Limits
-from sokotool.searches import Result
+from sokotool.search.budget import Budget, Limits
 from tests.tools.helping import TOP, Case
 from tests.tools.test_find import CORNER, SOLVABLE, TWO_ON_A_WALL, hall
 
@@ -24,7 +24,7 @@ sys.exit(main.main(["check", "mine", "a.txt", "--search", "100", "--jobs", "2"])
 """
 
 
-class Found:
+class Found(Jobs):
     """Searches that note which levels they get, and for how many seconds. Levels have outcomes by
     their numbers, and one takes some seconds of a clock of its own."""
 
@@ -33,12 +33,12 @@ class Found:
         self.seen: List[Tuple[float, List[int]]] = []
         self.now = 0.0
 
-    def __call__(self, some, limits, budget):
+    def __call__(self, some: Sequence[levels.Level], limits: Limits, budget: Budget) -> "Found":
         self.seen.append((limits.seconds, [level.number for level in some]))
         self.levels, self.limits, self.budget = some, limits, budget
         return self
 
-    def results(self, watch):
+    def results(self, watch: Callable[[], None] = lambda: None) -> Iterator[Result]:
         """Yields the results."""
         for level in self.levels:
             if self.budget.is_late():
@@ -47,13 +47,13 @@ class Found:
             seconds = min(self.limits.seconds, self.budget.seconds_left())
             self.now += self.takes
             what = self.outcomes.get(level.number, "late")
-            yield Result(level, what, b"found" * (what == "found"), seconds)
+            yield Result(level, what, b"found" * (what == "found"), seconds, what)
 
-    def rest(self):
+    def rest(self) -> List[Any]:
         """Returns no results."""
         return []
 
-    def at_work(self):
+    def at_work(self) -> str:
         """Returns no level."""
         return ""
 
@@ -64,7 +64,7 @@ class Rounds(Case):
         """Runs the rounds, remembers the outcomes, and returns what was handed on each time."""
         handed: List[Any] = []
 
-        def hand_on(results):
+        def hand_on(results: Sequence[Any]) -> None:
             handed.append([result.level.number for _, result in results])
             for form, result in results:
                 known.keep(form, "find", result.what, result.seconds)
@@ -74,12 +74,12 @@ class Rounds(Case):
             rounds.Rounds(Progress("check"), way, FORMS, known).run(hand_on)
         return handed
 
-    def test_seconds(self):
+    def test_seconds(self) -> None:
         for seconds, expected in ((10, [.1, 1, 10]), (600, [.1, 1, 10, 600]), (.5, [.1, .5]),
                                   (.05, [.05]), (1, [.1, 1])):
             self.assertEqual(rounds.of(seconds), expected)
 
-    def test_easy_levels_first_and_levels_that_are_done_no_more(self):
+    def test_easy_levels_first_and_levels_that_are_done_no_more(self) -> None:
         found, known = Found({3: "found", 4: "full"}), Outcomes({})
         self.run_rounds(found, known)
         self.assertEqual(found.seen, [(.1, [3, 4, 2, 1]), (1, [2, 1]), (10, [2, 1])])
@@ -87,7 +87,7 @@ class Rounds(Case):
         self.run_rounds(found, known, 20)
         self.assertEqual([seconds for seconds, some in found.seen if some == [2, 1]], [20])
 
-    def test_a_level_that_was_cut_off_is_tried_again(self):
+    def test_a_level_that_was_cut_off_is_tried_again(self) -> None:
         """It was searched for less time than its round has: the next run has it in that round."""
         found, known = Found({}, takes=.3), Outcomes({})
         for form in FORMS:
@@ -97,14 +97,47 @@ class Rounds(Case):
         self.run_rounds(found, known)
         self.assertEqual(found.seen, [(10, [3, 4, 2, 1])])
 
-    def test_results_are_handed_on_while_others_are_searched(self):
+    def test_no_round_begins_after_the_time(self) -> None:
+        found = Found({}, takes=.3)
+        self.assertEqual(self.run_rounds(found, Outcomes({}), total=.5), [[3, 4]])
+        self.assertEqual([seconds for seconds, _ in found.seen], [.1])
+
+    def test_the_line_of_the_search(self) -> None:
+        """It begins with what is done, found and left, also before results are handed on, so that
+        80 columns show that of any number of levels."""
+        shown: List[str] = []
+        found = Found({3: "found", 2: "full"}, takes=.1)
+        with unittest.mock.patch.object(Progress, "show", lambda _, line: shown.append(line)), \
+                unittest.mock.patch.object(Found, "at_work", lambda _: "level 1 for 0 s"):
+            self.run_rounds(found, Outcomes({}), seconds=.1, total=9.7)
+        self.assertEqual(shown, [f"{done} of 4 done, {count} found, {left} s left: level 1 for 0 s"
+                                 for done, count, left in ((0, 0, 10), (1, 1, 10), (2, 1, 10),
+                                                           (3, 1, 9))])
+
+    def test_an_interrupt_is_told_at_once(self) -> None:
+        """Before what was found is written, which takes long for many levels."""
+        told: List[str] = []
+
+        def hand_on(_: Sequence[Any]) -> None:
+            told.append("handed on")
+        found = Found({})
+        way = rounds.Way("find", Limits(9, 60, 1), rounds.of(9), found)
+        with unittest.mock.patch.object(Progress, "keep", lambda _, line: told.append(line)), \
+                unittest.mock.patch.object(Found, "results", side_effect=KeyboardInterrupt):
+            it = rounds.Rounds(Progress("check"), way, FORMS, Outcomes({}))
+            self.assertFalse(it.run(hand_on))
+        self.assertEqual(told, ["interrupted: writing what was found; a second interrupt ends "
+                                "without that", "handed on",
+                                "4 levels left: the next run goes on with them"])
+
+    def test_results_are_handed_on_while_others_are_searched(self) -> None:
         with unittest.mock.patch("sokotool.rounds.EVERY", .25):
             handed = self.run_rounds(Found({}, takes=.1), Outcomes({}), seconds=.1)
         self.assertEqual(handed, [[3, 4, 2], [1]])
 
 
 class Killed(Case):
-    def test_a_run_that_is_killed_keeps_what_it_found(self):
+    def test_a_run_that_is_killed_keeps_what_it_found(self) -> None:
         """Answers and outcomes are in the files while the search goes on."""
         self.write("a.txt", "\n".join([hall(60, 60), SOLVABLE]))
         with subprocess.Popen([sys.executable, "-c", SLOW], stderr=subprocess.DEVNULL,

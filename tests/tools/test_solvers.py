@@ -6,13 +6,14 @@ import signal
 import sys
 import time
 import unittest.mock
-from typing import Callable, List
+from typing import Any, Callable, List
 
-from sokotool import levels, solvers, texts
+from sokotool import jobs, levels, outcomes, solvers, texts
 from sokotool.search import refute
 from sokotool.search.budget import Budget, Limits
 from tests.tools.exports import ALPHA, BETA, GAMMA
-from tests.tools.helping import LACKING, SAMPLES, TOP, Case, is_slow, needs_copies, not_on_windows
+from tests.tools.helping import (LACKING, SAMPLES, TOP, Case, Result, is_slow, needs_copies,
+                                 not_on_windows, used)
 from tests.tools.test_check import LOST, Check
 from tests.tools.test_export import Generator
 
@@ -44,27 +45,27 @@ def solver(command: str) -> solvers.Solver:
 
 class Solvers(Case):
     def solved(self, script: str, count: int = 1, seconds: float = 20, jobs: int = 3,
-               words: str = "", total: float = 60) -> List[solvers.Result]:
+               words: str = "", total: float = 60) -> List[jobs.Result]:
         """Runs a script in Python on the first levels."""
         self.write("solver.py", "import os, signal, sys, time\n" + script)
         command = f"{sys.executable} solver.py {words}"
         return list(solvers.Solvers(solver(command), LEVELS[:count],
                                     Limits(seconds, total, jobs), Budget(total)).results())
 
-    def outcome(self, script: str, **how) -> str:
+    def outcome(self, script: str, **how: Any) -> str:
         """The outcome of a script on the first level."""
         (result,) = self.solved(script, **how)
         return result.what
 
-    def test_letters_are_found_wherever_they_are(self):
+    def test_letters_are_found_wherever_they_are(self) -> None:
         for printed in ("rRR", "rrr", "Solution: rRR", "r\\nRR", "r R R", "found: r2R", "3r",
                         "Dull rd\\nsolution (3 moves, 2 pushes): rRR in 0.1 s",
                         "\\x1b[1mrRR\\x1b[0m",
                         "rRRR\\nrRl\\nrRR\\nrlrRR", "lurd\\n\\nrr\\nr\\n", "\\xff\\x00\\nrRR"):
             (result,) = self.solved(f"sys.stdout.buffer.write(b'{printed}')")
-            self.assertEqual((result.what, result.record), (solvers.SOLVED, RECORD), printed)
+            self.assertEqual((result.what, result.record), (outcomes.SOLVED, RECORD), printed)
 
-    def test_the_level_is_given(self):
+    def test_the_level_is_given(self) -> None:
         """On standard input, and as a file."""
         board = ALPHA + "\n"
         for place in ("sys.stdin", "open(sys.argv[1])"):
@@ -73,12 +74,12 @@ class Solvers(Case):
         self.assertEqual(self.outcome("print('rRR' if sys.argv[1] == '--in=x' else '')",
                                       words="--in=x"), "solved")
 
-    def test_files_beside_the_level(self):
+    def test_files_beside_the_level(self) -> None:
         self.assertEqual(self.outcome("open(sys.argv[1] + ', Solutions.sok', 'w').write('rRR')",
                                       words="{}"), "solved")
 
     @not_on_windows
-    def test_the_folder_is_gone_or_full(self):
+    def test_the_folder_is_gone_or_full(self) -> None:
         """What a solver does to its folder costs nothing but its level."""
         self.assertEqual(self.outcome("import shutil\nshutil.rmtree(os.path.dirname(sys.argv[1]))\n"
                                       "print('rRR')", words="{}"), "solved")
@@ -87,16 +88,16 @@ class Solvers(Case):
             "os.mkfifo('fifo')\nos.symlink('/dev/zero', 'zero')\n"
             "for _ in range(300):\n os.mkdir('d')\n os.chdir('d')", words="{}"), "nothing")
 
-    def test_wrong_letters(self):
+    def test_wrong_letters(self) -> None:
         """What a replay refuses is no answer, and is told."""
         (result,) = self.solved("print('no luck\\nrR\\nllll'); print('oh', file=sys.stderr)\n"
                                 "sys.exit(3)")
-        self.assertEqual((result.what, result.record), (solvers.NOTHING, b""))
+        self.assertEqual((result.what, result.record), (outcomes.NOTHING, b""))
         for line in ("no luck", "refused: llll: move 1 wall", "refused: rR: unsolved 1", "oh",
                      "ended with status 3"):
             self.assertIn(line, result.said)
 
-    def test_no_command(self):
+    def test_no_command(self) -> None:
         for command in ("", "  ", "'a", "./nothing", "no-such-program {}"):
             self.assertRaises(texts.Stop, solvers.Solvers, solver(command), LEVELS,
                               Limits(1, 60, 1), Budget(60))
@@ -104,50 +105,62 @@ class Solvers(Case):
         os.chmod("nothing", 0o755)
         (result,) = solvers.Solvers(solver("./nothing"), LEVELS[:1], Limits(1, 60, 1),
                                     Budget(60)).results()
-        self.assertEqual(result.what, solvers.FAILED)
+        self.assertEqual(result.what, outcomes.FAILED)
         self.assertIn("cannot be run", result.said[0])
 
+    def test_a_part_of_a_name(self) -> None:
+        """Windows finds a program by its name without the end, but starts it only by the whole."""
+        end = ".cmd" if LACKING == "windows" else ""
+        self.write("bin-solve" + end, "#!/bin/sh\necho rRR\n")
+        os.chmod("bin-solve" + end, 0o755)
+        with unittest.mock.patch.dict(os.environ, PATH=f"{self.folder}{os.pathsep}/usr/bin:/bin"):
+            (result,) = solvers.Solvers(solver("bin-solve {}"), LEVELS[:1], Limits(9, 60, 1),
+                                        Budget(60)).results()
+        self.assertEqual((result.what, result.record), (outcomes.SOLVED, RECORD), result.said)
+
     @is_slow
-    def test_a_gigabyte(self):
+    def test_a_gigabyte(self) -> None:
         """Without end, or with the letters at the end; of letters alone, and in one line."""
         for block in ("b'x' * 65535 + b'\\n'", "b'r' * 65536", "b'l\\n' * 32768"):
-            began = time.monotonic()
+            began = used()
             self.assertEqual(self.outcome(f"while True: sys.stdout.buffer.write({block})"),
-                             solvers.LONG)
-            self.assertLess(time.monotonic() - began, 20)
+                             outcomes.LONG)
+            self.assertLess(used() - began, 20)
         self.assertEqual(self.outcome("for _ in range(3000): print('x' * 65535)\nprint('rRR')"),
-                         solvers.SOLVED)
+                         outcomes.SOLVED)
         self.assertEqual(self.outcome("print('rRR')\nwhile True: print('x' * 65535)"),
-                         solvers.SOLVED)
+                         outcomes.SOLVED)
 
-    def test_never_ends(self):
+    def test_never_ends(self) -> None:
         """Its time is over, also if it ignores SIGTERM; what it found counts."""
-        seconds = 3  # a Python takes long to start on a busy machine
         for ignores in ("", "signal.signal(signal.SIGTERM, signal.SIG_IGN)\n"):
-            for printed, what in (("", solvers.LATE), ("rRR", solvers.SOLVED)):
-                began = time.monotonic()
-                self.assertEqual(self.outcome(
-                    f"{ignores}print('{printed}', flush=True)\nwhile True: time.sleep(9)",
-                    seconds=seconds), what)
-                self.assertLess(time.monotonic() - began, seconds + 20)
+            for printed, what in (("", outcomes.LATE), ("rRR", outcomes.SOLVED)):
+                lines = f"{ignores}print('{printed}', flush=True)\nwhile True: time.sleep(9)"
+                for seconds in (3, 60):  # a Python takes long to start on a busy machine
+                    began = time.monotonic()
+                    found = self.outcome(lines, seconds=seconds)
+                    self.assertLess(time.monotonic() - began, seconds + 40)
+                    if found == what:
+                        break
+                self.assertEqual(found, what)
         self.assertEqual(self.outcome("os.close(1); os.close(2)\nwhile True: time.sleep(9)",
-                                      seconds=.5), solvers.LATE)
+                                      seconds=.5), outcomes.LATE)
 
     @not_on_windows
-    def test_forks(self):
+    def test_forks(self) -> None:
         """The children of a solver end with it, even if it is gone and they hold its output."""
         script = """
 for _ in range(5):
     if os.fork() == 0:
         signal.signal(signal.SIGTERM, signal.SIG_IGN)
         open(f"pid-{os.getpid()}", "w").close()
-        time.sleep(99)
+        time.sleep(999)
         os._exit(0)
 while len([it for it in os.listdir(".") if it.startswith("pid-")]) < 5: time.sleep(.01)
 print("rRR")
 """
         began = time.monotonic()
-        self.assertEqual(self.outcome(script), solvers.SOLVED)
+        self.assertEqual(self.outcome(script), outcomes.SOLVED)
         self.assertLess(time.monotonic() - began, 60)
         pids = [int(it[4:]) for it in os.listdir() if it.startswith("pid-")]
         self.assertEqual(len(pids), 5)
@@ -159,7 +172,7 @@ print("rRR")
         self.assertEqual(alive, [])
 
     @is_slow
-    def test_side_by_side(self):
+    def test_side_by_side(self) -> None:
         """Several at once, each level with its own letters, and one that dies loses only itself.
         Each waits until all have begun."""
         script = """
@@ -171,36 +184,36 @@ print("rRR" if "$ ." in text else "rR")
 """
         found = {it.level.number: it for it in self.solved(script, count=3)}
         self.assertEqual([found[number].what for number in (1, 2, 3)],
-                         [solvers.SOLVED, solvers.SOLVED, solvers.NOTHING])
+                         [outcomes.SOLVED, outcomes.SOLVED, outcomes.NOTHING])
         self.assertEqual(found[2].record, b"level 2\nsolution\nrR\nend\n")
         self.assertEqual(found[3].said, [f"ended by signal {signal.SIGTERM.value}"])
 
-    def test_time_of_all(self):
+    def test_time_of_all(self) -> None:
         """No run begins, and none goes on, when the time of all is over."""
         began = time.monotonic()
-        found = self.solved("time.sleep(9)", count=3, jobs=1, total=1)
-        self.assertEqual([it.what for it in found], [solvers.LATE])
+        found = self.solved("time.sleep(999)", count=3, jobs=1, total=1)
+        self.assertEqual([it.what for it in found], [outcomes.LATE])
         self.assertLess(found[0].seconds, 4)
-        self.assertLess(time.monotonic() - began, 8)
+        self.assertLess(time.monotonic() - began, 60)
 
-    def test_interrupt(self):
+    def test_interrupt(self) -> None:
         """When the caller stops, all runs end, and what was printed before counts."""
         self.write("solver.py", "import os, time\nprint('rRR', flush=True)\n"
                    "open('pid-' + str(os.getpid()), 'w').close()\ntime.sleep(99)\n")
         runs = solvers.Solvers(solver(f"{sys.executable} solver.py"), LEVELS, Limits(50, 60, 3),
                                Budget(60))
 
-        def watch():
+        def watch() -> None:
             if len([it for it in os.listdir() if it.startswith("pid-")]) == 3:
                 raise KeyboardInterrupt
         self.assertRaises(KeyboardInterrupt, list, runs.results(watch))
         self.assertFalse(any(is_alive(int(it[4:])) for it in os.listdir() if it[:4] == "pid-"))
         self.assertTrue(all(it.seconds < 20 for it in runs.rest()))
         self.assertEqual([(it.what, it.record) for it in runs.rest()],
-                         [(solvers.SOLVED, RECORD), (solvers.LATE, b""), (solvers.LATE, b"")])
+                         [(outcomes.SOLVED, RECORD), (outcomes.LATE, b""), (outcomes.LATE, b"")])
 
     @unittest.skipIf(LACKING, "the system ends no process with the one that started it")
-    def test_a_solver_ends_with_its_parent(self):
+    def test_a_solver_ends_with_its_parent(self) -> None:
         name = os.path.abspath("pid")
         child = os.fork()
         if not child:
@@ -234,7 +247,7 @@ def is_alive(pid: int) -> bool:
 class Checks(Check):
     """The option --solver of check."""
 
-    def solve(self, script: str, *options: str, words: str = ""):
+    def solve(self, script: str, *options: str, words: str = "") -> Result:
         """Runs check with a solver in Python, and with a search that finds nothing."""
         self.write("solver.py", "import os, signal, sys, time\n" + script)
         with unittest.mock.patch("sokotool.searches.outcome", lambda *_: refute.Outcome("late")):
@@ -249,7 +262,7 @@ class Checks(Check):
                 os.remove(name)
 
     @needs_copies
-    def test_levels_that_are_left(self):
+    def test_levels_that_are_left(self) -> None:
         """Only levels without an answer are given to the solver, and its answers are audited."""
         self.write("a.txt", f"{ALPHA}\nrRR\n\n{BETA}\n\n{GAMMA}\n\n{LOST}")
         result = self.solve("text = sys.stdin.read()\nopen('seen', 'a').write(text + ';')\n"
@@ -263,12 +276,12 @@ class Checks(Check):
         self.assertEqual(result.status, 1)
         said = result.err.splitlines()
         self.assertEqual({line.partition(" (")[0] for line in said[3:]},
-                         {"check: level 2: solved by the solver",
+                         {"check: level 2: the solver found a solution",
                           "check: level 3: the solver found nothing"})
         self.assertTrue(said[-1].endswith("(2 of 2 done, 1 found)"))
 
     @needs_copies
-    def test_verbose(self):
+    def test_verbose(self) -> None:
         self.write("a.txt", BETA)
         result = self.solve("print('thinking\\nrr\\n\\x1b[2Jup')\nsys.exit(7)", "--verbose")
         for line in ("thinking", "rr", " [2Jup", "ended with status 7"):
@@ -277,7 +290,7 @@ class Checks(Check):
         self.assertNotIn("thinking", self.solve("print('thinking')").err)
 
     @needs_copies
-    def test_a_certificate(self):
+    def test_a_certificate(self) -> None:
         """A certificate in what is printed, or in a file, counts like a solution once the audit has
         accepted it. What is refused is reported."""
         with open(os.path.join(SAMPLES, "deadlocks.xsb"), encoding="utf-8") as file:
@@ -288,7 +301,7 @@ class Checks(Check):
                        f"print('unsolvable\\nzone 3,2\\nend\\n{whole}')",
                        f"open(sys.argv[1] + '.table', 'w').write('; all\\n{listed}')"):
             result = self.solve(script, "--verbose", words="{}")
-            self.assertIn("level 1: shown unsolvable by the solver (1 of 1 done, 1 found)",
+            self.assertIn("level 1: the solver found a certificate (1 of 1 done, 1 found)",
                           result.err, script)
             self.assertEqual(self.report()[0], "level 1 unsolvable patterns 2")
             self.remove_files()
@@ -302,7 +315,7 @@ class Checks(Check):
             self.remove_files()
 
     @needs_copies
-    def test_limits_of_its_own(self):
+    def test_limits_of_its_own(self) -> None:
         """The solver runs without the search, and a limit of the search is none of the solver."""
         self.write("a.txt", f"{BETA}\n\n{GAMMA}")
         for words in (["--search", "0"], ["--seconds", "0"]):
@@ -317,14 +330,14 @@ class Checks(Check):
                          "2 levels for the solver, at most 9 s each, 1 s in all")
         self.assertIn("check: 2 levels left: the next run goes on with them", result.err)
 
-    def test_no_program(self):
+    def test_no_program(self) -> None:
         self.write("a.txt", BETA)
         result = self.tool("check", "other", "a.txt", "--solver", "no-such-program {}")
         self.assertEqual((result.status, result.out, result.err), (
             2, b"", "check: --solver: there is no program no-such-program\n"))
 
     @needs_copies
-    def test_the_lines_of_the_page(self):
+    def test_the_lines_of_the_page(self) -> None:
         """The lines for two solvers work as they are, with shorter times, for stand-ins with the
         options and files of those, which take all of their time on each level."""
         with open(os.path.join(TOP, "docs/solvers.md"), encoding="utf-8") as file:
@@ -340,21 +353,21 @@ class Checks(Check):
             words = shlex.split(line.replace("55", "1.5"))
             with unittest.mock.patch.dict(os.environ, path), unittest.mock.patch(
                     "sokotool.searches.outcome", lambda *_: refute.Outcome("late")):
-                result = self.tool("check", "mine", "a.txt", "--solver-seconds", "4", "--search",
+                result = self.tool("check", "mine", "a.txt", "--solver-seconds", "40", "--search",
                                    "1", "--jobs", "1", "--verbose", *words)
-            self.assertEqual(result.err.count("solved by the solver"), 2, result.err)
+            self.assertEqual(result.err.count("the solver found a solution"), 2, result.err)
             self.assertEqual(self.report()[-1],
                              "total 2 solved 2 unsolvable 0 refused 0 missing 0")
             self.remove_files()
 
-    def test_what_a_solver_starts(self):
+    def test_what_a_solver_starts(self) -> None:
         """Where the system can't end it with the solver, a line says so."""
         self.write("a.txt", BETA)
         said = self.solve("print('rR')").err
         self.assertEqual(said.count("what it starts may go on"), LACKING == "windows")
 
     @is_slow
-    def test_the_example(self):
+    def test_the_example(self) -> None:
         """The solver of the examples solves fifty small levels."""
         boards = [Generator(seed).level()[0] for seed in range(50)]
         self.write("a.txt", "\n\n".join("\n".join(rows) for rows in boards) + "\n")
@@ -362,4 +375,4 @@ class Checks(Check):
         results = list(solvers.Solvers(solver(f"{sys.executable} {TOP}/examples/solver.py"), found,
                                        Limits(60, 600, 2), Budget(600)).results())
         self.assertEqual(len(results), 50)
-        self.assertEqual({it.what for it in results}, {solvers.SOLVED})
+        self.assertEqual({it.what for it in results}, {outcomes.SOLVED})

@@ -8,6 +8,8 @@ from tests.tools.viewing import CORRIDOR, HASH, SAID, Page, shared
 SAMPLES = ("every", "first", "exports", "deadlocks")
 SOLVED = re.compile(r"^level (\d+) solved moves (\d+) pushes (\d+) changes (\d+)", re.M)
 LISTED = re.compile(r"^level (\d+) unsolvable patterns (\d+)", re.M)
+# for how many milliseconds of the processor's time the page may not answer
+LONGEST = 100
 # the patterns of the list that is shown which a push leaves uncovered
 OPEN_PUSHES = """view.certificate.patterns.filter(pattern => {
     const work = view.certificate.pushesOut(pattern);
@@ -20,7 +22,7 @@ OPEN_PUSHES = """view.certificate.patterns.filter(pattern => {
 class Eye(Page):
     """What is drawn."""
 
-    def test_every_status(self):
+    def test_every_status(self) -> None:
         self.samples("every")
         self.open()
         wanted = re.findall(r"^level (\d+) (\w+)", self.sample("every.report").decode(), re.M)
@@ -32,7 +34,7 @@ class Eye(Page):
         self.assertEqual(self.all(".arrow.refused", "data-at"), ["2,3"])
         self.assertEqual(self.all(".arrow.refused", "data-dir"), ["r"])
 
-    def test_counts_are_the_ones_in_the_report(self):
+    def test_counts_are_the_ones_in_the_report(self) -> None:
         for name in SAMPLES:
             report = self.sample(name + ".report").decode()
             self.samples(name)
@@ -43,7 +45,7 @@ class Eye(Page):
                 self.assertEqual(self.all(".count b"), counts, (name, number))
                 self.assertEqual(self.all(".state", "data-solved"), ["true"])
 
-    def test_accepted_lists_cover_each_push(self):
+    def test_accepted_lists_cover_each_push(self) -> None:
         for name in SAMPLES:
             report = self.sample(name + ".report").decode()
             self.samples(name)
@@ -53,7 +55,7 @@ class Eye(Page):
                 self.holds("view.lines?.length", int(lines))
                 self.assertEqual(shared.ask(OPEN_PUSHES), [], (name, number))
 
-    def test_push_into_the_boxes_of_a_pattern_but_not_its_region(self):
+    def test_push_into_the_boxes_of_a_pattern_but_not_its_region(self) -> None:
         self.page(CORRIDOR, "level 1\nunsolvable\npattern 3,2 5,2 @ 2,2\n"
                   "pattern 4,2 5,2 @ 6,2\nend\n", "level 1 refused line 4 push 2,2 r\n"
                   "total 1 solved 0 unsolvable 0 refused 1 missing 0\n")
@@ -62,20 +64,20 @@ class Eye(Page):
         self.assertEqual(self.all(".pushes li"),
                          ["push 2,2 r: no pattern covers the result"])
 
-    def test_arrow_leads_to_its_pattern(self):
+    def test_arrow_leads_to_its_pattern(self) -> None:
         self.walk("#2")
         shared.click(".arrow .shaft")
         self.assertEqual(self.all("input[type=number]", "value"), ["2"])
         self.holds(HASH, "#2:2")
 
-    def test_other_boxes(self):
+    def test_other_boxes(self) -> None:
         self.samples("deadlocks")
         for address, others in (("#4", ["6,4"]), ("#5:2", ["8,3"])):
             self.open(address)
             self.assertEqual(self.all(".other", "data-cell"), others)
         self.assertIn("start position", self.all("button"))
 
-    def test_refused_letter_and_titles(self):
+    def test_refused_letter_and_titles(self) -> None:
         self.page(TITLES + ONE, "level 1\nunsolvable\npattern 3,3 @ *\nend\n"
                   "level 2\nsolution\nRR\nend\n",
                   "level 1 refused line 4 push 2,3 r\nlevel 2 refused move 2 blocked\n"
@@ -87,7 +89,7 @@ class Eye(Page):
         self.assertEqual(self.all(".letters .bad"), ["R"])
         self.assertEqual(self.all("#copy"), ["copy"])
 
-    def test_cut_title_has_a_tooltip(self):
+    def test_cut_title_has_a_tooltip(self) -> None:
         title = "A title that is longer than any card is wide"
         self.page(f"{title}\n{ONE}")
         self.open()
@@ -95,7 +97,7 @@ class Eye(Page):
         self.assertTrue(shared.ask("document.querySelector('.card .title').scrollWidth"
                                    " > document.querySelector('.card .title').clientWidth"))
 
-    def test_report_of_other_levels(self):
+    def test_report_of_other_levels(self) -> None:
         self.print(*("samples/" + name for name in ("first.xsb", "first.answers", "every.report")))
         self.open()
         self.assertEqual(self.all("#fault"), ["The report isn't of these levels and answers: "
@@ -103,11 +105,11 @@ class Eye(Page):
         self.assertEqual(self.all(".chip.all"), [" levels 5"])
         self.assertNotIn("23", self.all("header")[0])
 
-    def test_level_says_its_collection(self):
+    def test_level_says_its_collection(self) -> None:
         self.walk("#2")
         self.assertEqual(self.all("#heading"), ["Level 2 Corridor line 8 of x.xsb"])
 
-    def test_fits_in_each_width(self):
+    def test_fits_in_each_width(self) -> None:
         self.samples("every")
         for width, dark in ((1280, False), (1000, True), (390, False), (320, True)):
             shared.size(width, 800, dark)
@@ -118,12 +120,12 @@ class Eye(Page):
                 for height in self.all("nav > *", "offsetHeight"):
                     self.assertLess(height, 40, (width, address))
 
-    def test_header_is_one_row(self):
+    def test_header_is_one_row(self) -> None:
         self.samples("every")
         self.open()
         self.assertLess(shared.ask("document.querySelector('header').offsetHeight"), 70)
 
-    def test_no_request(self):
+    def test_no_request(self) -> None:
         self.samples("every")
         self.open()
         shared.press("ArrowRight", "Enter", "n", "ArrowRight", "Escape")
@@ -134,7 +136,7 @@ class Eye(Page):
 class Addresses(Page):
     """The address after '#'."""
 
-    def test_follows_the_step(self):
+    def test_follows_the_step(self) -> None:
         self.walk("#1:0")
         length = shared.ask("history.length")
         shared.press("ArrowRight", "ArrowRight")
@@ -151,7 +153,7 @@ class Addresses(Page):
         self.open("#2:2")
         self.assertEqual(self.all("input[type=number]", "value"), ["2"])
 
-    def test_back_leads_to_the_step(self):
+    def test_back_leads_to_the_step(self) -> None:
         self.walk()
         shared.press("ArrowRight", "Enter")
         self.holds(HASH, "#1")
@@ -163,13 +165,13 @@ class Addresses(Page):
         self.holds(HASH, "#1:1")
         self.holds("document.querySelector('.count b').textContent", "1")
 
-    def test_follows_what_is_played(self):
+    def test_follows_what_is_played(self) -> None:
         self.walk("#1:0")
         shared.press(" ")
         self.holds("document.querySelector('.count b').textContent", "3")
         self.holds(HASH, "#1:3")
 
-    def test_step_of_a_level_that_was_left(self):
+    def test_step_of_a_level_that_was_left(self) -> None:
         self.walk("#1:0")
         shared.press("ArrowRight", "n")
         self.holds(HASH, "#2")
@@ -180,33 +182,21 @@ class Addresses(Page):
 class Large(Page):
     """What is large: the page answers while it works."""
 
-    # the longest time in milliseconds for which the page didn't answer
-    LONGEST = """(async work => {
-        let longest = 0, last = performance.now(), isOver = false;
-        const tick = () => {
-            longest = Math.max(longest, performance.now() - last);
-            last = performance.now();
-            if (!isOver) setTimeout(tick);
-        };
-        setTimeout(tick);
-        work();
-        while (!(%s)) await new Promise(done => setTimeout(done, 20));
-        isOver = true;
-        tick();
-        return longest;
-    })(() => { %s; })"""
+    def answers_during(self, work: str, done: str) -> None:
+        """The page is never silent for more than a tenth of a second. The least of three runs
+        counts, since others may slow it down."""
+        def watched() -> None:
+            shared.ask(f"{{ {work}; }} 0")  # a block, since it may run again
+            shared.until(done)
 
-    def answers_during(self, work, done):
-        """The page is never silent for a second. The least of three runs counts, since others may
-        hold it up."""
-        least = 1000
+        longest = 0.0
         for _ in range(3):
-            least = min(least, shared.ask(self.LONGEST % (done, work)))
-            if least < 1000:
+            longest = shared.longest(watched)
+            if longest < LONGEST:
                 break
-        self.assertLess(least, 1000)
+        self.assertLess(longest, LONGEST)
 
-    def test_long_list(self):
+    def test_long_list(self) -> None:
         row = "#" + " " * 98 + "#\n"
         level = "#" * 100 + "\n#@" + " " * 97 + "#\n" + row * 16 + "".join(
             "#" + " " * 50 + "$" + " " * 46 + ".#\n" + row for _ in range(16)) + "#" * 100 + "\n"
@@ -218,10 +208,11 @@ class Large(Page):
                   "total 1 solved 0 unsolvable 1 refused 0 missing 0\n")
         self.open()
         done = "document.querySelectorAll('.arrow').length === 64"
-        self.answers_during("go(1); view.show(65535)", done)
+        show = "const show = () => view.keys.End ? view.show(65535) : setTimeout(show, 20); show()"
+        self.answers_during(f"go(1); {show}", done)
         self.assertEqual(self.all(".pushes button")[0], "push 52,18 d: covered by pattern 2")
 
-    def test_large_levels(self):
+    def test_large_levels(self) -> None:
         level = ("#" * 255 + "\n#@$." + " " * 250 + "#\n" + ("#" + " $" * 126 + " #\n") * 252
                  + "#" * 255 + "\n\n")
         self.page(level * 40)

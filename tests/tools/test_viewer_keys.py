@@ -1,4 +1,6 @@
 """The page in a real browser, by keyboard and by ear."""
+from typing import Any, List
+
 from tests.tools.helping import ONE
 from tests.tools.viewing import CARD, FOCUS, HASH, SAID, Page, shared
 
@@ -12,14 +14,14 @@ IN_VIEW = """(element => {
 class Keys(Page):
     """Everything by keyboard."""
 
-    def many(self, count):
+    def many(self, count: int) -> None:
         self.page("\n".join(f"Level {n}\n{ONE}" for n in range(1, count + 1)))
         self.open()
 
-    def level(self):
+    def level(self) -> Any:
         return shared.ask(CARD)
 
-    def test_tab_goes_through_all_levels(self):
+    def test_tab_goes_through_all_levels(self) -> None:
         shared.size(1000, 700)
         self.many(100)
         shared.press("Tab")
@@ -32,14 +34,14 @@ class Keys(Page):
             shared.press("Tab")
         self.assertEqual(seen, [str(n) for n in range(1, 101)] + [""])
 
-    def test_tab_goes_back(self):
+    def test_tab_goes_back(self) -> None:
         shared.size(1000, 700)
         self.many(100)
         shared.press("End", *["Shift+Tab"] * 60)
         self.assertEqual(self.level(), "40")
         self.assertTrue(shared.ask(IN_VIEW))
 
-    def test_ten_thousand_levels(self):
+    def test_ten_thousand_levels(self) -> None:
         self.many(10000)
         self.assertTrue(10 < len(self.all(".card")) < 200)
         shared.press("End")
@@ -50,7 +52,7 @@ class Keys(Page):
         shared.press("Home")
         self.assertEqual(self.level(), "1")
 
-    def test_arrows_move_the_focus(self):
+    def test_arrows_move_the_focus(self) -> None:
         self.many(40)
         tops = shared.ask("[...document.querySelectorAll('.card')]"
                           ".map(card => card.getBoundingClientRect().top)")
@@ -64,7 +66,7 @@ class Keys(Page):
             wanted += by
             self.assertEqual(self.level(), str(wanted), key)
 
-    def test_focus_opens_and_comes_back(self):
+    def test_focus_opens_and_comes_back(self) -> None:
         self.many(200)
         shared.press("/", "L", "e", "v", "e", "l", "Enter")
         self.assertEqual(self.level(), "1")
@@ -79,7 +81,7 @@ class Keys(Page):
         shared.press("Tab")
         self.assertEqual(self.level(), "60")
 
-    def test_chips_keep_the_focus(self):
+    def test_chips_keep_the_focus(self) -> None:
         self.samples("every")
         self.open()
         shared.ask("document.querySelector('.chip.unsolvable').focus()")
@@ -89,7 +91,7 @@ class Keys(Page):
         self.assertEqual(self.all(".chip", "aria-pressed"), pressed)
         self.assertEqual(self.all(".card", "data-level"), ["2", "3"])
 
-    def test_focus_moves_on_from_a_level_that_is_hidden(self):
+    def test_focus_moves_on_from_a_level_that_is_hidden(self) -> None:
         self.samples("every")
         self.open()
         shared.press("ArrowRight", "u")
@@ -100,7 +102,7 @@ class Keys(Page):
         self.assertEqual(self.level(), "23")
         self.assertEqual(len(self.all(".card")), 23)
 
-    def test_text_fields_keep_their_keys(self):
+    def test_text_fields_keep_their_keys(self) -> None:
         self.walk()
         shared.press("/", "n", "s", "/", "?", "Home", "ArrowRight")
         self.assertEqual(shared.ask(FOCUS + ".value"), "ns/?")
@@ -119,7 +121,7 @@ class Keys(Page):
         shared.press("p", "ArrowUp")
         self.holds(HASH, "#2:2")
 
-    def test_sliders_keep_their_keys(self):
+    def test_sliders_keep_their_keys(self) -> None:
         self.walk("#1:0")
         at = self.all(".count b")
         shared.ask("document.querySelector('label input').focus()")
@@ -134,14 +136,14 @@ class Keys(Page):
         shared.press("n")
         self.holds(HASH, "#2")
 
-    def test_push_leads_to_its_pattern(self):
+    def test_push_leads_to_its_pattern(self) -> None:
         self.walk("#2")
         shared.ask("document.querySelector('.pushes button').focus()")
         shared.press("Enter")
         self.assertEqual(self.all("input[type=number]", "value"), ["2"])
         self.assertTrue(shared.ask(FOCUS + ".closest('.side') !== null"))
 
-    def test_keys_are_listed(self):
+    def test_keys_are_listed(self) -> None:
         self.walk()
         shared.press("?")
         self.assertEqual(shared.ask("document.getElementById('keys').open"), True)
@@ -153,11 +155,11 @@ class Keys(Page):
 class Ear(Page):
     """What a screen reader is offered."""
 
-    def pictures(self, address):
+    def pictures(self, address: str) -> List[str]:
         self.open(address)
         return [name for role, name in shared.spoken() if role == "image"]
 
-    def test_board_has_a_name(self):
+    def test_board_has_a_name(self) -> None:
         self.walk()
         self.assertEqual(self.pictures("#1:0"), ["boxes 4,2 4,3; player 2,2; box on a goal 4,3"])
         self.assertEqual(self.pictures("#1:2"), ["boxes 5,2 4,3; player 4,2; box on a goal 4,3"])
@@ -165,7 +167,7 @@ class Ear(Page):
         self.samples("every")
         self.assertEqual(self.pictures("#5"), ["box 3,2; no player"])
 
-    def test_step_is_said(self):
+    def test_step_is_said(self) -> None:
         self.walk("#1:0")
         self.assertIn(("status", ""), shared.spoken())
         self.assertEqual(shared.ask(SAID), "")
@@ -176,19 +178,19 @@ class Ear(Page):
         self.holds(SAID, "Letter 3 of 6: step left. 1 box off the goals. "
                    "Letter 4 is refused here: case.")
 
-    def test_pattern_is_said(self):
+    def test_pattern_is_said(self) -> None:
         self.walk("#2")
         shared.press("ArrowRight")
         self.holds(SAID, "Pattern 2 of 2. Line 9. 2 boxes, 2 cells where the player may be, "
                    "0 pushes out.")
 
-    def test_levels_found_are_said(self):
+    def test_levels_found_are_said(self) -> None:
         self.walk()
         self.assertEqual(shared.ask(SAID), "")
         shared.press("/", "c", "o", "r")
         self.holds(SAID, "1 level")
 
-    def test_names(self):
+    def test_names(self) -> None:
         self.walk()
         names = shared.spoken()
         for pair in (("link", "level 2 unsolvable patterns 2. Corridor"),

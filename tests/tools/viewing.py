@@ -64,8 +64,8 @@ class Page(Case):
     def all(self, selector: str, of: str = "textContent") -> List[Any]:
         """What each element that fits a selector has of this property or attribute."""
         selector, of = json.dumps(selector), json.dumps(of)
-        return shared.ask(f"[...document.querySelectorAll({selector})]"
-                          f".map(e => e[{of}] ?? e.getAttribute({of}))")
+        return list(shared.ask(f"[...document.querySelectorAll({selector})]"
+                               f".map(e => e[{of}] ?? e.getAttribute({of}))"))
 
     def holds(self, expression: str, value: Any) -> None:
         """Waits until an expression in the page has this value."""

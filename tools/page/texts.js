@@ -1,9 +1,8 @@
-// Reads the two texts for the page: levels with their titles, records, and solutions below levels.
-// Nothing here decides what counts: that is the report. A text is a string with one character for
-// each byte, and a span of it is { at, end }.
+// Reads the two texts for the page: titles, and records. Where the levels are, the program says. Nothing here decides what counts: that is
+// the report, and a level that is opened is judged once more from what is drawn. A text is a string with one character for each byte, and a
+// span of it is { at, end }.
 
-const MOST_SIDE = 255, MOST_TITLE = 1000, MOST_CACHED = 100000, MOST_LETTERS = 1 << 25;
-const LONG = 8;
+const MOST_BYTES = 33554432, MOST_SIDE = 255, MOST_TITLE = 1000, MOST_CACHED = 100000;
 
 function textOf(bytes) {
     const parts = [];
@@ -145,125 +144,50 @@ class Gap {
     }
 }
 
-// ---- letters below a level
-
-const HEADING = /^\W*(?:[A-Za-z']+\s+){0,2}(?:solution|lurd|moves)\b/i;
-const isLetters = line => ONLY_LETTERS.test(line) && /[lurdLURD]/.test(line);
-
-// the letters after the heading of a solution, perhaps "", or null if the line is no heading
-function headed(line) {
-    const match = HEADING.exec(line.slice(0, 200));
-    if (!match) return null;
-    const rest = line.slice(match[0].length);
-    return rest.slice(Math.max(rest.lastIndexOf(":"), rest.lastIndexOf("=")) + 1);
-}
-
-// letters written out: 3r is rrr, and 2(rU) is rUrU. Returns "" if that is none of it, or too long
-function expanded(text) {
-    let letters = text.replace(/[ \t]/g, "");
-    for (let round = 0; /[0-9()]/.test(letters); round++) {
-        const before = letters;
-        let length = 0;
-        const repeated = (_, times, group, count, letter) => {
-            const some = group ?? letter, number = Number(times || count || 1);
-            length += some.length * number;
-            return length > MOST_LETTERS ? "" : some.repeat(number);
-        };
-        letters = letters.replace(/(\d*)\(([lurdLURD]*)\)|(\d+)([lurdLURD])/g, repeated);
-        if (length > MOST_LETTERS || letters === before || round > 20) return "";
-    }
-    return letters;
-}
-
-// the groups of letters in the text between two levels: { line, letters, isHeaded }
-class Below {
-    groups = [];
-    open = null;
-    isHeaded = false;
-    add(line, number, { isLetters: areLetters, rest }) {
-        if (areLetters && this.open) {
-            this.open.parts.push(line);
-        } else if (areLetters) {
-            this.start(line, number);
-        } else {
-            this.open = null;
-            this.isHeaded = rest !== null || this.isHeaded && !line.trim();
-            if (rest && isLetters(rest)) this.start(rest, number);
-        }
-    }
-    start(line, number) {
-        this.open = { line: number, parts: [line], isHeaded: this.isHeaded };
-        this.groups.push(this.open);
-    }
-}
-
 // ---- levels
 
-// what a line between levels says: with the key Title, with another key, as plain text, and whether
-// it is letters or heads them
+// what a line between levels says: with the key Title, with another key, or as plain text
 function sayingOf(line) {
     const isShort = line.length < MOST_TITLE, low = lowered(isShort ? line : "");
     const title = after(TITLE, line, low), name = title === null ? after(NAME, line, low) : null;
     const isPlain = isShort && title === null && name === null, above = isPlain ? titleIn(line) : "";
-    return { title, name, above, isBlank: isBlank(line), isLetters: isLetters(line), rest: headed(line),
-        isShort: isPlain && !above && !isBlank(line) && ONLY_LETTERS.test(line) };
+    return { title, name, above, isBlank: isBlank(line), isShort: isPlain && !above && !isBlank(line) && ONLY_LETTERS.test(line) };
 }
 
-// the levels of a text: number, first line, title, span, and the groups of letters below
-function levelsIn(text) {
+// the levels at these spans of a text: number, first line, title and span
+function levelsIn(text, spans) {
     const levels = [], gaps = [new Gap(true)], sayings = new Map();
-    let wasRow = false, below = new Below();
     const start = text.startsWith("\xef\xbb\xbf") ? 3 : 0;
-    eachLine(text, (line, number, at, end, count) => {
-        const row = isRow(line);
-        if (row && !wasRow) {
-            below = new Below();
-            levels.push({ number: levels.length + 1, line: number, title: "", at, end, below });
+    eachLine(text, (line, number, at, _, count) => {
+        const next = spans[levels.length];
+        if (at === next?.at) {
+            levels.push({ number: levels.length + 1, line: number, title: "", ...next });
             gaps.push(new Gap(false));
-        } else if (row) {
-            levels.at(-1).end = end;
-        } else {
+        } else if (!(at < levels.at(-1)?.end)) {
             let saying = sayings.get(line);
             if (!saying) {
                 saying = sayingOf(line);
                 if (sayings.size < MOST_CACHED) sayings.set(line, saying);
             }
             gaps.at(-1).add(line, count, saying);
-            below.add(line, number, saying);
         }
-        wasRow = row;
     }, start, true);
     const titles = gaps.map(gap => gap.keyed), last = titles.at(-1);
     const areAbove = titles[0] && !last && (levels.length === 1 || titles.slice(1, -1).some(it => it));
-    levels.forEach((level, i) => {
-        level.title = titles[areAbove ? i : i + 1] || gaps[i].plain;
-        level.below = level.below.groups;
-    });
+    levels.forEach((level, i) => level.title = titles[areAbove ? i : i + 1] || gaps[i].plain);
     return levels;
 }
 
-// the rows of a level's span, for a drawing: those of one that is too large are cut
-const rowsIn = text => linesOf(text.slice(0, MOST_SIDE << 17)).slice(0, MOST_SIDE)
-    .map(row => row.slice(0, MOST_SIDE));
-
-// An answers text made of the letters below the levels. Of several for a level, the first that
-// solves it is taken, or else the first that can be meant as one; `left` has the lines of the
-// others. `solves` asks the program.
-function answersBelow(levels, solves) {
-    const records = [], left = [];
-    let taken = 0;
-    for (const level of levels) {
-        const groups = level.below.map(({ line, parts, isHeaded }) => ({ line,
-            isMeant: isHeaded || parts.length > 1 || parts[0].trim().length >= LONG,
-            letters: expanded(parts.join("")) }));
-        const chosen = groups.find(({ letters }) => letters && solves(level, letters))
-            ?? groups.find(({ isMeant, letters }) => isMeant && letters);
-        left.push(...groups.filter(it => it.isMeant && it !== chosen).map(({ line }) => line));
-        if (!chosen) continue;
-        taken++;
-        records.push(`level ${level.number}`, "solution", ...chosen.letters.match(/.{1,70}/g), "end");
+// The rows in a span of bytes, for a drawing: those of a level that is too large are cut.
+function rowsIn(bytes, { at, end }) {
+    const rows = [];
+    while (at < end && rows.length < MOST_SIDE) {
+        const found = bytes.indexOf(10, at), stop = found < 0 || found >= end ? end : found;
+        const last = found === stop && stop > at && bytes[stop - 1] === 13 ? stop - 1 : stop;
+        rows.push(textOf(bytes.subarray(at, Math.min(last, at + MOST_SIDE))));
+        at = stop + 1;
     }
-    return { text: ["sokoban-answers 1", ...records, ""].join("\n"), taken, left };
+    return rows;
 }
 
 // ---- records
@@ -295,20 +219,25 @@ function bodyIn(text, first) {
     return body.slice(2, -1);
 }
 
-// An answers text with made records for the levels that have none in the first text.
+// An answers text with made records put into it for the levels that have none: each after the record of the level before, so that what stands
+// between the old ones stays. A made zone raises a header of version 1.
 function mergedAnswers(text, made) {
-    const records = new Map(), added = [];
-    for (const [level, { at, end }] of recordsIn(text)) records.set(level, text.slice(at, end));
+    const records = recordsIn(text), parts = [], added = [];
+    const start = text.indexOf("\n") + 1 || text.length, levels = [...records.keys()];
+    let head = text.slice(0, start).replace(/\n?$/, "\n"), from = start, isRaised = false, next = 0;
     for (const [level, { at, end }] of recordsIn(made)) {
         if (records.has(level)) continue;
-        records.set(level, made.slice(at, end));
+        while (levels[next] < level) next++;
+        const to = next ? records.get(levels[next - 1]).end : start, record = made.slice(at, end);
+        parts.push(text.slice(from, to).replace(/([^\n])$/, "$1\n"), record);
+        if (/\nzone /.test(record) && / 1\r?\n$/.test(head)) {
+            head = head.replace("1", "2");
+            isRaised = true;
+        }
+        from = to;
         added.push(level);
     }
-    if (!added.length) return { text, added };
-    const sorted = [...records.keys()].sort((a, b) => a - b).map(level => records.get(level));
-    const ended = sorted.map(record => record.endsWith("\n") ? record : `${record}\n`);
-    const version = ended.some(record => /\nzone /.test(record)) ? 2 : 1;
-    return { text: `sokoban-answers ${version}\n${ended.join("")}`, added };
+    return { text: added.length ? head + parts.join("") + text.slice(from) : text, added, isRaised };
 }
 
 // ---- the data of the viewer's page
@@ -322,25 +251,67 @@ function verdictsIn(report) {
     return verdicts;
 }
 
-// gives an object a property that is made when it is first asked for
-function lazily(object, name, make) {
-    Object.defineProperty(object, name, { configurable: true, enumerable: true, get() {
-        const value = make();
-        Object.defineProperty(object, name, { value, enumerable: true, writable: true });
-        return value;
-    } });
-    return object;
+// A level as the viewer reads it. Its rows are made when they are asked for.
+class LevelData {
+    #bytes;
+    #span;
+    #rows;
+    constructor({ number, line, file, title, at, end }, bytes) {
+        Object.assign(this, { number, line, file, title });
+        this.#bytes = bytes;
+        this.#span = { at, end };
+    }
+    get rows() {
+        return this.#rows ??= rowsIn(this.#bytes, this.#span);
+    }
+    toJSON() {
+        const { number, line, file, title, rows } = this;
+        return { number, line, file, title, rows };
+    }
 }
 
-// the viewer's data, of which rows and records are made when they are asked for. The texts are bytes
-function dataOf({ names, found, records, levels, answers, report }) {
-    const cut = (bytes, { at, end }) => textOf(bytes.subarray(at, end));
-    const data = { names, fault: "", records: {}, verdicts: verdictsIn(report),
-        levels: found.map(({ number, line, title, at, end }) => lazily({ number, line, title }, "rows",
-            () => rowsIn(cut(levels, { at, end })))) };
-    for (const [level, record] of records) {
-        lazily(data.records, level, () => ({ kind: record.kind,
-            body: bodyIn(cut(answers, record), record.line) }));
+// A record as the viewer reads it: its kind, the number of its first line, its bytes, and its body, which is made when it is asked for.
+class RecordData {
+    #bytes;
+    #span;
+    #body;
+    constructor({ kind, line, at, end }, bytes) {
+        Object.assign(this, { kind, line });
+        this.#bytes = bytes;
+        this.#span = [at, end];
+    }
+    get bytes() {
+        return this.#bytes.slice(...this.#span);
+    }
+    get body() {
+        return this.#body ??= bodyIn(textOf(this.bytes), this.line);
+    }
+    set body(body) {
+        this.#body = body;
+    }
+    toJSON() {
+        return { kind: this.kind, body: this.body };
+    }
+}
+
+const SLICE = 500;
+// A result in slices, so that no message is long to read: some levels, the records of some, and the verdicts on some.
+function slicesOf({ found, records, report }) {
+    const all = [...records], verdicts = Object.entries(verdictsIn(report)), slices = [];
+    for (let at = 0; at < Math.max(1, found.length); at += SLICE) {
+        slices.push({ found: found.slice(at, at + SLICE), records: all.slice(at, at + SLICE), verdicts: verdicts.slice(at, at + SLICE) });
+    }
+    return slices;
+}
+
+// The data of the viewer's page, made of slices. The two texts are bytes. Pauses after each slice.
+function* dataOf({ names, slices, levels, answers }) {
+    const data = { names, fault: "", verdicts: {}, levels: [], records: {}, sources: {} };
+    for (const { found, records, verdicts } of slices) {
+        for (const it of found) data.levels.push(new LevelData(it, levels));
+        for (const [level, record] of records) data.records[level] = new RecordData(record, answers);
+        for (const [level, verdict] of verdicts) data.verdicts[level] = verdict;
+        yield;
     }
     return data;
 }

@@ -1,17 +1,23 @@
-// The program's thread: it calls the proved program on bytes, and reads the texts for the page.
+// The program's thread: it reads files, calls the proved program on bytes, and keeps nothing between two tasks but the module.
 
-const FAULT = 2, REPORT_ROOM = 1 << 20, MADE_ROOM = 1 << 22, MAP_ROOM = 1 << 17;
-const SOLUTION_KIND = 1, SOLVED = 1, OUTCOME = 9, TOLD = 200;
-// the module, the texts of the last run, how long the program ran in this task and the most memory
-// that it took
-let module, current, took, memory, told = 0, tell = () => {};
+const FAULT = 2, REPORT_ROOM = 1 << 20, MADE_ROOM = 1 << 22, MAP_ROOM = 1 << 17, SAID_EVERY = 200, MOST_LINES = 1 << 21;
+const NO_MEMORY = 1, SOLUTION_KIND = 1, CERTIFICATE_KIND = 2, OUTCOME = 9, LINE = 13, MOST_LEVELS = 10000;
+const HEADER = /^sokoban-answers/, HAS_ROW = /^(?:\xef\xbb\xbf)?[-#@+$*._ ]*#[-#@+$*._ ]*\r?$/m;
+const LEFT_OUT = "The solutions beside the levels are left out, since there are answers", NO_ANSWERS = "sokoban-answers 1\n", ROW = "A row has a wall # and no other characters than @ + $ * . - _ and blanks.";
+// the words of a verdict in numbers: why a level, a letter or a line is refused
+const WHYS = " size player box goals open letter wall blocked case syntax count board seed goals".split(" ");
+// the module, how long the program ran in this task, and the most memory that it took
+let module, took, memory;
+
+// what ends a task with a message to the user
+class Fault extends Error {}
 
 // One run's memory. It is given back with the whole instance, since WebAssembly can't shrink it.
 class Machine {
     static async start() {
         const machine = new Machine();
         machine.calls = (await WebAssembly.instantiate(module)).exports;
-        machine.outcome = machine.take(8 * 13);
+        machine.outcome = machine.take(8 * LINE);
         return machine;
     }
     take(length) {
@@ -27,9 +33,16 @@ class Machine {
         this.bytes(place, bytes.length).set(bytes);
         return [place, bytes.length];
     }
-    number(index) {
-        return Number(new DataView(this.calls.memory.buffer).getBigUint64(
-            this.outcome + 8 * index, true));
+    numbers(count, place = this.outcome) {
+        const view = new DataView(this.calls.memory.buffer);
+        return Array.from({ length: count }, (_, i) => Number(view.getBigUint64(place + 8 * i, true)));
+    }
+    // where the levels of a text are, by the place and the length of its bytes
+    spans(words, room = MOST_LEVELS) {
+        const place = this.take(16 * room), count = this.calls.levels(...words, place, room) >>> 0;
+        if (count > room) return this.spans(words, count);
+        const numbers = this.numbers(2 * count, place);
+        return Array.from({ length: count }, (_, i) => ({ at: numbers[2 * i], end: numbers[2 * i + 1] }));
     }
     // calls the program until the text has room; returns its status, its text, and its numbers
     text(name, words, room) {
@@ -38,12 +51,9 @@ class Machine {
             const status = this.calls[name](...words, place, room, this.outcome);
             took += performance.now() - began;
             memory = Math.max(memory, this.calls.memory.buffer.byteLength);
-            const numbers = Array.from({ length: OUTCOME }, (_, i) => this.number(i));
-            if (status === FAULT) return { status, fault: this.fault(), numbers };
-            if (numbers[0] <= room) {
-                return { status, bytes: this.bytes(place, numbers[0]).slice(), numbers };
-            }
-            this.calls.give(place);
+            const numbers = this.numbers(OUTCOME);
+            if (status === FAULT) throw new Fault(this.fault());
+            if (numbers[0] <= room) return { status, bytes: this.bytes(place, numbers[0]).slice(), numbers };
             room = numbers[0];
         }
     }
@@ -51,15 +61,84 @@ class Machine {
         const place = this.take(64);
         return textOf(this.bytes(place, this.calls.fault(this.outcome, place, 64)));
     }
-    // whether letters solve a level
-    solves(rows, letters) {
-        const words = [...this.put(rows), SOLUTION_KIND,
-            ...this.put(bytesOf(letters.replace(/.{70}/g, "$&\n")))];
-        const isDone = this.calls.judge(...words, this.outcome) === 0;
-        this.calls.give(words[0]);
-        this.calls.give(words[3]);
-        return isDone && this.number(0) === SOLVED;
+    // The verdict on one level with one record, in the words of the report after the level's number. `lines` has the line numbers of the body.
+    judged(rows, kind, body, lines) {
+        const fault = this.calls.judge(...this.put(rows), kind, ...this.put(body), this.outcome);
+        const [status, why, moves, pushes, changes, patterns, cells, boxes, number, line, column, row, letter] = this.numbers(LINE);
+        const at = `refused line ${lines[line - 1]}`, push = `${column},${row} ${String.fromCharCode(letter)}`;
+        if (fault) return fault === NO_MEMORY ? "" : `fault ${fault}`;
+        return ["", `solved moves ${moves} pushes ${pushes} changes ${changes}`,
+            `unsolvable patterns ${patterns}`, `unsolvable zone ${cells}`, `refused board ${WHYS[why]}`,
+            `refused move ${number} ${WHYS[why]}`, `refused unsolved ${boxes}`, `${at} ${WHYS[why]}`,
+            "refused start", `${at} push ${push}`, `${at} leak ${push}`, `${at} fits`][status];
     }
+}
+
+// ---- reading
+
+// The bytes of a file, or of what is typed, up to one more than the limit, since the program itself refuses longer texts.
+async function bytesIn(source) {
+    if (typeof source === "string") return new TextEncoder().encode(source);
+    try {
+        return new Uint8Array(await source.slice(0, MOST_BYTES + 1).arrayBuffer());
+    } catch (error) {
+        throw new Fault(`cannot read the file: ${error.message}`);
+    }
+}
+
+// The bytes of answers, in UTF-8 and without a mark before their first line.
+function unmarked(bytes) {
+    const { text, encoding } = readBytes(bytes.subarray(0, 64));
+    if (!HEADER.test(text)) return bytes;
+    return encoding ? bytesOf(utf8(readBytes(bytes).text)) : bytes.subarray(bytes[0] === 0xef ? 3 : 0);
+}
+
+// Whether a file has letters and no level.
+async function isList(file) {
+    const parts = await partsOf(file.name, await bytesIn(file));
+    parts.forEach(findRows);
+    return !parts.some(({ lines }) => lines.some(({ row }) => row)) && parts.some(({ lines }) => lettersIn(lines).length);
+}
+
+const linesIn = bytes => bytes.reduce((count, byte) => count + (byte === 10), 0);
+
+// The levels and answers of sources. Without answers, or if no line is a row, the levels are read in all forms.
+async function textsOf({ levels: source, lists, answers: given, names }, tell) {
+    const levels = await bytesIn(source), answers = given && unmarked(await bytesIn(given)), notes = [];
+    const asTheyAre = { levels, answers: answers ?? bytesOf(NO_ANSWERS), names, notes, said: [] };
+    if (levels.length > MOST_BYTES) return asTheyAre;
+    if (answers && HAS_ROW.test(textOf(levels))) {
+        const lines = solutionLines(textOf(levels));
+        if (lines.length) notes.push(`${LEFT_OUT}: line${lines.length > 1 ? "s" : ""} ${few(lines)}.`);
+        return asTheyAre;
+    }
+    if (linesIn(levels) > MOST_LINES) {
+        notes.push(`The levels have more than ${MOST_LINES} lines, so they are read as plain rows, and no solution is looked for.`);
+        return asTheyAre;
+    }
+    const parts = await partsOf(names[0], levels);
+    for (const it of lists) parts.push(...await partsOf(it.name, await bytesIn(it)));
+    const machine = await Machine.start(), spansOf = it => machine.spans(machine.put(bytesOf(it)));
+    const { text, levels: found, answers: made, isSame, taken, said } = readParts(parts, spansOf, tell);
+    if (!found.length && !said.length) said.push({ place: "", words: ROW });
+    if (!found.length && !answers) throw Object.assign(new Fault("No level is found."), { said });
+    if (!found.length) return { levels, answers, names, said, notes: ["No level is found."] };
+    if (!answers) notes.push(`${many(taken, "solution")} found for ${many(found.length, "level")}.`);
+    else if (taken) notes.push(`${LEFT_OUT}: of ${many(taken, "level")}.`);
+    return { levels: isSame ? levels : bytesOf(text), found: isSame ? null : found, answers: answers ?? bytesOf(made),
+        names: answers ? names : [names[0], "the solutions in it"], notes, said };
+}
+
+// ---- tasks
+
+async function audited({ levels, answers, names, found, notes, said }, tell) {
+    const machine = await Machine.start();
+    tell("Auditing");
+    const words = machine.put(levels), { status, bytes, numbers } = machine.text("audit", [...words, ...machine.put(answers)], REPORT_ROOM);
+    const [, count, , , , missing] = numbers;
+    const report = textOf(bytes);
+    return { levels, answers, names, notes, said, status, report, totals: { count, missing },
+        slices: slicesOf({ found: found ?? levelsIn(textOf(levels), machine.spans(words)), records: recordsIn(textOf(answers)), report }) };
 }
 
 const tasks = {
@@ -67,94 +146,68 @@ const tasks = {
         module = await WebAssembly.compile(bytesOf(atob(wasm)));
         return {};
     },
-    // audits the texts; without answers, with the solutions below the levels
-    async audit({ levels, answers, names }) {
+    // Tells files apart: answers by their first line or else by their names, and lists of letters if there are levels too.
+    async sort({ files, hasLevels }) {
+        const kinds = [];
+        for (const file of files) kinds.push(HEADER.test(readBytes((await bytesIn(file.slice(0, 256)))).text) ? "answers" : "levels");
+        const named = files.findIndex(({ name }) => /answers/i.test(name));
+        if (files.length === 2 && !kinds.includes("answers") && named >= 0) kinds[named] = "answers";
+        const isMore = hasLevels && !kinds.includes("answers");
+        if (kinds.filter(kind => kind === "levels").length + isMore < 2) return { kinds };
+        for (const [i, file] of files.entries()) if (kinds[i] === "levels" && await isList(file)) kinds[i] = "list";
+        return { kinds };
+    },
+    async audit(sources, tell) {
         tell("Reading the levels");
-        const found = levelsIn(textOf(levels)), notes = [];
-        current = { levels, answers, names, found };
-        if (answers) {
-            const count = found.filter(({ below }) => below.some(({ isHeaded }) => isHeaded)).length;
-            if (count) notes.push(`${many(count, "solution")} below a level: not read, since there are answers.`);
-        } else {
-            const machine = await Machine.start();
-            const below = answersBelow(found, (level, letters) => {
-                tell(`Trying the letters below level ${level.number} of ${found.length}`);
-                return machine.solves(levels.subarray(level.at, level.end), letters);
-            });
-            current.answers = bytesOf(below.text);
-            current.names = [names[0], "the solutions below its levels"];
-            notes.push(...notesOn(below, found.length));
-        }
-        return audited(notes);
+        return audited(await textsOf(sources, tell), tell);
     },
-    // adds certificates to the levels without a record, and audits again
-    async make() {
-        const { levels, answers } = current;
-        const machine = await Machine.start();
-        const made = machine.text("make", machine.put(levels), MADE_ROOM);
-        if (made.fault) return { fault: made.fault };
-        const merged = mergedAnswers(textOf(answers), textOf(made.bytes));
-        current.answers = bytesOf(merged.text);
-        return audited([merged.added.length
-            ? `Certificates were made for level${merged.added.length > 1 ? "s" : ""} ${few(merged.added)}.`
-            : "No certificate was made: for the other levels without an answer, that takes a search."]);
+    // Adds certificates to the levels without a record, and audits again.
+    async make({ levels, answers, names, slices, said }, tell) {
+        const machine = await Machine.start(), { bytes } = machine.text("make", machine.put(levels), MADE_ROOM);
+        const { text, added, isRaised } = mergedAnswers(textOf(answers), textOf(bytes));
+        const notes = [added.length ? `Certificates were made for level${added.length > 1 ? "s" : ""} ${few(added)}.`
+            : "No certificate was made: for the other levels without an answer, that takes a search."];
+        if (isRaised) notes.push("The answers begin with 'sokoban-answers 2' now, since a made one is a zone: zones of other records count too.");
+        return audited({ levels, answers: bytesOf(text), names, found: slices.flatMap(({ found }) => found), notes, said }, tell);
     },
-    async dead({ number }) {
-        const machine = await Machine.start();
-        const map = machine.text("dead", [...machine.put(current.levels), number], MAP_ROOM);
-        return { number, fault: map.fault ?? "", map: map.bytes ? textOf(map.bytes) : "" };
+    async dead({ levels, number }) {
+        const machine = await Machine.start(), { bytes } = machine.text("dead", [...machine.put(levels), number], MAP_ROOM);
+        return { map: textOf(bytes) };
     },
-    // the page of the last audit, to keep
-    async page({ viewer }) {
-        // No text may end the script: '<' is escaped.
-        const data = JSON.stringify(dataOf(current)).replace(/</g, "\\u003c");
-        return { page: new Blob(viewer.split("@DATA@").flatMap((part, i) => i ? [data, part] : [part]),
-            { type: "text/html;charset=utf-8" }) };
+    // The verdict on rows and a record that are drawn, and the record's lines.
+    async judged({ rows, kind, bytes, first, body = bodyIn(textOf(bytes), first) }) {
+        const machine = await Machine.start(), lines = bytesOf(body.map(([, line]) => `${line}\n`).join(""));
+        return { line: machine.judged(bytesOf(rows.join("\n")), kind === "unsolvable" ? CERTIFICATE_KIND : SOLUTION_KIND, lines,
+            body.map(([number]) => number)), body };
+    },
+    // The page of a result, to keep. No text may end the block of its data: '<' is escaped.
+    async page({ parts: [before, after], result }) {
+        const work = dataOf(result);
+        let step = work.next();
+        while (!step.done) step = work.next();
+        const data = JSON.stringify(step.value).replace(/</g, "\\u003c");
+        return { page: new Blob([before, data, after], { type: "text/html;charset=utf-8" }) };
     },
 };
 
-async function audited(notes) {
-    const { levels, answers, names, found } = current, machine = await Machine.start();
-    tell("Auditing");
-    const ran = machine.text("audit", [...machine.put(levels), ...machine.put(answers)], REPORT_ROOM);
-    if (ran.fault) return { fault: ran.fault };
-    current.report = textOf(ran.bytes);
-    current.records = recordsIn(textOf(answers));
-    const [, count, solved, unsolvable, refused, missing] = ran.numbers;
-    if (!count) notes.push(whyNone(levels));
-    return { status: ran.status, notes, answers, names, report: current.report, records: current.records,
-        found: found.map(({ number, line, title, at, end }) => ({ number, line, title, at, end })),
-        totals: { count, solved, unsolvable, refused, missing } };
-}
-
-// ---- words
-
-function notesOn({ taken, left }, count) {
-    if (!taken && !left.length) return ["There are no answers, and no solution stands below a level."];
-    const found = `There are no answers: ${many(taken, "solution")} found below ${many(count, "level")}.`;
-    if (!left.length) return [found];
-    return [found, left.length === 1 ? `1 line of letters solves no level or isn't needed: line ${left[0]}.`
-        : `${left.length} lines of letters solve no level or aren't needed: lines ${few(left)}.`];
-}
-
-function whyNone(levels) {
-    const isWide = levels[0] === 0xff && levels[1] === 0xfe || levels[0] === 0xfe && levels[1] === 0xff;
-    return isWide ? "The levels are in UTF-16: save the file as UTF-8."
-        : "No line is a row of a level: a row has a wall # and no other characters than @ + $ * . - _ "
-        + "and blanks.";
-}
-
-onmessage = async ({ data: { id, task, ...words } }) => {
-    tell = stage => {
-        if (performance.now() - told < TOLD) return;
+async function perform({ id, task, ...words }) {
+    let told = 0;
+    const tell = stage => {
+        if (performance.now() - told < SAID_EVERY) return;
         told = performance.now();
         postMessage({ id, stage });
     };
     try {
         took = memory = 0;
-        const said = await tasks[task](words);
-        postMessage({ id, took, memory, ...said });
+        const { slices = [], ...said } = await tasks[task](words, tell);
+        for (const slice of slices) postMessage({ id, slice });
+        postMessage({ id, ...said, took, memory }, [said.levels, said.answers].filter(it => it).map(({ buffer }) => buffer));
     } catch (error) {
-        postMessage({ id, error: String(error?.message ?? error), name: error?.name ?? "" });
+        if (error instanceof Fault) postMessage({ id, fault: error.message, said: error.said ?? [], took, memory });
+        else postMessage({ id, error: String(error?.message ?? error), name: error?.name ?? "" });
     }
-};
+}
+
+// One task after the other: a task waits at times, and the next one must not come between.
+let last = Promise.resolve();
+onmessage = ({ data }) => last = last.then(() => perform(data));

@@ -1,12 +1,13 @@
 """Answers files: their records read as the auditor reads them, and written in its canonical
 form."""
 import re
-from typing import List
+from typing import Callable, Iterable, List, NamedTuple, Optional, Sequence, Tuple
 
 from . import texts
 
 MOST_PATTERNS = 65_536
 _BLANKS = b" \t\r"
+Cell = Tuple[int, int]
 _HEADER = re.compile(rb"sokoban-answers ([12])")
 _LEVEL = re.compile(rb"level ([1-9][0-9]*)")
 
@@ -14,76 +15,101 @@ _LEVEL = re.compile(rb"level ([1-9][0-9]*)")
 class Fault(Exception):
     """A fault of a whole answers file, with its line and the auditor's word."""
 
-    def __init__(self, line, why):
+    def __init__(self, line: int, why: str) -> None:
         super().__init__(f"line {line}: {why}")
         self.line, self.why = line, why
 
 
-class Record:
-    """A record: its level's number, its kind, and its body, a list of pairs of a line's number and
-    the line.
+class Answer(NamedTuple):
+    """An answer to a board, whatever the number of its level is: its kind, the comments above it,
+    and its lines after that number, skipped ones and `end` too."""
 
-    `line` is the number of its level line. `raw` has all its lines, skipped ones and `end` too,
-    `above` the comments over it, and `loose` the lines before them, which end with an empty one.
-    """
-
-    __slots__ = ("level", "kind", "line", "body", "raw", "above", "loose")
-
-    def __init__(self, level, line, first, above, loose):
-        self.level, self.line, self.above, self.loose = level, line, above, loose
-        self.kind, self.body, self.raw = None, [], [first]
-
-    def add(self, number, line):
-        """Takes the next line. Returns whether it ends the record."""
-        self.raw.append(line)
-        if not line or line.startswith(b";"):
-            return False
-        if self.kind is None:
-            if line not in (b"solution", b"unsolvable"):
-                raise Fault(number, "kind")
-            self.kind = line.decode()
-            return False
-        if line == b"end":
-            return True
-        self.body.append((number, line))
-        return False
+    kind: str
+    above: Tuple[bytes, ...]
+    lines: Tuple[bytes, ...]
 
     @property
-    def letters(self):
+    def body(self) -> List[Tuple[int, bytes]]:
+        """The lines of letters or cells, each with its place after the number from 1."""
+        listed = [(at, line) for at, line in enumerate(self.lines, 1) if not _is_skipped(line)]
+        return listed[1:-1]
+
+    @property
+    def letters(self) -> bytes:
         """The letters of a solution, its lines joined."""
         return b"".join(line for _, line in self.body)
 
     @property
-    def text(self):
-        """The record with the comments above it."""
-        return spelled(self.above + self.raw)
+    def comments(self) -> List[bytes]:
+        """The comments above it and in it."""
+        return [line for line in self.above + self.lines if line.startswith(b";")]
 
-    def numbered(self, level):
-        """Returns the record for a level of another number."""
-        found = Record(level, self.line, b"level %d" % level, self.above, self.loose)
-        found.kind, found.body, found.raw = self.kind, self.body, found.raw + self.raw[1:]
-        return found
+    def covers(self, other: "Answer") -> bool:
+        """Returns whether this has the answer and the comments of another one."""
+        return self == other or self._said() == other._said() and (
+            {*other.comments} <= {*self.comments})
 
-    def relettered(self, letters):
+    def _said(self) -> Tuple[str, object]:
+        is_solution = self.kind == "solution"
+        return self.kind, self.letters if is_solution else [line for _, line in self.body]
+
+    def changed(self, change: Callable[[bytes], Sequence[bytes]]) -> "Answer":
+        """Returns the answer with other lines in place of each line of letters or cells."""
+        body = {at for at, _ in self.body}
+        return self._replace(lines=tuple(
+            it for at, line in enumerate(self.lines, 1)
+            for it in (change(line) if at in body else [line])))
+
+    def cased(self, letters: bytes) -> "Answer":
         """Returns the solution with other letters, as many as its own, in the same lines."""
-        found, left = self.numbered(self.level), iter(letters)
-        found.body = [(number, bytes(byte if byte in _BLANKS else next(left) for byte in line))
-                      for number, line in self.body]
-        for number, line in found.body:
-            found.raw[number - self.line] = line
-        return found
+        left = iter(letters)
+        return self.changed(lambda line: [bytes(byte if byte in _BLANKS else next(left)
+                                                for byte in line)])
+
+    def record(self, level: int) -> bytes:
+        """Returns the answer as the record of a level, with the comments above it."""
+        return spelled([*self.above, b"level %d" % level, *self.lines])
 
 
-class Answers:
+class Record(NamedTuple):
+    """A record: its level's number, the answer, the number of its level line, and the lines before
+    the comments above it, which end with an empty one."""
+
+    level: int
+    answer: Answer
+    line: int
+    loose: List[bytes]
+
+    @property
+    def kind(self) -> str:
+        """The kind of the answer."""
+        return self.answer.kind
+
+    @property
+    def body(self) -> List[Tuple[int, bytes]]:
+        """The lines of letters or cells, each with its number in the file."""
+        return [(self.line + at, line) for at, line in self.answer.body]
+
+    @property
+    def letters(self) -> bytes:
+        """The letters of a solution."""
+        return self.answer.letters
+
+    @property
+    def text(self) -> bytes:
+        """The record with the comments above it."""
+        return self.answer.record(self.level)
+
+
+class Answers(NamedTuple):
     """The version of an answers file, its records in order, and the lines after the last one."""
 
-    __slots__ = ("version", "records", "rest")
+    version: int
+    records: List[Record]
+    rest: List[bytes]
 
-    def __init__(self, version, records, rest):
-        self.version, self.records, self.rest = version, records, rest
 
-
-def read(data, levels=None, rising=True):
+def read(data: bytes, levels: Optional[int] = None, rising: bool = True) -> Answers:
     """Reads an answers text, or raises its first `Fault`. `levels` is the number of levels, where
     it is known.
 
@@ -96,34 +122,53 @@ def read(data, levels=None, rising=True):
     records: List[Record] = []
     above: List[bytes] = []
     loose: List[bytes] = []
-    record, last = None, 0
+    last = first = 0
+    body: List[bytes] = []
+    kind = ""
     for number, line in enumerate(lines[1:], 2):
-        if record is None and (not line or line.startswith(b";")):
+        if first:
+            body.append(line)
+            if _is_skipped(line):
+                continue
+            if not kind:
+                if line not in (b"solution", b"unsolvable"):
+                    raise Fault(number, "kind")
+                kind = line.decode()
+            elif line == b"end":
+                records.append(Record(last, Answer(kind, tuple(above), tuple(body)), first, loose))
+                above, loose, kind, body, first = [], [], "", [], 0
+        elif _is_skipped(line):
             above.append(line)
             if not line:
                 loose, above = loose + above, []
-        elif record is None:
+        else:
             level = _level_of(line, number)
             if rising and level <= last:
                 raise Fault(number, "order")
             if levels is not None and level > levels:
                 raise Fault(number, "unknown")
-            record, last = Record(level, number, line, above, loose), level
-            above, loose = [], []
-        elif record.add(number, line):
-            records.append(record)
-            record = None
-    if record:
+            last, first = level, number
+    if first:
         raise Fault(len(lines) + 1, "unclosed")
     return Answers(int(header.group(1)), records, loose + above)
 
 
-def is_begun(data):
+def answer_of(record: bytes) -> Answer:
+    """Returns the answer of a record."""
+    return read(text([record])).records[0].answer
+
+
+def _is_skipped(line: bytes) -> bool:
+    return not line or line.startswith(b";")
+
+
+def is_begun(data: bytes) -> bool:
     """Returns whether a file begins as an answers file does."""
     return data.startswith(b"sokoban-answers ")
 
 
-def read_text(name, data, levels=None, rising=True):
+def read_text(name: str, data: bytes, levels: Optional[int] = None, rising: bool = True
+              ) -> Answers:
     """Reads an answers text of this name; its first fault ends the command."""
     try:
         found = read(data, levels, rising)
@@ -134,7 +179,7 @@ def read_text(name, data, levels=None, rising=True):
         raise texts.Stop(f"{texts.shown(name)} {place}{advice(data, fault, levels)}") from None
 
 
-def check_ends(found):
+def check_ends(found: Answers) -> None:
     """Raises a fault where a record seems to go on in the next one. The auditor reads both as one
     record, and refuses that."""
     for record in found.records:
@@ -143,7 +188,7 @@ def check_ends(found):
                 raise Fault(number, "end")
 
 
-def advice(data, fault, levels):
+def advice(data: bytes, fault: Fault, levels: Optional[int]) -> str:
     """Returns in words what is wrong at a fault, and what to type."""
     if fault.why == "header":
         return "is no answers file: line 1 isn't 'sokoban-answers 1'"
@@ -157,12 +202,12 @@ def advice(data, fault, levels):
             "unclosed": "the last record lacks its last line, 'end'"}[fault.why]
 
 
-def read_file(name, levels=None, rising=True):
+def read_file(name: str, levels: Optional[int] = None, rising: bool = True) -> Answers:
     """Reads an answers file; its first fault ends the command."""
     return read_text(name, texts.read(name), levels, rising)
 
 
-def _level_of(line, number):
+def _level_of(line: bytes, number: int) -> int:
     match = _LEVEL.fullmatch(line)
     if not match:
         raise Fault(number, "level")
@@ -170,13 +215,14 @@ def _level_of(line, number):
     return int(match.group(1)) if len(match.group(1)) < 10 else 10 ** 10
 
 
-def solution(level, letters):
+def solution(level: int, letters: bytes) -> bytes:
     """Returns the record of a solution, its letters (bytes) in lines of 70."""
     lines = [letters[i:i + 70] for i in range(0, len(letters), 70)]
     return _record(level, b"solution", lines)
 
 
-def patterns(level, listed):
+def patterns(level: int, listed: Iterable[Tuple[Iterable[Cell], Optional[Iterable[Cell]]]]
+             ) -> bytes:
     """Returns the record of a list of patterns, given as pairs of boxes and seeds; seeds None are
     the whole room. Cells are (column, row)."""
     lines = [b"pattern %b @ %b" % (cells(boxes), b"*" if seeds is None else cells(seeds)) for boxes,
@@ -184,32 +230,32 @@ def patterns(level, listed):
     return _record(level, b"unsolvable", lines)
 
 
-def zone(level, members):
+def zone(level: int, members: Iterable[Cell]) -> bytes:
     """Returns the record of a zone, which needs version 2."""
     return _record(level, b"unsolvable", [b"zone " + cells(members)])
 
 
-def certificate(level, lines):
+def certificate(level: int, lines: Sequence[bytes]) -> bytes:
     """Returns the record of a certificate with these lines."""
     return _record(level, b"unsolvable", lines)
 
 
-def cells(listed):
+def cells(listed: Iterable[Cell]) -> bytes:
     """Returns cells as they are written, in reading order."""
     return b" ".join(b"%d,%d" % cell
                      for cell in sorted(listed, key=lambda cell: (cell[1], cell[0])))
 
 
-def _record(level, kind, body):
+def _record(level: int, kind: bytes, body: Sequence[bytes]) -> bytes:
     return spelled([b"level %d" % level, kind, *body, b"end"])
 
 
-def spelled(lines):
+def spelled(lines: Iterable[bytes]) -> bytes:
     """Returns lines as a text."""
     return b"".join(line + b"\n" for line in lines)
 
 
-def text(records, version=None):
+def text(records: Sequence[bytes], version: Optional[int] = None) -> bytes:
     """Returns the text of an answers file with these records, whose levels rise. Its version is 2
     where a record is a zone."""
     if version is None:

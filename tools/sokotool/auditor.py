@@ -4,17 +4,21 @@ import os
 import shutil
 import subprocess
 import sys
-from typing import List, NamedTuple, Optional
+from typing import NamedTuple, Optional
 
 from . import system, texts
 
 REFERENCE_NOTE = "checked by the reference in Python, not by the proved program"
 _HERE = os.path.dirname(os.path.realpath(__file__))
 _TOP = os.path.dirname(os.path.dirname(_HERE))
-# the reference as pip or 'make install-tools' installs it, in a checkout, and in sokotool.pyz,
+# the reference as pip or packaging/install-tools installs it, in a checkout, and in sokotool.pyz,
 # which runs it itself
 _REFERENCES = [*(os.path.join(_HERE, *up, "reference", "sokoaudit")
                  for up in ((), ("..",), ("..", ".."))), os.path.dirname(_HERE)]
+
+# how a program begins: ELF, Windows, and macOS for one processor in either order of bytes or many
+_BINARY = (b"\x7fELF", b"MZ", b"\xfe\xed\xfa\xce", b"\xfe\xed\xfa\xcf", b"\xce\xfa\xed\xfe",
+           b"\xcf\xfa\xed\xfe", b"\xca\xfe\xba\xbe")
 
 
 class Limits(NamedTuple):
@@ -72,29 +76,48 @@ class Auditor(NamedTuple):
 
 def find() -> Auditor:
     """Finds the program: the one that SOKOAUDIT names, that of this checkout, one beside sokotool,
-    that of this installation, one on the PATH, or the reference. The script 'sokoaudit' doesn't
-    count: it may build first, or run the reference."""
+    that of this installation, one on the PATH or built beside the script there, or the reference.
+
+    A script counts only if SOKOAUDIT names it, and it isn't known to run the reference."""
     named = os.environ.get("SOKOAUDIT")
-    paths: List[Optional[str]] = [named] if named and not _is_script(named) else [
-        os.path.join(_TOP, "crates", "sokoaudit", "out", "sokoaudit"),
-        os.path.join(_TOP, "sokoaudit" + system.PROGRAM),
-        os.path.join(_TOP, "..", "bin", "sokoaudit"),
-        shutil.which("sokoaudit"),
-        *_REFERENCES]
-    for path in paths:
-        if path and os.path.isfile(path):
+    if named and not _runs_reference(named):
+        paths = [named]
+    else:
+        named, on_path = "", shutil.which("sokoaudit" + system.PROGRAM)
+        paths = [_built(_TOP), os.path.join(_TOP, "sokoaudit" + system.PROGRAM),
+                 os.path.join(_TOP, "..", "bin", "sokoaudit"),
+                 *((on_path, _built(os.path.dirname(os.path.realpath(on_path)))) if on_path else ())
+                 ]
+    for path in [*paths, *([] if named else _REFERENCES)]:
+        if os.path.isfile(path):
             is_reference = any(texts.same_file(path, it) for it in _REFERENCES)
-            if is_reference or os.access(path, os.X_OK) and not _is_script(path):
+            if is_reference or os.access(path, os.X_OK) and (named or _is_binary(path)):
                 return Auditor(os.path.realpath(path), is_reference)
     raise texts.Stop(f"cannot run {texts.shown(named)}" if named else
                      "there is no sokoaudit: install it, or name it by SOKOAUDIT")
 
 
-def _is_script(name: str) -> bool:
-    """Returns whether a file is the script 'sokoaudit'."""
+def _built(top: str) -> str:
+    """Returns the place of the program that is built in a checkout."""
+    return os.path.join(top, "crates", "sokoaudit", "out", "sokoaudit")
+
+
+def _is_binary(name: str) -> bool:
+    """Returns whether a file is a program of machine code."""
+    return _beginning(name).startswith(_BINARY)
+
+
+def _runs_reference(name: str) -> bool:
+    """Returns whether a file is the script 'sokoaudit', or one that starts sokotool.pyz."""
+    beginning = _beginning(name)
+    return not beginning.startswith(_BINARY) and any(
+        it in beginning for it in (b"SOKOAUDIT_QUIET", b"sokotool.pyz"))
+
+
+def _beginning(name: str) -> bytes:
     with contextlib.suppress(OSError), open(name, "rb") as file:
-        return b"SOKOAUDIT_QUIET" in file.read(2000)
-    return False
+        return file.read(2000)
+    return b""
 
 
 def is_quiet() -> bool:

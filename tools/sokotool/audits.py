@@ -36,11 +36,11 @@ class Audits:
             raise texts.Stop(f"{texts.shown(self.program.path)} printed no report: {fault}")
         return read
 
-    def made(self, some: Sequence[levels.Level]) -> Iterator[Tuple[int, answers.Record]]:
+    def made(self, some: Sequence[levels.Level]) -> Iterator[Tuple[int, answers.Answer]]:
         """Yields the certificates that sokoaudit makes for some levels, with their numbers."""
         text = b"\n".join(b"".join(row + b"\n" for row in level.rows) for level in some)
         for record in answers.read(self.program.make(self._put("some", text))).records:
-            yield some[record.level - 1].number, record
+            yield some[record.level - 1].number, record.answer
 
 
 def refusal(program: auditor.Auditor, level: levels.Level, lines: Sequence[bytes]) -> str:

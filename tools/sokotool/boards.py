@@ -10,8 +10,7 @@ import hashlib
 from typing import Dict, Iterable, List, NamedTuple, Sequence, Tuple
 
 from .alphabet import BOXES, GOALS, PLAYERS, WALL
-from .game import LARGEST_SIDE
-from .levels import Level
+from .levels import LARGEST_SIDE, Level, OfRows
 
 Cell = Tuple[int, int]
 Key = Tuple[str, int, bytes]
@@ -129,21 +128,18 @@ class Form(NamedTuple):
 
     def turn_to(self, other: "Form") -> Turn:
         """Returns how a level of this form is turned into a level with the same form."""
+        if self.turn == other.turn:
+            return Turn(1, 0, 0, 1)
         return other.turn.inverse().after(self.turn)
-
-
-class Twin(NamedTuple):
-    """A level, the first one that has its board, and how the first is turned into it. Both are
-    indices in the list of levels, from 0."""
-
-    later: int
-    first: int
-    turn: Turn
 
 
 def form_of(level: Level) -> Form:
     """Returns the canonical form of a level. A level that is too large, or has neither player nor
     box nor goal, is known by its rows as they are."""
+    return _form_like(level)._replace(level=level)
+
+
+def _made(level: Level) -> Form:
     stride = max(map(len, level.rows)) + 1
     if max(stride - 1, len(level.rows)) > LARGEST_SIDE:
         return _form_of_rows(LARGE, level)
@@ -163,6 +159,9 @@ def form_of(level: Level) -> Form:
     return Form(kind, width, best, turn, level)
 
 
+_form_like = OfRows(_made)
+
+
 def forms_of(levels: Iterable[Level]) -> List[Form]:
     """Returns the forms of levels in their order."""
     return [form_of(level) for level in levels]
@@ -176,14 +175,15 @@ def by_key(forms: Iterable[Form]) -> Dict[Key, List[int]]:
     return found
 
 
-def twins_of(forms: Sequence[Form]) -> List[Twin]:
-    """Returns each form that equals an earlier one, with the first one. Walls alone don't count."""
+def twins_of(forms: Sequence[Form]) -> List[Tuple[int, int, Turn]]:
+    """Returns the index of each form that equals an earlier one, that of the first one, and how the
+    first is turned into it. Walls alone don't count."""
     first: Dict[Key, int] = {}
     found = []
     for later, form in enumerate(forms):
         earlier = first.setdefault(form.key, later)
         if earlier != later and form.kind != WALLS:
-            found.append(Twin(later, earlier, forms[earlier].turn_to(form)))
+            found.append((later, earlier, forms[earlier].turn_to(form)))
     return found
 
 

@@ -5,53 +5,51 @@ and goes with its level when that gets another number.
 """
 from typing import Dict, Hashable, List, NamedTuple, Optional, Sequence, Set, Tuple
 
-from . import boards, changes, levels
+from . import boards, changes, levels, texts
 from .blocks import ABOVE, BELOW, LEVEL, Block, separated, text
+from .changes import Snapshot
 
 
-class Collection(NamedTuple):
-    """The blocks of a collection, and its levels with their forms."""
+class Written(NamedTuple):
+    """What a check wrote: the collection, for each level its index in the exports then, or None,
+    digests of the levels of the exports with their texts, and whether the keeper chose the order.
+    """
 
-    blocks: List[Block]
-    state: changes.State
-
-    @property
-    def forms(self) -> Sequence[boards.Form]:
-        """The forms of the levels."""
-        return self.state.forms
+    collection: Snapshot
+    places: Sequence[Optional[int]] = ()
+    sources: Sequence[str] = ()
+    is_ordered: bool = False
 
 
 class Merged(NamedTuple):
-    """The blocks of the new collection, and for each the index of its level in the exports, or
-    None; the typed texts that have no level now, each with the index that its level had; the
-    indices in `stored` of texts that are back; the numbers of the levels that were edited since the
-    last check; and whether the keeper chose the order."""
+    """The new collection as it is written, with the indices of its levels in the exports; the typed
+    texts that have no level now, each with the index that its level had; the indices in `stored` of
+    texts that are back; and the numbers of the levels that were edited since the last check."""
 
-    blocks: List[Block]
-    exports: List[Optional[int]]
+    written: Written
     away: List[Tuple[int, Block]]
     back: Set[int]
     edited: List[int]
-    is_ordered: bool
 
 
-def collection(blocks: Sequence[Block]) -> Collection:
+def collection(blocks: Sequence[Block]) -> Snapshot:
     """Returns a collection of these blocks, with an empty line between levels without text."""
     parted = separated(blocks)
     found = levels.read(text(parted))
-    return Collection(parted, changes.State(found, boards.forms_of(found), []))
+    return Snapshot(found, boards.forms_of(found), (), parted)
 
 
-def merged(written: Collection, mine: Collection, exports: Collection, stored: Sequence[Block],
-           is_ordered: bool) -> Merged:
+def merged(written: Written, mine: Snapshot, exports: Snapshot, stored: Sequence[Block]
+           ) -> Merged:
     """Merges a collection as the last check wrote it, as it is now, and as the exports have it.
     `stored` has typed texts of levels that were away."""
     was = {match.new: match.old
-           for match in changes.matches_of_forms(written.forms, mine.forms)}
+           for match in changes.matches_of_forms(written.collection.forms, mine.forms)}
     order = [was[index] for index in range(len(mine.blocks)) if index in was]
-    is_ordered = is_ordered or order != sorted(order)
-    marked, fresh = _marked(written.blocks, mine.blocks, was)
-    level_of = _matched(mine, exports, marked)
+    is_ordered = written.is_ordered or order != sorted(order)
+    marked, fresh = _marked(written.collection.blocks, mine.blocks, was)
+    sources = [texts.digest(text([block])) for block in exports.blocks]
+    level_of = _matched(mine, exports, marked, _paired(written, was, sources))
     index_of = {now: old for old, now in level_of.items()}
     found: Dict[Hashable, Block] = {
         now: _over(block, marked[index_of[now]]) if now in index_of else block
@@ -68,9 +66,9 @@ def merged(written: Collection, mine: Collection, exports: Collection, stored: S
     placed = _placed(ours, theirs) if is_ordered else _placed(theirs, ours)
     new = {names[index] for index in fresh}
     edited = [number for number, name in enumerate(placed, 1) if found[name].typed and name in new]
-    return Merged(separated([found[name] for name in placed]),
-                  [name if isinstance(name, int) else None for name in placed], away, back, edited,
-                  is_ordered)
+    places = [name if isinstance(name, int) else None for name in placed]
+    made = Written(collection([found[name] for name in placed]), places, sources, is_ordered)
+    return Merged(made, away, back, edited)
 
 
 def _marked(written: Sequence[Block], mine: Sequence[Block], was: Dict[int, int]
@@ -97,10 +95,24 @@ def _marked(written: Sequence[Block], mine: Sequence[Block], was: Dict[int, int]
     return found, fresh
 
 
-def _matched(mine: Collection, exports: Collection, marked: Sequence[Block]) -> Dict[int, int]:
-    """Returns the indices in the exports by the indices now. A typed level is found by its board
-    alone."""
-    return {match.old: match.new for match in changes.matches(mine.state, exports.state)
+def _paired(written: Written, was: Dict[int, int], sources: Sequence[str]) -> Dict[int, int]:
+    """Returns the indices in the exports by the indices now, as the last check paired them, for
+    levels whose text in the exports is the same. Otherwise twins could change places."""
+    waiting: Dict[str, List[int]] = {}
+    for index, source in reversed(list(enumerate(sources))):
+        waiting.setdefault(source, []).append(index)
+    place_of = {place: waiting[source].pop() for place, source in enumerate(written.sources)
+                if waiting.get(source)}
+    now = [place_of.get(place) if place is not None else None for place in written.places]
+    found = {index: now[old] for index, old in was.items() if old < len(now)}
+    return {index: place for index, place in found.items() if place is not None}
+
+
+def _matched(mine: Snapshot, exports: Snapshot, marked: Sequence[Block],
+             paired: Dict[int, int]) -> Dict[int, int]:
+    """Returns the indices in the exports by the indices now, where some are known. A typed level is
+    found by its board alone."""
+    return {match.old: match.new for match in changes.matches(mine, exports, paired)
             if match.turn is not None or LEVEL not in marked[match.old].typed}
 
 

@@ -1,7 +1,7 @@
-"""Takes records over to levels with other numbers: those that have the same board, perhaps turned,
+"""Takes answers over to levels with other numbers: those that have the same board, perhaps turned,
 mirrored or moved."""
 import re
-from typing import Dict, List, NamedTuple, Sequence
+from typing import Dict, List, Sequence, Tuple
 
 from . import answers, boards, changes
 
@@ -10,46 +10,30 @@ _LINE = re.compile(rb"pattern %b @ (?:\*|%b)|zone %b" % (_CELLS, _CELLS, _CELLS)
 _CELL = re.compile(rb"([0-9]+),([0-9]+)")
 
 
-class Carried(NamedTuple):
-    """A record for a new level: the number of the level, the text, and the record of the old level.
-    """
-
-    level: int
-    text: bytes
-    record: answers.Record
-
-
 def carried(records: Sequence[answers.Record], old: Sequence[boards.Form],
-            new: Sequence[boards.Form]) -> Dict[int, List[Carried]]:
-    """Returns the records that each new level gets, by its number. If it gets several, the one of
-    the level that it was comes first."""
+            new: Sequence[boards.Form]) -> Dict[int, List[Tuple[int, answers.Answer]]]:
+    """Returns the answers that each new level gets, by its number, each with the index of its
+    record. If it gets several, the one of the level that it was comes first."""
     before = {match.new: match.old for match in changes.matches_of_forms(old, new)}
     by_key = boards.by_key(new)
-    found: Dict[int, List[Carried]] = {}
-    for record in records:
+    found: Dict[int, List[Tuple[int, answers.Answer]]] = {}
+    for at, record in enumerate(records):
         form = old[record.level - 1]
         for index in by_key.get(form.key, ()):
-            text = turned(record, index + 1, form, new[index])
-            found.setdefault(index + 1, []).append(Carried(index + 1, text, record))
+            found.setdefault(index + 1, []).append((at, turned(record.answer, form, new[index])))
     for number, several in found.items():
-        several.sort(key=lambda one: one.record.level - 1 != before.get(number - 1))
+        several.sort(key=lambda one: records[one[0]].level - 1 != before.get(number - 1))
     return found
 
 
-def turned(record: answers.Record, number: int, old: boards.Form, new: boards.Form) -> bytes:
-    """Returns a record of a level for another level with the same board, and the comments above it.
-    Cells that don't count are left out, since they may be walls there."""
+def turned(answer: answers.Answer, old: boards.Form, new: boards.Form) -> answers.Answer:
+    """Returns an answer to a level for another level with the same board. Cells that don't count
+    are left out, since they may be walls there, unless the rows are the same."""
+    if old.level.rows == new.level.rows:
+        return answer
     turn = old.turn_to(new)
-    body = {number: line for number, line in record.body}
-    lines = record.above + [b"level %d" % number]
-    for at, line in enumerate(record.raw[1:], record.line + 1):
-        if at not in body:
-            lines.append(line)
-        elif record.kind == "solution":
-            lines.append(turn.letters(line))
-        else:
-            lines += _turned_line(line, old, turn)
-    return answers.spelled(lines)
+    return answer.changed(lambda line: [turn.letters(line)] if answer.kind == "solution"
+                          else _turned_line(line, old, turn))
 
 
 def _turned_line(line: bytes, old: boards.Form, turn: boards.Turn) -> List[bytes]:

@@ -1,8 +1,11 @@
 """What changed from one state of a collection to another: levels are matched by their boards, and
 the others by title or position."""
-from typing import Callable, Dict, Hashable, Iterator, List, NamedTuple, Optional, Sequence, Set
+from types import MappingProxyType
+from typing import (Callable, Dict, Hashable, Iterator, List, Mapping, NamedTuple, Optional,
+                    Sequence, Set)
 
 from . import boards
+from .blocks import Block
 from .levels import Level
 from .report import Line
 
@@ -16,12 +19,14 @@ class Match(NamedTuple):
     turn: Optional[boards.Turn]
 
 
-class State(NamedTuple):
-    """The levels of a collection, their forms, and their report lines."""
+class Snapshot(NamedTuple):
+    """The levels of a collection, their forms, their report lines, and their blocks of text, where
+    these are known."""
 
     levels: Sequence[Level]
     forms: Sequence[boards.Form]
-    lines: Sequence[Line]
+    lines: Sequence[Line] = ()
+    blocks: Sequence[Block] = ()
 
 
 class Change(NamedTuple):
@@ -92,7 +97,7 @@ def _matches(pairs: _Pairs, old: Sequence[boards.Form], new: Sequence[boards.For
     return found
 
 
-def _names(state: State, beside: Sequence[int]) -> Callable[[int], Hashable]:
+def _names(state: Snapshot, beside: Sequence[int]) -> Callable[[int], Hashable]:
     """Returns a function that names a level by its board, its title, and the boards of some levels
     beside it, by which levels with the same board are told apart."""
     def name(index: int) -> Hashable:
@@ -102,11 +107,15 @@ def _names(state: State, beside: Sequence[int]) -> Callable[[int], Hashable]:
     return name
 
 
-def matches(old: State, new: State) -> List[Match]:
-    """Returns the levels that are the same, in order of the new ones. A level that has another
-    board now is found by its title, or otherwise by the level before it if it has no title.
+def matches(old: Snapshot, new: Snapshot, known: Mapping[int, int] = MappingProxyType({})
+            ) -> List[Match]:
+    """Returns the levels that are the same, in order of the new ones. Of some it is known, by
+    indices before. A level that has another board now is found by its title, or otherwise by the
+    level before it if it has no title.
     """
     pairs = _Pairs(len(old.levels), len(new.levels))
+    for was, now in known.items():
+        pairs.add(was, now)
     for beside in ((-1, 1), (-1,), (1,), ()):
         pairs.match(_names(old, beside), _names(new, beside))
     _match_forms(pairs, old.forms, new.forms)
@@ -120,7 +129,7 @@ def matches(old: State, new: State) -> List[Match]:
     return _matches(pairs, old.forms, new.forms)
 
 
-def changes(old: State, new: State) -> List[Change]:
+def changes(old: Snapshot, new: Snapshot) -> List[Change]:
     """Returns what changed, in order of the new levels; levels that were removed come last."""
     found: List[Change] = []
     by_new = {match.new: match for match in matches(old, new)}
@@ -137,7 +146,7 @@ def changes(old: State, new: State) -> List[Change]:
     return found
 
 
-def _of_pair(old: State, new: State, match: Match) -> Iterator[Change]:
+def _of_pair(old: Snapshot, new: Snapshot, match: Match) -> Iterator[Change]:
     """Yields the changes of a level."""
     now, was = new.lines[match.new], old.lines[match.old]
     title = new.levels[match.new].title

@@ -1,13 +1,14 @@
 """A collection while it is built: the text of its levels, their solutions, and messages."""
-import sys
-from typing import Any, Dict, List, NamedTuple, Optional, Sequence, Tuple
+from typing import Callable, Dict, List, NamedTuple, Optional, Sequence, Tuple
 
 from . import answers, game, levels, texts
 from .formats import coding
+from .places import Place
 
-MOST_MESSAGES = 1000
 MOST_NAMED = 5
 MOVES, PUSHES, BOTH = "moves", "pushes", "both"
+# takes a place, why it is reported, and whether something is left out or wrong
+Report = Callable[[Place, str, bool], None]
 
 
 class Attempt(NamedTuple):
@@ -26,11 +27,12 @@ class Attempt(NamedTuple):
 
 
 class Try(NamedTuple):
-    """An attempt, and where its letters are."""
+    """An attempt, where its letters are, and comments on it."""
 
     file: str
     line: int
     attempt: Attempt
+    notes: List[str]
 
 
 class Collection:
@@ -40,13 +42,14 @@ class Collection:
     solutions that are kept although they leave boxes off the goals, and `torn` the levels that seem
     to lack rows. If both of the best are kept, `others` has the solutions with fewer pushes by the
     numbers of their levels. With `split`, a collection that is too large becomes several: `count`
-    has the levels of the last one, and `total` all levels.
+    has the levels of the last one, and `total` all levels. If it doesn't, `advice` follows.
     """
 
-    advice = "; --split writes several collections"
-
-    def __init__(self, best: str = "", split: bool = False, encoding: str = "") -> None:
-        self.best, self.split, self.encoding = best, split, encoding
+    def __init__(self, best: str = "", split: bool = False, encoding: str = "",
+                 report: Report = lambda *_: None,
+                 advice: str = "; --split writes several collections") -> None:
+        self.best, self.split, self.encoding, self.advice = best, split, encoding, advice
+        self._report = report
         self.full: List[Tuple[bytes, bytes]] = []
         self.text = bytearray()
         self.records: List[bytes] = []
@@ -54,50 +57,46 @@ class Collection:
         self.count = self.total = 0
         self.solutions = self.faults = self.unsolved = self.torn = 0
         self.file = self.published = ""
-        # the names of files that were found, and have nothing to read
-        self.idle: List[str] = []
+        # the names of files as they are published, and of those that have nothing to read, by the
+        # game that they are for
+        self.names: Dict[str, str] = {}
+        self.idle: Dict[str, List[str]] = {}
+        # where each level is
+        self.origins: List[Place] = []
         self.level: Optional[levels.Level] = None
         self._board: Optional[game.Board] = None
         self._tries: List[Try] = []
         self._spares: List[Try] = []
-        self._letters = self._played = self._reported = 0
+        self._letters = self._played = 0
         self._after_row = False
 
     # ---- messages
 
     def fault(self, line: int, why: str, file: Optional[str] = None) -> None:
         """Reports what is left out or wrong, and where: by default in the file that is read."""
-        self.note(line, why, file)
+        self._report(self._place(line, file), why, True)
         self.faults += 1
 
     def note(self, line: int, why: str, file: Optional[str] = None) -> None:
         """Reports what was read with a change."""
-        self._reported += 1
-        if self._reported <= MOST_MESSAGES:
-            print("convert: " + self.place(line, file) + why, file=sys.stderr)
+        self._report(self._place(line, file), why, False)
 
-    def place(self, line: int, file: Optional[str] = None) -> str:
-        """Returns a place as messages begin with it: a line, or 0 for a message that names its
-        file."""
-        return f"{texts.shown(file or self.file)} line {line}: " if line else ""
+    def _place(self, line: int, file: Optional[str] = None) -> Place:
+        file = file or self.file
+        return Place(file, self.names.get(file, file), line)
 
     def source(self) -> str:
         """Returns the comment that names the file. With its key it is no title."""
         return "; File: " + texts.shown(self.published)
 
     def report_idle(self) -> None:
-        """Reports the files without a level."""
-        if self.idle:
-            named = ", ".join(map(texts.shown, sorted(self.idle)[:MOST_NAMED]))
-            more = ", .." if len(self.idle) > MOST_NAMED else ""
-            has = "has" if len(self.idle) == 1 else "have"
-            self.note(0, f"{texts.count(len(self.idle), 'file')} {has} no level: {named}{more}")
-
-    def report_rest(self) -> None:
-        """Reports how many messages were not printed."""
-        if self._reported > MOST_MESSAGES:
-            print(f"convert: {self._reported - MOST_MESSAGES} more messages", file=sys.stderr)
-        self._reported = 0
+        """Reports the files without a level, and those of each other game."""
+        for other, names in sorted(self.idle.items()):
+            named = ", ".join(map(texts.shown, sorted(names)[:MOST_NAMED]))
+            more = ", .." if len(names) > MOST_NAMED else ""
+            has, is_ = ("has", "is") if len(names) == 1 else ("have", "are")
+            why = f"of {other} {is_} not read" if other else f"{has} no level"
+            self.note(0, f"{texts.count(len(names), 'file')} {why}: {named}{more}")
 
     def summary(self) -> str:
         """Returns how much was read and left out."""
@@ -139,9 +138,10 @@ class Collection:
         self.count += 1
         self.total += 1
         self._after_row = True
-        kept = [row.encode() for row in rows[:game.LARGEST_SIDE + 1]]
+        kept = [row.encode() for row in rows[:levels.LARGEST_SIDE + 1]]
         self.level = levels.Level(self.count, kept, line)
-        self._board = game.Board(self.level)
+        self.origins.append(self._place(line))
+        self._board = game.board_of(self.level)
         doubt = self._board.doubt
         if doubt:
             self.fault(line, f"level {self.count} {doubt}")
@@ -197,19 +197,19 @@ class Collection:
 
     def add_try(self, line: int, attempt: Attempt) -> None:
         """Adds an attempt to solve the last level; a level may have several."""
-        self._tries.append(Try(self.file, line, attempt))
+        self._tries.append(Try(self.file, line, attempt, []))
 
     def add_spare(self, line: int, attempt: Attempt) -> None:
         """Adds letters that solve the last level, for use if no solution does."""
-        self._spares.append(Try(self.file, line, attempt))
+        self._spares.append(Try(self.file, line, attempt, []))
 
     def end_level(self) -> None:
         """Ends the last level, and adds the solution of it that is kept."""
         solving = [it for it in self._tries if it.attempt.why is None] or self._spares[:1]
         failing = [it for it in self._tries if it.attempt.why is not None]
         playing = [it for it in failing if it.attempt.plays]
-        kept = self._choose(solving) if solving else playing[0] if playing else None
-        other = best_of(solving, self.best)[1] if solving and self.best else None
+        kept, other = (self.choose(self.count, solving) if solving
+                       else (playing[0] if playing else None, None))
         for it in failing:
             self.fault(it.line, f"the solution of level {self.count} {it.attempt.why}", it.file)
             self.unsolved += it is kept
@@ -223,18 +223,23 @@ class Collection:
         self.level = self._board = None
         self._tries, self._spares = [], []
 
-    def _choose(self, solving: Sequence[Try]) -> Try:
-        """Returns the solution to keep: the best one, or the first one, with a report of the
-        others."""
+    def choose(self, number: int, solving: Sequence[Try]) -> Tuple[Try, Optional[Try]]:
+        """Returns the solution of a level to keep: the best one, or the first one, with a report of
+        the others. If both of the best are kept, that is the one by moves, and the other one by
+        pushes is returned too if it has fewer."""
         if self.best:
-            kept: Try = best_of(solving, self.best)[0]
-            return kept
+            by = PUSHES if self.best == PUSHES else MOVES
+            kept, other = (min(solving, key=lambda it: _cost(it.attempt, best))
+                           for best in (by, PUSHES))
+            is_other = self.best == BOTH and other.attempt.pushes < kept.attempt.pushes
+            return kept, other if is_other else None
         kept, seen = solving[0], {solving[0].attempt.letters}
         for it in solving[1:]:
             if it.attempt.letters not in seen:
                 seen.add(it.attempt.letters)
-                self.fault(it.line, another(self.count, it.attempt, kept.attempt), it.file)
-        return kept
+                self.fault(it.line, f"another solution of level {number}, {_size(it.attempt)}, is "
+                           f"left out: the first has {_size(kept.attempt)}", it.file)
+        return kept, None
 
     # ---- the files
 
@@ -255,13 +260,6 @@ class Collection:
         return parts + [self.files(f"{name}-{len(parts) + 1}")]
 
 
-class Silent(Collection):
-    """A collection that reports nothing."""
-
-    def note(self, line: int, why: str, file: Optional[str] = None) -> None:
-        pass
-
-
 def _failed(why: str) -> Attempt:
     return Attempt(b"", 0, 0, False, why)
 
@@ -276,25 +274,10 @@ def _why(replay: game.Replay, text: str) -> Optional[str]:
     return f"leaves {texts.count(int(rest[0]), 'box')} off the goals"
 
 
-def cost(attempt: Attempt, best: str) -> Tuple[int, int]:
+def _cost(attempt: Attempt, best: str) -> Tuple[int, int]:
     """Returns the moves and pushes of a solution, those first that are to be few."""
     counts = (attempt.moves, attempt.pushes)
     return counts if best == MOVES else (counts[1], counts[0])
-
-
-def best_of(several: Sequence[Any], best: str) -> Tuple[Any, Optional[Any]]:
-    """Returns the best of several solutions, which have attempts. If both are asked for, that is
-    the one by moves, and the other one by pushes is returned too if it has fewer."""
-    kept = min(several, key=lambda it: cost(it.attempt, MOVES if best == BOTH else best))
-    other = min(several, key=lambda it: cost(it.attempt, PUSHES))
-    is_other = best == BOTH and other.attempt.pushes < kept.attempt.pushes
-    return kept, other if is_other else None
-
-
-def another(number: int, attempt: Attempt, kept: Attempt) -> str:
-    """Returns in words that a solution is left out for another one."""
-    return (f"another solution of level {number}, {_size(attempt)}, is left out: the first has "
-            f"{_size(kept)}")
 
 
 def _size(attempt: Attempt) -> str:

@@ -2,10 +2,12 @@
 .sokoignore in a folder has names and wildcards of files and folders there that aren't read."""
 import fnmatch
 import os
+import re
 import stat
+import unicodedata
 import zipfile
 import zlib
-from typing import Callable, Dict, Iterator, List, NamedTuple, Optional, Sequence, Set, Tuple
+from typing import Any, Callable, Dict, Iterator, List, NamedTuple, Optional, Sequence, Set, Tuple
 
 from . import texts
 
@@ -13,6 +15,7 @@ MOST_IN_ARCHIVE = 10_000
 MOST_UNPACKED = 8 * texts.MOST_BYTES
 _ZIP = b"PK\3\4"
 IGNORE = ".sokoignore"
+_NUMBER = re.compile("([0-9]+)")
 IsOut = Callable[[str], bool]
 
 
@@ -32,7 +35,12 @@ class Export(NamedTuple):
     @property
     def is_answers(self) -> bool:
         """Whether its name is that of answers."""
-        return self.name.endswith(".answers")
+        return self.name.lower().endswith(".answers")
+
+    @property
+    def is_levels(self) -> bool:
+        """Whether its name is that of levels as sokotool writes them."""
+        return self.name.lower().endswith(".xsb")
 
     @property
     def stem(self) -> str:
@@ -42,7 +50,8 @@ class Export(NamedTuple):
     @property
     def levels_name(self) -> str:
         """The name of the levels that answers of this name are for."""
-        return (self.stem[:-6] if self.stem.endswith(".other") else self.stem) + ".xsb"
+        is_other = self.stem.lower().endswith(".other")
+        return (self.stem[:-6] if is_other else self.stem) + ".xsb"
 
 
 def listed(names: Sequence[str], is_own: IsOut = lambda _: False) -> List[Export]:
@@ -67,10 +76,11 @@ def listed(names: Sequence[str], is_own: IsOut = lambda _: False) -> List[Export
 def levels_of(export: Export, every: Sequence[Export]) -> Optional[Export]:
     """Returns the levels that a file of answers is for: those of its name, or the only ones that
     lie beside it."""
-    beside = [it for it in every if it.name.endswith(".xsb")
+    beside = [it for it in every if it.is_levels
               and os.path.dirname(it.name) == os.path.dirname(export.name)]
     name = export.levels_name
-    same = [it for it in beside if it.name == name]
+    same = [it for it in beside if it.name == name] or [
+        it for it in beside if it.name.lower() == name.lower()]
     if not same and os.path.isfile(name):
         same = [Export(name, lambda: texts.read(name))]
     found = same or beside
@@ -87,9 +97,20 @@ def published(names: Sequence[str]) -> Dict[str, str]:
     found = {"-": "-"}
     for name, path in paths.items():
         drive = _drive(path)
-        inner = os.path.relpath(path, os.path.commonpath(drives[drive])).replace(os.sep, "/")
+        inner = _plain(os.path.relpath(path, os.path.commonpath(drives[drive])))
         found[name] = inner if len(drives) == 1 else f"{drive}/{inner}"
     return found
+
+
+def _plain(path: str) -> str:
+    """Returns a path with / and composed letters, as git keeps it. macOS may decompose them."""
+    return unicodedata.normalize("NFC", path.replace(os.sep, "/"))
+
+
+def _order(path: str) -> Tuple[List[Any], str]:
+    """Returns what orders names as people count: level2 comes before level10."""
+    parts = _NUMBER.split(_plain(path))
+    return [int(part) if at % 2 else part for at, part in enumerate(parts)], path
 
 
 def _drive(path: str) -> str:
@@ -117,10 +138,10 @@ def _ignored(folder: str) -> IsOut:
     is for paths from this folder on, and any other one for names in it and below."""
     path = os.path.join(folder, IGNORE)
     lines = texts.decoded(texts.read(path)).splitlines() if os.path.isfile(path) else []
-    patterns = [line.strip().rstrip("/") for line in lines if not line.startswith("#")]
+    patterns = [_plain(line.strip().rstrip("/")) for line in lines if not line.startswith("#")]
 
     def is_ignored(file: str) -> bool:
-        inner = os.path.relpath(file, folder or ".").replace(os.sep, "/")
+        inner = _plain(os.path.relpath(file, folder or "."))
         return any(fnmatch.fnmatchcase(inner if "/" in pattern else inner.rpartition("/")[2],
                                        pattern.lstrip("/")) for pattern in patterns)
     return is_ignored
@@ -138,7 +159,7 @@ def _in_folder(folder: str, seen: Set[Tuple[int, int]], is_out: IsOut) -> Iterat
     try:
         if not _is_new(os.stat(folder), seen):
             return
-        names = sorted(os.listdir(folder))
+        names = sorted(os.listdir(folder), key=_order)
         is_ignored = _ignored(folder)
     except OSError as error:
         yield _unreadable(folder, error.strerror)
@@ -178,7 +199,7 @@ def _in_file(path: str) -> Iterator[Export]:
     if len(members) > MOST_IN_ARCHIVE or sum(it.file_size for it in members) > MOST_UNPACKED:
         yield _unreadable(path, f"more than {MOST_IN_ARCHIVE} files or {MOST_UNPACKED} bytes in it")
         return
-    for member in sorted(members, key=lambda it: it.filename):
+    for member in sorted(members, key=lambda it: _order(it.filename)):
         yield _packed(path, member)
 
 

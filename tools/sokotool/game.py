@@ -3,18 +3,19 @@
 A place is a number: row * stride + column, both from 1. The board has a rim of walls, so a step
 adds a number to a place and never leaves the board.
 """
+import re
 from typing import FrozenSet, List, Optional, Sequence, Set, Tuple
 
 from . import alphabet, texts
-from .levels import Level
+from .boards import OPEN, form_of
+from .levels import LARGEST_SIDE, Level, OfRows
 
-LARGEST_SIDE = 255
 _BLANKS = b" \t\r\n"
 
 
 class Board:
-    """The board of a level. `walls[place]` is 1 for walls, with the rim; `floor`, `goals`, `boxes`
-    and `room` are sets of places.
+    """The board of a level. `walls[place]` is 1 for walls, with the rim; `goals`, `boxes` and
+    `room` are sets of places.
 
     `fault` is None for a legal level, and otherwise the auditor's word. A board with a side that is
     too long is left empty.
@@ -33,7 +34,8 @@ class Board:
         self._read(rows)
         self.player = self.players[0] if len(self.players) == 1 else None
         self._room: Optional[FrozenSet[int]] = None
-        self.fault = self.fault or self._first_fault()
+        self._solved: Optional["Replay"] = None
+        self.fault = self.fault or self._first_fault(level)
 
     def _read(self, rows: Sequence[bytes]) -> None:
         goals: List[int] = []
@@ -43,7 +45,8 @@ class Board:
             start = y * self.stride + 1
             cells = row.ljust(self.width)
             self.walls[start:start + self.width] = cells.translate(_WALLS)
-            for x, cell in enumerate(cells, start):
+            for found in _MARKS.finditer(cells):
+                x, cell = start + found.start(), found[0]
                 if cell in _GOALS:
                     goals.append(x)
                 if cell in _BOXES:
@@ -51,20 +54,15 @@ class Board:
                 elif cell in _PLAYERS:
                     self.players.append(x)
         self.goals, self.boxes = frozenset(goals), frozenset(boxes)
-        self.floor = frozenset(place for place, wall in enumerate(self.walls) if not wall)
 
-    def _first_fault(self) -> Optional[str]:
+    def _first_fault(self, level: Level) -> Optional[str]:
         if self.player is None:
             return "player"
         if not self.boxes:
             return "box"
         if len(self.boxes) > len(self.goals):
             return "goals"
-        return "open" if any(self._is_edge(place) for place in self.room) else None
-
-    def _is_edge(self, place):
-        column, row = self.cell(place)
-        return column in (1, self.width) or row in (1, self.height)
+        return "open" if form_of(level).kind == OPEN else None
 
     @property
     def doubt(self) -> Optional[str]:
@@ -106,8 +104,16 @@ class Board:
 
     def replay(self, letters: bytes, any_case: bool = False) -> "Replay":
         """Plays letters (bytes) from the start. With `any_case`, a letter in the wrong case is
-        changed, not refused."""
-        return Replay(self, letters, any_case)
+        changed, not refused. The last replay that solved the level is kept."""
+        if self._solved and self._solved.letters == letters:
+            return self._solved
+        replay = Replay(self, letters, any_case)
+        if replay.fault is None:
+            self._solved = replay
+        return replay
+
+
+board_of = OfRows(Board)
 
 
 class Replay:
@@ -124,34 +130,34 @@ class Replay:
         self.boxes: Set[int] = set(board.boxes)
         self.player = board.player
         self.fault: Optional[str] = None
-        self.played = bytearray()
+        self.letters: bytes = b""
         self.solved: List[Tuple[int, int]] = []
         self._play(board, letters.translate(None, _BLANKS), any_case)
         if self.fault is None:
             off = len(self.boxes - board.goals)
             self.fault = f"unsolved {off}" if off else None
 
-    @property
-    def letters(self) -> bytes:
-        """The letters that were played, each in its case."""
-        return bytes(self.played)
-
-    def _play(self, board, letters, any_case):
+    def _play(self, board: Board, letters: bytes, any_case: bool) -> None:
         walls, boxes, player = board.walls, self.boxes, board.player or 0
         steps = {ord(d): step for d, step in board.steps.items()}
         goals, off, since = board.goals, len(boxes - board.goals), 0
-        last, why = None, None
+        last, why, played = None, None, bytearray()
         for letter in letters:
             small = letter | 32
             step = steps.get(small, 0)
             near = player + step
-            far, pushes = near + step, near in boxes
-            why = ("letter" if not step else "wall" if walls[near]
-                   else "blocked" if pushes and (walls[far] or far in boxes)
-                   else "case" if pushes == (letter == small) and not any_case else None)
-            if why:
-                break
-            if pushes:
+            if near not in boxes:
+                why = ("letter" if not step else "wall" if walls[near]
+                       else "case" if letter != small and not any_case else None)
+                if why:
+                    break
+                played.append(small)
+            else:
+                far = near + step
+                why = ("blocked" if walls[far] or far in boxes
+                       else "case" if letter == small and not any_case else None)
+                if why:
+                    break
                 boxes.remove(near)
                 boxes.add(far)
                 self.pushes += 1
@@ -159,12 +165,12 @@ class Replay:
                 last = far
                 if (near in goals) != (far in goals):
                     if not off:
-                        self.solved.append((since, len(self.played)))
+                        self.solved.append((since, len(played)))
                     off += 1 if near in goals else -1
-                    since = len(self.played) + 1
-            self.played.append(small ^ 32 if pushes else small)
+                    since = len(played) + 1
+                played.append(small ^ 32)
             player = near
-        self.player, self.moves = player, len(self.played)
+        self.player, self.moves, self.letters = player, len(played), bytes(played)
         if not off:
             self.solved.append((since, self.moves))
         if why:
@@ -174,3 +180,4 @@ class Replay:
 _WALLS = bytes(cell == ord(alphabet.WALL) for cell in range(256))
 _GOALS, _BOXES = alphabet.GOALS.encode(), alphabet.BOXES.encode()
 _PLAYERS = alphabet.PLAYERS.encode()
+_MARKS = re.compile(b"[%b]" % re.escape(_GOALS + _BOXES + _PLAYERS))

@@ -7,7 +7,7 @@ came.
 """
 from typing import Dict, List, NamedTuple, Optional, Sequence, Tuple
 
-from . import answers, blocks, boards, by_hand, texts
+from . import answers, blocks, boards, by_hand, changes, texts
 from .blocks import Block
 
 _HEAD = b"; kept"
@@ -28,19 +28,19 @@ class Kept(NamedTuple):
     rest: List[bytes]
     alone: blocks.Lines = ()
 
-    def forms(self) -> Sequence[boards.Form]:
-        """Returns the forms of the levels."""
-        return by_hand.collection([entry.block for entry in self.entries]).forms
+    def collection(self) -> changes.Snapshot:
+        """Returns the levels."""
+        return by_hand.collection([entry.block for entry in self.entries])
 
     def records(self) -> List[answers.Record]:
         """Returns the answers, numbered by the places of the levels from 1."""
-        return [entry.record.numbered(number) for number, entry in enumerate(self.entries, 1)
+        return [entry.record._replace(level=number) for number, entry in enumerate(self.entries, 1)
                 if entry.record]
 
     def reasons(self, forms: Sequence[boards.Form]) -> List[str]:
         """Returns how many things are kept, and why. The forms are those of the collection."""
         keys = {form.key for form in forms}
-        are_there = [form.key in keys for form in self.forms()]
+        are_there = [form.key in keys for form in self.collection().forms]
         count = {is_there: sum(bool(entry.record) for entry, it in zip(self.entries, are_there)
                                if it == is_there) for is_there in (False, True)}
         typed = sum(bool(entry.block.above or entry.block.below) for entry in self.entries)

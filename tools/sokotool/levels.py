@@ -1,11 +1,16 @@
-"""Finds the levels of a text, the same ones as the auditor, and their titles."""
+"""Finds the levels of a text, the same ones as the auditor, with their titles and authors."""
 import re
 import sys
-from typing import List, NamedTuple, Tuple
+from functools import lru_cache
+from typing import Callable, Dict, Generic, List, NamedTuple, Pattern, Sequence, Tuple, TypeVar
 
 from . import alphabet, texts
 
 MOST_LEVELS = 10_000
+# the most columns or rows of a legal level
+LARGEST_SIDE = 255
+# the cells of the levels for which something is kept
+MOST_CELLS = 1 << 22
 # how many bytes a line with a title may have, so that no search in a long line takes long
 MOST_TITLE = 999
 CHARACTERS = alphabet.ROW.encode()
@@ -18,6 +23,10 @@ _NAMES = "|".join((
     "\u6a19\u984c", "\u30bf\u30a4\u30c8\u30eb")).encode()
 _TITLE, _NAME = (re.compile(rb"[-*>\s]*(?:" + keys + rb")" + _EQUALS + rb"[ \t]*(.*)", re.I | re.S)
                  for keys in (b"title", _NAMES))
+_BY = re.compile(rb"[-*>;#\s]*(?:" + "|".join((
+    "authors?", "autor", "auteur", "autore", "upphovsman", "\u0430\u0432\u0442\u043e\u0440",
+    "\u0410\u0432\u0442\u043e\u0440", "\u4f5c\u8005")).encode() + rb")" + _EQUALS +
+    rb"[ \t]*(.*)", re.I | re.S)
 _KEY = re.compile(rb"[-*>;#\s]*[A-Za-z\x80-\xff-]+" + _COLON)
 _TAGS = re.compile(rb"(?:</?[A-Za-z][^<>]*>|\[/?[A-Za-z]+(?:=[^\]]*)?\]|```.*|~~~.*"
                    rb"|[^A-Za-z0-9\x80-\xff])*", re.S)
@@ -28,17 +37,43 @@ _LETTERS = re.compile(rb"[lurdLURD0-9() \t]*")
 _DIGITS = re.compile(rb"[0-9 \t]*")
 _SOLUTION = re.compile(rb"\W*(?:[A-Za-z'\x80-\xff]+\s+){0,2}solution\b(?:[^:=]*[:=]|\W*[0-9(])",
                        re.I)
-_OTHER, _ROW, _BELOW, _ABOVE, _NAMED, _SHORT = range(6)
+_OTHER, _ROW, _BELOW, _ABOVE, _NAMED, _SHORT, _BY_LINE = range(7)
 _ROWS = re.compile(b"%b+" % bytes([_ROW]))
+
+Made = TypeVar("Made")
 
 
 class Level(NamedTuple):
-    """A level: its number from 1, its rows as they are written, its first line, and its title."""
+    """A level: its number from 1, its rows as they are written, its first line, its title, and its
+    author or that of the whole collection."""
 
     number: int
     rows: List[bytes]
     line: int
     title: str = ""
+    author: str = ""
+
+
+class OfRows(Generic[Made]):
+    """Makes something of the rows of a level, and keeps it for the next level with the same rows,
+    up to MOST_CELLS cells."""
+
+    def __init__(self, make: Callable[[Level], Made]) -> None:
+        self._make = make
+        self._made: Dict[Tuple[bytes, ...], Made] = {}
+        self._cells = 0
+
+    def __call__(self, level: Level) -> Made:
+        rows = tuple(level.rows)
+        made = self._made.get(rows)
+        if made is None:
+            made = self._make(level)
+            self._cells += sum(map(len, rows))
+            if self._cells > MOST_CELLS:
+                self._made.clear()
+                self._cells = 0
+            self._made[rows] = made
+        return made
 
 
 def is_row(line: bytes) -> bool:
@@ -48,19 +83,26 @@ def is_row(line: bytes) -> bool:
 
 def _kind_of(line: bytes) -> int:
     """Returns the kind of a line: a row, a title with its key, a title above a level, letters of
-    solutions or digits alone, or neither."""
+    solutions or digits alone, an author, or neither."""
     return (_ROW if is_row(line) else _OTHER if len(line) > MOST_TITLE
             else _BELOW if _TITLE.match(line) else _NAMED if _NAME.match(line)
             else _ABOVE if title_in(line)
-            else _SHORT if line.strip() and _LETTERS.fullmatch(line) else _OTHER)
+            else _SHORT if line.strip() and _LETTERS.fullmatch(line)
+            else _BY_LINE if _BY.match(line) else _OTHER)
 
 
 def read(data: bytes, most: int = sys.maxsize) -> List[Level]:
     """Returns the levels of a text in order, up to `most`: the longest runs of rows.
 
     A byte order mark at the start is skipped. A level's title is what a line 'Title: ..' says, or
-    otherwise the last line of text above the level.
+    otherwise the last line of text above the level. Its author is what a line 'Author: ..' says
+    where its title has its place, or otherwise the first such line above all levels.
     """
+    return list(_read(data, most))
+
+
+@lru_cache(maxsize=4)
+def _read(data: bytes, most: int) -> Sequence[Level]:
     if data.startswith(texts.MARK):
         data = data[len(texts.MARK):]
     lines = texts.lines(data)
@@ -75,9 +117,12 @@ def read(data: bytes, most: int = sys.maxsize) -> List[Level]:
     titles = [_title_of(lines, kinds, *gap) for gap in zip(ends, firsts)]
     are_above = bool(titles[0]) and not titles[-1] and (len(spans) == 1 or any(titles[1:-1]))
     keyed = titles[:-1] if are_above else titles[1:]
+    authors = [_keyed(lines, kinds, gap, (_BY_LINE, _BY)) for gap in zip(ends, firsts)]
+    of_all, named = authors[0], authors[:-1] if are_above else authors[1:]
     return [Level(number, lines[first:end], first + 1,
-                  title or texts.shown(_title_above(lines, kinds, above, first)))
-            for number, ((first, end), title, above) in enumerate(zip(spans, keyed, ends), 1)]
+                  title or texts.shown(_title_above(lines, kinds, above, first)), author or of_all)
+            for number, ((first, end), title, above, author)
+            in enumerate(zip(spans, keyed, ends, named), 1)]
 
 
 def _title_above(lines: List[bytes], kinds: bytes, end: int, first: int) -> bytes:
@@ -114,12 +159,17 @@ def _is_title(lines: List[bytes], kinds: bytes, where: Tuple[int, int, int]) -> 
 
 def _title_of(lines: List[bytes], kinds: bytes, end: int, first: int) -> str:
     """Returns the last title with its key between two lines; of the keys `Title` comes first."""
-    for kind, key in ((_BELOW, _TITLE), (_NAMED, _NAME)):
-        at = kinds.rfind(kind, end, first)
-        match = key.match(lines[at]) if at >= 0 else None
-        if match:
-            return texts.shown(match.group(1)).strip()
-    return ""
+    gap = end, first
+    return (_keyed(lines, kinds, gap, (_BELOW, _TITLE))
+            or _keyed(lines, kinds, gap, (_NAMED, _NAME)))
+
+
+def _keyed(lines: List[bytes], kinds: bytes, gap: Tuple[int, int],
+           key: Tuple[int, Pattern[bytes]]) -> str:
+    """Returns what the last line of a kind says after its key between two lines, or ""."""
+    at = kinds.rfind(key[0], *gap)
+    match = key[1].match(lines[at]) if at >= 0 else None
+    return texts.shown(match.group(1)).strip() if match else ""
 
 
 def title_in(line: bytes) -> bytes:

@@ -7,7 +7,7 @@ import signal
 import sys
 from typing import Any, Dict, Sequence
 
-from . import __version__, output, texts
+from . import __version__, output, system, texts
 
 MAIN = {
     "check": "do all of it: read exports, make certificates, search, audit, report what changed",
@@ -89,7 +89,7 @@ def main(words: Sequence[str]) -> int:
         return stop.status
     except OSError as error:
         # A reader that closed the pipe needs no message. What is still buffered is dropped.
-        if not isinstance(error, BrokenPipeError):
+        if not system.is_closed_pipe(error):
             print(f"{words[0]}: cannot write: {error.strerror}", file=sys.stderr)
         os.dup2(os.open(os.devnull, os.O_WRONLY), 1)
         return 2
@@ -106,6 +106,8 @@ def start() -> int:
     if sys.stdout is None:
         print("sokotool: standard output is closed", file=sys.stderr)
         return 2
+    if sys.stderr is None:
+        sys.stderr = open(os.devnull, "w", encoding="utf-8")
     output.buffered()
     if isinstance(sys.stderr, io.TextIOWrapper):
         sys.stderr.reconfigure(encoding="utf-8", errors="replace")

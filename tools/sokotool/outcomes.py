@@ -3,9 +3,12 @@ at most, and with which outcome."""
 from typing import Dict, List, Sequence, Tuple
 
 from .boards import Form
-from .search.refute import FOUND, FULL, ILLEGAL, SOLVABLE
-from .solvers import FAILED, REFUTED, SOLVED
 
+# the outcomes of a search; the search reached a limit of its own: FULL, MEMORY
+FOUND, SOLVABLE, LONG, ILLEGAL = "found", "solvable", "long", "illegal"
+LATE, FULL, MEMORY = "late", "full", "memory"
+# those of a solver, beside LATE and LONG
+SOLVED, REFUTED, NOTHING, FAILED = "solved", "refuted", "nothing", "failed"
 # More time doesn't change these outcomes.
 FINAL = (FULL, ILLEGAL)
 # These gave an answer: if there is none now, it was lost.

@@ -1,19 +1,13 @@
-"""The files that convert and check write: NAME.xsb and so on. Which files those are, whether they
-are as they were written, how they were, and how they become.
-
-An answers file that convert wrote ends in a comment with the checksums of both files and the names
-of the exports, and NAME.memory has what check wrote. They show what was typed since.
-"""
+"""The files that convert and check write: NAME.xsb and so on. Which files those are, how they were,
+and how they become."""
 import contextlib
 import glob
-import json
 import os
-import re
 import time
-from typing import (IO, Callable, Dict, Iterator, List, NamedTuple, Optional, Sequence, Set,
-                    Tuple)
+from itertools import zip_longest
+from typing import IO, Callable, Dict, Iterator, List, Optional
 
-from . import answers, auditor, blocks, memory, output, report, system, texts
+from . import answers, auditor, memory, output, report, sheet, system, texts, transaction
 from .progress import Progress
 
 # The page of a collection within the limits is shorter.
@@ -23,59 +17,31 @@ OTHER, KEPT_XSB, KEPT_ANSWERS, MEMORY = ".other.answers", ".kept.xsb", ".kept.an
 # the files that are kept as NAME.xsb~ and so on when one of them changes
 ENDS = (XSB, ANSWERS, OTHER, REPORT, PAGE, KEPT_XSB, KEPT_ANSWERS)
 JOURNAL = ".unfinished"
-EVERY = (*ENDS, MEMORY, JOURNAL)
+# the table, which is written if it is asked for
+SHEET = ".csv"
+EVERY = (*ENDS, SHEET, MEMORY, JOURNAL)
+# the files in the order in which a keeper wants to open them
+LISTED = (PAGE, *(end for end in (*ENDS, SHEET) if end != PAGE), MEMORY)
 _PAGE = b"<title>sokoaudit report</title>"
-_MARK = re.compile(rb"; convert wrote this \(([0-9a-f]{16}) ([0-9a-f]{16})\) from (\[.*\])\n")
 _BEAT = 0.1
 _NOTE = f"; {auditor.REFERENCE_NOTE}".encode()
 
-File = Tuple[str, bytes]
-
-
-class Mark(NamedTuple):
-    """The last comment of an answers file that convert wrote: the checksums of the levels and the
-    answers, and the exports."""
-
-    levels: str
-    answers: str
-    sources: Set[str]
-
-
-def marked(pair: Sequence[File], sources: Sequence[str]) -> List[File]:
-    """Returns the two files of a collection, with the mark at the end of the answers."""
-    (levels_name, levels_data), (answers_name, data) = pair
-    mark = (f"; convert wrote this ({texts.digest(levels_data)} {texts.digest(data)}) from "
-            f"{json.dumps(list(sources))}\n")
-    return [(levels_name, levels_data), (answers_name, data + mark.encode())]
-
-
-def mark_of(data: bytes) -> Optional[Mark]:
-    """Returns the mark of an answers file, or None if it has none or was changed since."""
-    match = _MARK.search(data)
-    if not match or match.end() < len(data) or (
-            texts.digest(data[:match.start()]) != match.group(2).decode()):
-        return None
-    return Mark(match.group(1).decode(), match.group(2).decode(), set(json.loads(match.group(3))))
-
-
-def unmarked(data: bytes) -> bytes:
-    """Returns an answers file without the mark."""
-    return _MARK.sub(b"", data)
-
 
 class Files:
-    """The contents of the files by the ends of their names: `before` the check, and `now`."""
+    """The contents of the files by the ends of their names: `before` the check, and `now`. The ends
+    of those that were written are in `written`."""
 
     def __init__(self, name: str, has_backups: bool) -> None:
         self.name, self.has_backups = name, has_backups
+        self.written: List[str] = []
         self._journal = name + JOURNAL
-        output.finish(self._journal)
+        transaction.finish(self._journal)
         self.before: Dict[str, bytes] = self._read()
         self.now: Dict[str, Optional[bytes]] = dict(self.before)
 
     def _read(self) -> Dict[str, bytes]:
-        return {end: texts.read(self.name + end, MOST_BYTES) for end in (*ENDS, MEMORY)
-                if os.path.exists(self.name + end)}
+        found = {end: bytes_of(self.name + end) for end in (*ENDS, SHEET, MEMORY)}
+        return {end: data for end, data in found.items() if data is not None}
 
     def levels(self) -> Optional[bytes]:
         """Returns the text of NAME.xsb without the note of the reference, or None if there is none.
@@ -87,38 +53,61 @@ class Files:
 
     def answers(self, end: str, most: int) -> answers.Answers:
         """Returns the records of an answers file for so many levels, in any order."""
-        data = unmarked(self.before.get(end, answers.text([])))
-        found: answers.Answers = answers.read_text(self.name + end, data, most, rising=False)
+        data = self.before.get(end, answers.text([]))
+        found = answers.read_text(self.name + end, data, most, rising=False)
         for lines in (found.rest, *(record.loose for record in found.records)):
             while _NOTE in lines:
                 lines.remove(_NOTE)
         return found
 
     def memory(self) -> memory.Memory:
-        """Returns what the last check remembers. Levels that convert wrote count as its own."""
-        found = memory.read(self.before.get(MEMORY), self.name + MEMORY)
-        text, mark = self.before.get(XSB, b""), _MARK.search(self.before.get(ANSWERS, b""))
-        if MEMORY not in self.before and mark and mark.group(1).decode() == texts.digest(text):
-            return found._replace(blocks=blocks.read(text))
-        return found
+        """Returns what the last check remembers."""
+        return memory.read(self.before.get(MEMORY), self.name + MEMORY)
 
     def write(self, files: Dict[str, Optional[bytes]]) -> None:
         """Writes the files that changed, and first the former ones as backups. If a file isn't as
         this run read or wrote it, nothing is written and `Changed` is raised."""
         there = self._read()
-        for end in (*ENDS, MEMORY):
+        for end in files:
             if there.get(end) != self.now.get(end):
-                raise output.Changed(self.name + end)
+                raise transaction.Changed(self.name + end)
         changed = {end: data for end, data in files.items() if data != self.now.get(end)}
-        backups: Dict[str, Optional[bytes]] = {}
-        if not self.has_backups and any(end in ENDS for end in changed):
-            backups = {end + "~": data for end, data in self.before.items() if end in ENDS}
-        if changed:
-            listed = [(self.name + end, data) for end, data in {**backups, **changed}.items()]
-            known = {self.name + end: self.now.get(end) for end in changed}
-            output.write_files(listed, self._journal, known)
+        listed = [(self.name + end, self.now.get(end), data) for end, data in changed.items()]
+        if not self.has_backups and any(end != MEMORY for end in changed):
+            listed[:0] = [(self.name + end + "~", bytes_of(self.name + end + "~"), data)
+                          for end, data in self.before.items() if end in files and end != MEMORY]
+        if listed:
+            transaction.commit(listed, self._journal)
             self.now.update(changed)
-            self.has_backups = self.has_backups or bool(backups)
+            self.written += [end for end, data in changed.items() if data is not None]
+            self.has_backups = self.has_backups or len(listed) > len(changed)
+
+    def changed(self, files: Dict[str, Optional[bytes]]) -> List[str]:
+        """Returns lines that tell where files are other than these, but for notes."""
+        said = []
+        for end, data in files.items():
+            now, wanted = (_without_note(it) for it in (self.now.get(end), data))
+            if now is not None and wanted is not None:
+                both = zip_longest(now.split(b"\n"), wanted.split(b"\n"))
+                said += [f"{end} line {at} would change"
+                         for at, (old, new) in enumerate(both, 1) if old != new][:1]
+            elif now != wanted:
+                said.append(f"{end} would be " + ("written" if now is None else "removed"))
+        return [texts.shown(self.name) + it for it in said]
+
+    def remember(self, data: bytes) -> None:
+        """Writes NAME.memory alone, whatever the other files are now."""
+        transaction.commit([(self.name + MEMORY, self.now.get(MEMORY), data)], self._journal)
+        self.now[MEMORY] = data
+
+
+def _without_note(data: Optional[bytes]) -> Optional[bytes]:
+    return data and data.replace(_NOTE + b"\n", b"").replace(b"," + _NOTE[1:], b"")
+
+
+def bytes_of(name: str) -> Optional[bytes]:
+    """Returns the contents of a file, or None if there is none."""
+    return texts.read(name, MOST_BYTES) if os.path.exists(name) else None
 
 
 def own(name: str) -> Callable[[str], bool]:
@@ -131,16 +120,17 @@ def own(name: str) -> Callable[[str], bool]:
 
 def is_made(name: str, data: bytes) -> bool:
     """Returns whether a file is one that check made for some NAME, but not its levels or answers:
-    a backup, what was kept, a report, a page, a memory, or a journal."""
+    a backup, what was kept, a report, a page, a table, a memory, or a journal."""
     return (name.endswith(("~", KEPT_XSB, KEPT_ANSWERS, JOURNAL))
             or name.endswith(REPORT) and report.read(data).total is not None
             or name.endswith(PAGE) and _PAGE in data
+            or name.endswith(SHEET) and sheet.is_begun(data)
             or name.endswith(MEMORY) and data.startswith(b"{"))
 
 
-def check_writable(name: str) -> None:
-    """Refuses a NAME whose files can't be written."""
-    for end in (*ENDS, MEMORY):
+def check_writable(name: str, *more: str) -> None:
+    """Refuses a NAME whose files can't be written, with those of more ends."""
+    for end in (*ENDS, *more, MEMORY):
         output.check_writable(name + end)
 
 

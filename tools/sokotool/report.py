@@ -55,16 +55,13 @@ class Line(NamedTuple):
         return found
 
 
-class Report:
+class Report(NamedTuple):
     """The lines of levels in order, the five numbers of the total line, or None, and the numbers of
     lines that belong to no report."""
 
-    __slots__ = ("lines", "total", "strays")
-
-    def __init__(self) -> None:
-        self.lines: List[Line] = []
-        self.total: Optional[Tuple[int, ...]] = None
-        self.strays: List[int] = []
+    lines: List[Line]
+    total: Optional[Tuple[int, ...]]
+    strays: List[int]
 
     def fault(self, levels: int) -> Optional[str]:
         """Returns why this isn't a whole report on a collection of this many levels, or None."""
@@ -100,14 +97,16 @@ def line_of(text: str) -> Optional[Line]:
 def read(data: bytes) -> Report:
     """Reads a report. `strays` gets the numbers of lines that are neither report lines nor
     comments, which begin with ';'."""
-    report = Report()
+    lines: List[Line] = []
+    total: Optional[Tuple[int, ...]] = None
+    strays: List[int] = []
     for number, raw in enumerate(texts.lines(data), 1):
         text = raw.decode("ascii", "replace")
-        line, total = line_of(text), _TOTAL.fullmatch(text)
-        if line and report.total is None:
-            report.lines.append(line)
-        elif total and report.total is None:
-            report.total = tuple(map(int, total.groups()))
+        line, last = line_of(text), _TOTAL.fullmatch(text)
+        if line and total is None:
+            lines.append(line)
+        elif last and total is None:
+            total = tuple(map(int, last.groups()))
         elif not text.startswith(";"):
-            report.strays.append(number)
-    return report
+            strays.append(number)
+    return Report(lines, total, strays)

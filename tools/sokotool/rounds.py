@@ -1,22 +1,32 @@
 """Looks for answers in rounds: to all levels for a short time each, then to those that are left for
-a longer one, easy levels first. So most answers come early."""
+a longer one, easy levels first. So most answers come early. The ways to look are the search of
+sokotool, and after it the keeper's solver."""
+import argparse
+import math
 import time
 from collections import Counter
-from typing import Any, Callable, Dict, List, NamedTuple, Sequence, Tuple
+from functools import partial
+from typing import Callable, Dict, List, NamedTuple, Sequence, Tuple
 
-from . import texts
+from . import auditor, audits, texts
 from .boards import Form
+from .jobs import Jobs, Result
 from .levels import Level
 from .outcomes import FINAL, Outcomes
 from .progress import Progress
 from .search.budget import Budget, Limits
+from .searches import Searches
+from .solvers import Solver, Solvers
 
 # the seconds of a level in the first rounds
 FIRST = 0.1, 1, 10
 # after how many seconds results are handed on
 EVERY = 8
 
-HandOn = Callable[[Sequence[Tuple[Form, Any]]], None]
+WAY = "find"
+
+HandOn = Callable[[Sequence[Tuple[Form, Result]]], None]
+Take = Callable[[str, Sequence[Tuple[Form, Result]]], None]
 
 
 class Way(NamedTuple):
@@ -27,7 +37,7 @@ class Way(NamedTuple):
     name: str
     limits: Limits
     rounds: Sequence[float]
-    begin: Callable[[Sequence[Level], Limits, Budget], Any]
+    begin: Callable[[Sequence[Level], Limits, Budget], Jobs]
 
 
 def of(seconds: float) -> List[float]:
@@ -50,7 +60,7 @@ class Rounds:
                      for form in known.due(forms, way.name, way.limits.seconds)}
         self.count = len(self.left)
         self._done: Dict[bool, int] = Counter()  # how many levels have an answer, and have none
-        self._results: List[Tuple[Form, Any]] = []
+        self._results: List[Tuple[Form, Result]] = []
         self._handed = time.monotonic()
 
     def run(self, hand_on: HandOn) -> bool:
@@ -65,9 +75,11 @@ class Rounds:
             search = self.way.begin([form.level for form in sorted(due, key=size)],
                                     self.way.limits._replace(seconds=seconds), budget)
             try:
-                for result in search.results(lambda at=search: self._watch(at, hand_on)):
+                for result in search.results(partial(self._watch, search, budget, hand_on)):
                     self._add(result)
             except KeyboardInterrupt:
+                self.shown.keep("interrupted: writing what was found; a second interrupt ends "
+                                "without that")
                 for result in search.rest():
                     self._add(result)
                 goes_on = False
@@ -81,20 +93,22 @@ class Rounds:
             self.shown.keep(f"{texts.count(left, 'level')} left: the next run goes on with them")
         return goes_on
 
-    def _add(self, result: Any) -> None:
+    def _add(self, result: Result) -> None:
         """Adds a result. No later round has its level if that is done."""
         self._results.append((self.left[result.level.number], result))
         if self._is_done(result):
             del self.left[result.level.number]
 
-    def _is_done(self, result: Any) -> bool:
+    def _is_done(self, result: Result) -> bool:
         return (bool(result.record) or result.what in FINAL
                 or result.seconds >= self.way.limits.seconds)
 
-    def _watch(self, search: Any, hand_on: HandOn) -> None:
+    def _watch(self, search: Jobs, budget: Budget, hand_on: HandOn) -> None:
         if time.monotonic() - self._handed > EVERY and self._results:
             self._hand_on(hand_on)
-        self.shown.show(f"{search.at_work()} ({self._words()})")
+        left = budget.seconds_left()
+        ends = "" if math.isinf(left) else f", {max(left, 0):.0f} s left"
+        self.shown.show(f"{self._words()}{ends}: {search.at_work()}")
 
     def _hand_on(self, hand_on: HandOn) -> None:
         """Prints a line for each level that is done, in the order of the levels, and hands on all
@@ -112,4 +126,39 @@ class Rounds:
         self._handed = time.monotonic()
 
     def _words(self) -> str:
-        return f"{sum(self._done.values())} of {self.count} done, {self._done[True]} found"
+        """Returns how many levels are done, with the results that weren't handed on yet."""
+        done = Counter(self._done)
+        done.update(bool(it.record) for _, it in self._results if self._is_done(it))
+        return f"{sum(done.values())} of {self.count} done, {done[True]} found"
+
+
+# ---- all ways
+
+def ways(options: argparse.Namespace, program: auditor.Auditor) -> List[Way]:
+    """Returns the ways to search that the options ask for."""
+    found = []
+    if options.search > 0 and options.seconds > 0:
+        found.append(Way(WAY, Limits(options.seconds, options.search, options.jobs),
+                         of(options.seconds), Searches))
+    if options.solver:
+        solver = Solver(options.solver, lambda *one: audits.refusal(program, *one), options.verbose)
+        found.append(Way(f"solver {options.solver}",
+                         Limits(options.solver_seconds, options.solver_search, options.jobs),
+                         [options.solver_seconds], lambda *rest: Solvers(solver, *rest)))
+    return found
+
+
+def search(shown: Progress, several: Sequence[Way],
+           unanswered: Callable[[], Sequence[Form]], known: Outcomes, take: Take) -> None:
+    """Searches the levels without an answer in each way, one after the other, and says first what
+    each may take. `take` gets results by the name of their way. An interrupt ends all."""
+    due = [len(known.due(unanswered(), way.name, way.limits.seconds)) for way in several]
+    said = [f"{texts.count(count, 'level')} "
+            f"{'to search' if way.name == WAY else 'for the solver'}, {way.limits.words}"
+            for count, way in zip(due, several) if count]
+    if said:
+        shown.keep("; ".join(said))
+    for way in several:
+        one = Rounds(shown, way, unanswered(), known)
+        if not one.run(partial(take, way.name)):
+            break

@@ -11,15 +11,15 @@ import shutil
 import subprocess
 import tempfile
 import time
-from typing import IO, Callable, Dict, Iterator, List, NamedTuple, Optional, Sequence, Tuple
+from typing import IO, Callable, Iterator, List, NamedTuple, Optional, Sequence, Tuple
 
 from . import answers, printed, system, texts
 from .formats import written
+from .jobs import Job, Jobs, Result
 from .levels import Level
+from .outcomes import FAILED, LATE, LONG, NOTHING, REFUTED, SOLVED
 from .search.budget import Budget, Limits
 
-SOLVED, REFUTED, NOTHING, LATE, LONG, FAILED = (
-    "solved", "refuted", "nothing", "late", "long", "failed")
 PLACE = "{}"
 # the bytes of the beginning and of the end of an output that may have letters, and those of its
 # beginning that may have a certificate
@@ -32,27 +32,6 @@ MOST_PRINTED = 250_000_000
 GRACE = 1.0
 _BEAT = 0.02
 _MOST_FILES = 10
-
-
-class Result(NamedTuple):
-    """The outcome of a level's run: the record of its answer if there is one, the seconds that the
-    run could have, and lines that tell the rest."""
-
-    level: Level
-    what: str
-    record: bytes
-    seconds: float
-    said: Sequence[str]
-
-    @property
-    def words(self) -> str:
-        """The outcome in words."""
-        return {SOLVED: "solved by the solver", REFUTED: "shown unsolvable by the solver",
-                NOTHING: "the solver found nothing",
-                LATE: f"the solver was stopped after {self.seconds:.3g} s",
-                LONG: "the solver was stopped after "
-                      f"{texts.count(MOST_PRINTED // 1_000_000, 'megabyte')} of output",
-                FAILED: "the solver cannot be run"}[self.what]
 
 
 class Solver(NamedTuple):
@@ -72,16 +51,18 @@ def words_of(command: str) -> List[str]:
         raise texts.Stop(f"--solver {texts.shown(command)}: {error}") from None
     if not words:
         raise texts.Stop("--solver: no command")
-    if shutil.which(words[0]) is None:
+    # Windows finds a program by a part of its name, but starts it only by the whole.
+    found = shutil.which(words[0])
+    if found is None:
         raise texts.Stop(f"--solver: there is no program {texts.shown(words[0])}")
-    return words
+    return [found, *words[1:]]
 
 
-class Run:
+class Run(Job):
     """A run of a solver on a level. What it prints goes to a file."""
 
-    def __init__(self, words: Sequence[str], level: Level, seconds: float) -> None:
-        self.level, self.seconds = level, seconds
+    def __init__(self, solver: Solver, words: Sequence[str], level: Level, seconds: float) -> None:
+        self.solver, self.level, self.seconds = solver, level, seconds
         self.fault = ""
         self.what = NOTHING
         self.ended: Optional[float] = None  # when it was asked to end
@@ -103,7 +84,6 @@ class Run:
             return None
 
     def is_over(self) -> bool:
-        """Returns whether the run is over, after it has been ended if it is too long."""
         if self.group is None or self.group.has_ended():
             return True
         now = time.monotonic()
@@ -122,26 +102,36 @@ class Run:
         if self.group:
             self.group.terminate()
 
-    def close(self) -> None:
-        """Ends what is left of the run."""
+    def cut(self) -> Result:
+        self.what, self.seconds = LATE, min(self.seconds, time.monotonic() - self.began)
+        return self.result()
+
+    def result(self) -> Result:
+        """Ends what is left of the run, removes its files, and returns the outcome."""
         if self.group:
             self.group.kill()
-
-    def result(self, solver: Solver) -> Result:
-        """Returns the outcome of a run that is closed, and removes its files."""
         heads = [self._beginning(self.output), *self._written()]
         parts = [*self._printed(), *(head[:2 * KEPT] for head in heads[1:])]
         self.output.close()
         with contextlib.suppress(OSError, RecursionError):
             self.folder.cleanup()
-        what, record, said = self._answer(solver, parts, heads)
+        what, record, said = self._answer(parts, heads)
         if self.fault:
             said.append(self.fault)
         elif self.group and self.group.process.returncode and self.ended is None:
             said.append(_status(self.group.process.returncode))
-        return Result(self.level, what, record, self.seconds, said if solver.is_told else [])
+        return Result(self.level, what, record, self.seconds, self._words_of(what),
+                      said if self.solver.is_told else [])
 
-    def _answer(self, solver: Solver, parts: Sequence[bytes], heads: Sequence[bytes]
+    def _words_of(self, what: str) -> str:
+        return {SOLVED: "the solver found a solution", REFUTED: "the solver found a certificate",
+                NOTHING: "the solver found nothing",
+                LATE: f"the solver was stopped after {self.seconds:.3g} s",
+                LONG: "the solver was stopped after "
+                      f"{texts.count(MOST_PRINTED // 1_000_000, 'megabyte')} of output",
+                FAILED: "the solver cannot be run"}[what]
+
+    def _answer(self, parts: Sequence[bytes], heads: Sequence[bytes]
                 ) -> Tuple[str, bytes, List[str]]:
         """Returns the outcome, a record, and lines that tell what was printed and refused."""
         said = _shown(parts)
@@ -150,7 +140,7 @@ class Run:
         if found is not None:
             return SOLVED, answers.solution(self.level.number, found), said
         for lines in printed.certificates_in(heads):
-            why = solver.refusal(self.level, lines)
+            why = self.solver.refusal(self.level, lines)
             if not why:
                 return REFUTED, answers.certificate(self.level.number, lines), said
             said.append(f"refused: {why}")
@@ -195,53 +185,16 @@ def _shown(parts: Sequence[bytes]) -> List[str]:
 
 # ---- all runs
 
-class Solvers:
-    """The runs of a solver on some levels, up to some at once. Results come in the order in which
-    the runs end."""
+class Solvers(Jobs):
+    """The runs of a solver on some levels."""
 
     def __init__(self, solver: Solver, levels: Sequence[Level], limits: Limits, budget: Budget
                  ) -> None:
-        self.solver, self.limits, self.budget = solver, limits, budget
-        self._words = words_of(solver.command)
-        self._waiting, self._rest = list(levels), []  # type: List[Level], List[Result]
-        self._running: Dict[int, Run] = {}
+        super().__init__(levels, limits, budget)
+        self._solver, self._words = solver, words_of(solver.command)
 
-    def results(self, watch: Callable[[], None] = lambda: None) -> Iterator[Result]:
-        """Yields the result of each run. While it waits, it calls `watch` several times a second.
-        Once the time of all runs is over, no run begins."""
-        try:
-            while self._start():
-                watch()
-                time.sleep(_BEAT)
-                for number, run in list(self._running.items()):
-                    if run.is_over():
-                        yield self._ended(number, run)
-        finally:
-            for number, run in list(self._running.items()):
-                run.what, run.seconds = LATE, min(run.seconds, time.monotonic() - run.began)
-                self._rest.append(self._ended(number, run))
+    def _begin(self, level: Level, seconds: float) -> Job:
+        return Run(self._solver, self._words, level, seconds)
 
-    def rest(self) -> List[Result]:
-        """Returns the results of runs that an interrupt ended."""
-        return self._rest
-
-    def at_work(self) -> str:
-        """Returns the levels at work, with their seconds."""
-        now = time.monotonic()
-        return ", ".join(f"level {run.level.number} for {now - run.began:.0f} s"
-                         for run in self._running.values())
-
-    def _start(self) -> bool:
-        """Starts runs as long as there is room for them. Returns whether one runs."""
-        while self._waiting and len(self._running) < self.limits.jobs:
-            if self.budget.is_late():
-                break
-            seconds = min(self.limits.seconds, self.budget.seconds_left())
-            run = Run(self._words, self._waiting.pop(0), seconds)
-            self._running[run.level.number] = run
-        return bool(self._running)
-
-    def _ended(self, number: int, run: Run) -> Result:
-        run.close()
-        del self._running[number]
-        return run.result(self.solver)
+    def _wait(self) -> None:
+        time.sleep(_BEAT)

@@ -1,122 +1,171 @@
-"""The stages of a check, each of which hands on what it made: the files of NAME are read, what was
-typed into them is merged with the exports, answers are taken over, and the best ones are audited.
-"""
+"""The stages of a check: the files of NAME are read, what was typed into them is merged with the
+exports, answers are taken over, and the best ones are audited."""
 import argparse
-from typing import List, NamedTuple, Optional, Set, Tuple
+from typing import List, Optional, Sequence, Set, Tuple
 
-from . import (answers, auditor, blocks, boards, by_hand, carrying, changes, kept, levels, memory,
-               own_files, report, taking, texts)
+from . import (answers, auditor, blocks, boards, by_hand, carrying, kept, levels, memory, own_files,
+               report, texts)
 from .audits import Audits
+from .changes import Snapshot
 from .outcomes import Outcomes
 from .own_files import ANSWERS, KEPT_ANSWERS, KEPT_XSB, OTHER, REPORT, XSB, noted
-from .picks import Picks
+from .places import Origins
+from .pool import Pool
 from .progress import Progress
 
 
-class Exports(NamedTuple):
-    """The levels and solutions of the exports, the solutions with fewer pushes if both of the best
-    are kept, and what was left out: places and reasons."""
+class Run:
+    """What stays if the files of NAME are read again: what a run reads once, and what it found.
 
-    text: bytes
-    answers: bytes
-    others: bytes
-    problems: List[Tuple[str, str]]
-
-
-class Given(NamedTuple):
-    """What a run reads once: its options, where it shows its progress, the program, the exports,
-    and more answers with the names of their files."""
-
-    options: argparse.Namespace
-    shown: Progress
-    program: auditor.Auditor
-    exports: Exports
-    more: List[Tuple[str, answers.Answers]]
-
-
-class Found:
-    """What a run found, which stays if the files are read again: answers by the boards of their
-    levels, outcomes of searches, and the boards for which certificates were made.
-
-    `before` has the levels as they were when the run began, and `edited` the boards of those that
-    the keeper had edited when the files were written. `has_backups` is true once the former files
-    were kept.
+    It reads the levels and the records of the exports, whence those come and what was left out of
+    them, and more answers with the names of their files. `found` has answers with the forms of
+    their levels, `made` the boards for which certificates were made, `before` the levels as they
+    were when the run began, and `edited` the boards of those that the keeper had edited when the
+    files were written. `has_backups` is true once the former files were kept, and `written` has the
+    ends of the files that were written.
     """
 
-    def __init__(self) -> None:
+    def __init__(self, options: argparse.Namespace, shown: Progress, program: auditor.Auditor
+                 ) -> None:
+        self.options, self.shown, self.program = options, shown, program
+        self.name: str = options.name
+        self.exports, self.origins = by_hand.collection([]), Origins([], [])
+        self.records: List[answers.Record] = []
+        self.more: List[Tuple[str, answers.Answers]] = []
         self.outcomes = Outcomes({})
+        self.found: List[Tuple[boards.Form, answers.Answer]] = []
         self.made: Set[boards.Key] = set()
-        self.before: Optional[changes.State] = None
+        self.before: Optional[Snapshot] = None
         self.edited: Set[boards.Key] = set()
+        self.written: Set[str] = set()
         self.is_begun = self.has_backups = False
-        self._answers: List[Tuple[boards.Form, answers.Record]] = []
 
-    def add(self, form: boards.Form, record: answers.Record) -> None:
-        """Adds an answer to a level."""
-        self._answers.append((form, record.numbered(len(self._answers) + 1)))
+    def without(self, forms: Sequence[boards.Form]) -> List[memory.Find]:
+        """Returns the answers to boards that none of these forms has."""
+        keys = {form.key for form in forms}
+        return [(tuple(form.level.rows), answer.record(number))
+                for number, (form, answer) in enumerate(self.found, 1) if form.key not in keys]
 
-    def give(self, taken: taking.Taken) -> None:
+    def give(self, pool: Pool) -> None:
         """Gives the answers to the levels that have their boards."""
-        carried = carrying.carried([record for _, record in self._answers],
-                                   [form for form, _ in self._answers], taken.now.forms)
+        carried = carrying.carried([answers.Record(number, answer, 0, [])
+                                    for number, (_, answer) in enumerate(self.found, 1)],
+                                   [form for form, _ in self.found], pool.now.forms)
         for number, several in carried.items():
-            for one in several:
-                taken.add_computed(number, one.text)
+            for _, answer in several:
+                pool.add_computed(number, answer)
+
+    def keep(self) -> bool:
+        """Keeps what was found in NAME.memory alone. Returns whether there is anything."""
+        finds = self.without([])
+        if finds:
+            files = own_files.Files(self.name, True)
+            remembered = files.memory()._replace(found=finds)
+            remembered.outcomes.join(self.outcomes)
+            files.remember(memory.text(remembered))
+        return bool(finds)
 
 
-class Read(NamedTuple):
-    """The files of NAME, what the last check remembers, what former checks kept, and the levels as
-    the last check wrote them and as they are now."""
+class State:
+    """What is made of the files of NAME as they are: what the last check remembers, what former
+    checks kept, the levels as they are now, and what the collection becomes: its levels with what
+    was typed, their text, the candidates for their answers; and once these are audited, the texts
+    of the answers and of the report, and what has no place in the collection."""
 
-    files: own_files.Files
-    memory: memory.Memory
-    stored: kept.Kept
-    before: by_hand.Collection
-    mine: by_hand.Collection
+    def __init__(self, run: Run) -> None:
+        self.files = own_files.Files(run.name, run.has_backups)
+        self.memory = self.files.memory()
+        kept_text = self.files.before.get(KEPT_XSB, b"")
+        self.stored = self.left = kept.read(
+            kept_text, self.files.answers(KEPT_ANSWERS, len(levels.read(kept_text))))
+        written = self.memory.written.collection
+        is_same = written.blocks and self.files.levels() == blocks.text(written.blocks)
+        self.mine = written if is_same else by_hand.collection(_own_blocks(self.files))
+        # the levels whose numbers NAME.answers has, and the highest number that it may have
+        self.former = written if written.blocks else self.mine
+        self.most = max(len(self.former.levels), len(self.mine.blocks))
+        if not run.is_begun:
+            run.is_begun, run.before = True, self._before(run.program)
+            run.found += [
+                (boards.form_of(levels.Level(1, list(rows), 1)), answers.answer_of(record))
+                for rows, record in self.memory.found]
+        self.merged = by_hand.merged(self.memory.written, self.mine, run.exports,
+                                     [entry.block for entry in self.stored.entries])
+        self.now = self.merged.written.collection
+        self.text = noted(run.program, blocks.text(self.now.blocks))
+        self.answers = self.report = b""
+        self.pool = Pool(self.now, run.options.best)
+        self._take(run)
 
-    @property
-    def former(self) -> changes.State:
-        """The levels whose numbers NAME.answers has."""
-        return (self.before if self.before.blocks else self.mine).state
+    def _before(self, program: auditor.Auditor) -> Optional[Snapshot]:
+        """Returns the former levels with the report on them, of a new audit if that isn't whole."""
+        if XSB not in self.files.before:
+            return None
+        count = len(self.former.levels)
+        known = report.read(self.files.before.get(REPORT, b""))
+        if known.fault(count):
+            first = {record.level: record.text
+                     for record in reversed(self.files.answers(ANSWERS, self.most).records)}
+            rows = b"\n".join(answers.spelled(level.rows) for level in self.former.levels)
+            with Audits(program, rows, count) as audits:
+                known = audits.audit(answers.text([first[level] for level in sorted(first)
+                                                   if level <= count]))
+        return self.former._replace(lines=known.lines)
 
-    @property
-    def most(self) -> int:
-        """The highest number that a record of NAME.answers may have."""
-        return max(len(self.former.levels), len(self.mine.blocks))
+    def _take(self, run: Run) -> None:
+        """Takes over the former answers, those of the exports, and those of other files: by the
+        board of the level that each names."""
+        numbers = {at: number for number, at in enumerate(self.merged.written.places, 1)}
+        own, other = (self.files.answers(end, self.most) for end in (ANSWERS, OTHER))
+        own.records.extend(other.records)
+        own.rest.extend(other.rest)
+        self.pool.add_own(own, self.former, self.mine, set(self.memory.computed))
+        self.pool.add_stored(self.stored)
+        self.pool.add_exported([record._replace(level=numbers[record.level - 1])
+                                for record in run.records])
+        for name, more in run.more:
+            self.pool.add_file(name, more, self.former)
 
+    def audit(self, run: Run) -> None:
+        """Audits the best answers, after certificates were made for levels without one."""
+        run.shown.show("auditing")
+        run.give(self.pool)
+        with Audits(run.program, self.text, len(self.now.levels)) as audits:
+            self._audit(run, audits)
+            left = [form for form in self.unanswered() if form.key not in run.made]
+            if left:
+                run.shown.show("making certificates")
+                run.made.update(form.key for form in left)
+                made = [(self.now.forms[number - 1], answer)
+                        for number, answer in audits.made([form.level for form in left])]
+                run.found += made
+                if made:
+                    run.give(self.pool)
+                    self._audit(run, audits)
+        self.left = self._left()
 
-class Merge(NamedTuple):
-    """What the collection becomes: its blocks, its text, and its levels."""
+    def _audit(self, run: Run, audits: Audits) -> None:
+        self.answers, read = self.pool.audited(audits.audit,
+                                               lambda text: noted(run.program, text))
+        self.report = noted(run.program, audits.text)
+        self.now = self.now._replace(lines=read.lines)
 
-    merged: by_hand.Merged
-    text: bytes
-    now: changes.State
-
-
-class Audited(NamedTuple):
-    """The texts of the answers and of the report, and what that says."""
-
-    answers: bytes
-    report: bytes
-    read: report.Report
-
-    def unanswered(self, now: changes.State) -> List[boards.Form]:
+    def unanswered(self) -> List[boards.Form]:
         """Returns the legal levels that have no accepted answer."""
-        return [now.forms[line.level - 1] for line in self.read.lines
+        return [self.now.forms[line.level - 1] for line in self.now.lines
                 if not line.is_answered and line.words[:1] != ["board"]]
 
-
-def read(given: Given, found: Found) -> Read:
-    """Reads the files of NAME."""
-    files = own_files.Files(given.options.name, found.has_backups)
-    remembered = files.memory()
-    kept_text = files.before.get(KEPT_XSB, b"")
-    stored = kept.read(kept_text, files.answers(KEPT_ANSWERS, len(levels.read(kept_text))))
-    done = Read(files, remembered, stored, by_hand.collection(remembered.blocks),
-                by_hand.collection(_own_blocks(files)))
-    if not found.is_begun:
-        found.is_begun, found.before = True, _before(given, done)
-    return done
+    def _left(self) -> kept.Kept:
+        """Returns what has no place in the collection."""
+        back = self.merged.back
+        stored = [entry._replace(block=entry.block._replace(above=(), below=()))
+                  if at in back else entry for at, entry in enumerate(self.stored.entries)
+                  if entry.record or at not in back]
+        entries = self.pool.left(self.stored._replace(entries=stored))
+        for index, block in self.merged.away:
+            level = self.mine.levels[index]
+            entries.append(kept.Entry(kept.head_of(level.number, level.title), block))
+        return self.stored._replace(entries=entries)
 
 
 def _own_blocks(files: own_files.Files) -> List[blocks.Block]:
@@ -129,85 +178,3 @@ def _own_blocks(files: own_files.Files) -> List[blocks.Block]:
     if text and text.strip() and not found:
         raise texts.Stop(f"{name}.xsb has no level: move it away")
     return found
-
-
-def _before(given: Given, done: Read) -> Optional[changes.State]:
-    """Returns the former levels with the report on them, of a new audit if that isn't whole."""
-    if XSB not in done.files.before:
-        return None
-    count = len(done.former.levels)
-    known = report.read(done.files.before.get(REPORT, b""))
-    if known.fault(count):
-        first = {record.level: record.text
-                 for record in reversed(done.files.answers(ANSWERS, done.most).records)}
-        rows = b"\n".join(answers.spelled(level.rows) for level in done.former.levels)
-        with Audits(given.program, rows, count) as audits:
-            known = audits.audit(answers.text([first[level] for level in sorted(first)
-                                               if level <= count]))
-    return done.former._replace(lines=known.lines)
-
-
-def merge(given: Given, done: Read) -> Merge:
-    """Merges what the keeper typed with the exports."""
-    merged = by_hand.merged(done.before, done.mine,
-                            by_hand.collection(blocks.read(given.exports.text)),
-                            [entry.block for entry in done.stored.entries],
-                            done.memory.is_ordered)
-    text = noted(given.program, blocks.text(merged.blocks))
-    drawn = levels.read(text)
-    return Merge(merged, text, changes.State(drawn, boards.forms_of(drawn), []))
-
-
-def take(given: Given, done: Read, made: Merge) -> taking.Taken:
-    """Takes over the former answers, those of the exports, and those of other files: by the board
-    of the level that each names."""
-    taken = taking.Taken(Picks(made.now.levels, given.options.best), made.now)
-    places = {at: number for number, at in enumerate(made.merged.exports, 1)}
-    own, other = (done.files.answers(end, done.most) for end in (ANSWERS, OTHER))
-    own.records.extend(other.records)
-    own.rest.extend(other.rest)
-    taken.add_own(own, done.former, done.mine.state, set(done.memory.computed))
-    taken.add_stored(done.stored)
-    taken.add_exported([record.numbered(places[record.level - 1])
-                        for text in (given.exports.answers, given.exports.others)
-                        for record in answers.read(text).records])
-    for name, more in given.more:
-        taken.add_file(name, more, done.former)
-    return taken
-
-
-def audit(given: Given, made: Merge, taken: taking.Taken, found: Found) -> Audited:
-    """Audits the best answers, after certificates were made for levels without one."""
-    given.shown.show("auditing")
-    found.give(taken)
-    with Audits(given.program, made.text, len(made.now.levels)) as audits:
-        audited = _audited(given, taken, audits)
-        left = [form for form in audited.unanswered(made.now) if form.key not in found.made]
-        if left:
-            given.shown.show("making certificates")
-            found.made.update(form.key for form in left)
-            for number, record in audits.made([form.level for form in left]):
-                found.add(made.now.forms[number - 1], record)
-            found.give(taken)
-            audited = _audited(given, taken, audits)
-    return audited
-
-
-def _audited(given: Given, taken: taking.Taken, audits: Audits) -> Audited:
-    written, read_report = taken.picks.audited(
-        audits.audit, lambda records: noted(given.program, taken.written(records)))
-    return Audited(written, noted(given.program, audits.text), read_report)
-
-
-def left(done: Read, made: Merge, taken: taking.Taken) -> kept.Kept:
-    """Returns what has no place in the collection."""
-    merged = made.merged
-    stored = [entry._replace(block=entry.block._replace(above=(), below=()))
-              if at in merged.back else entry
-              for at, entry in enumerate(done.stored.entries)
-              if entry.record or at not in merged.back]
-    entries = taken.left(done.stored._replace(entries=stored))
-    for index, block in merged.away:
-        level = done.mine.state.levels[index]
-        entries.append(kept.Entry(kept.head_of(level.number, level.title), block))
-    return done.stored._replace(entries=entries)

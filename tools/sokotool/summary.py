@@ -1,12 +1,11 @@
 """The summary of a check, which fits a screen."""
+import sys
 from collections import Counter
-from typing import Dict, Iterator, List, NamedTuple, Optional, Sequence, Tuple
+from typing import Dict, Iterator, List, Sequence, Tuple
 
-from . import auditor, boards, changes, texts
-from .outcomes import Outcomes
-from .search.refute import FULL, ILLEGAL, LATE, LONG
-from .searches import MEMORY
-from .solvers import NOTHING
+from . import auditor, boards, changes, levels, messages, own_files, report, texts
+from .outcomes import FULL, ILLEGAL, LATE, LONG, MEMORY, NOTHING, Outcomes
+from .stages import Run, State
 
 MOST_PROBLEMS = 8
 MOST_LINES = 5
@@ -18,50 +17,52 @@ _OUTCOMES = {LATE: "stopped", FULL: "gave up with full tables", MEMORY: "gave up
              LONG: "too long", ILLEGAL: "not legal", NOTHING: "without an answer"}
 
 
-class Done(NamedTuple):
-    """The result of a check: the name of the collection, its state now and before, what was left
-    out or is wrong, whether the reference checked it, the numbers of the levels that the keeper
-    edited, what is kept elsewhere, how levels without an answer were searched before, and the
-    numbers of the levels that have another solution with fewer pushes."""
-
-    name: str
-    now: changes.State
-    before: Optional[changes.State]
-    problems: List[str]
-    is_reference: bool
-    edited: List[int]
-    kept: List[str]
-    searched: List[str]
-    others: List[int]
-
-
-def lines(done: Done) -> Iterator[str]:
-    """Yields the lines of the summary."""
-    count = {status: sum(line.status == status for line in done.now.lines)
+def lines(run: Run, state: State, problems: Sequence[str]) -> Iterator[str]:
+    """Yields the lines of the summary. The problems are what was left out or is wrong."""
+    now, others = state.now, list(state.pool.others)
+    count = {status: sum(line.status == status for line in now.lines)
              for status in ("solved", "unsolvable", "refused", "missing")}
-    yield f"{done.name}: {len(done.now.lines)} levels, " + ", ".join(
+    yield f"{run.name}: {len(now.lines)} levels, " + ", ".join(
         f"{number} {status}" for status, number in count.items())
-    if done.is_reference and not auditor.is_quiet():
+    if run.program.is_reference and not auditor.is_quiet():
         yield auditor.REFERENCE_NOTE
-    yield from _some("problem: ", done.problems, MOST_PROBLEMS)
+    yield from _some("problem: ", problems, MOST_PROBLEMS)
+    sources = run.origins.sources(state.merged.written.places)
+    places = {number: str(source.place) for number, source in sources.items()}
     yield from _some("no answer: ", [
-        f"{line.text}\tline {level.line}\t{level.title}".rstrip()
-        for level, line in zip(done.now.levels, done.now.lines) if not line.is_answered])
-    yield from done.searched
-    found = changes.changes(done.before, done.now) if done.before else []
+        _unanswered(places.get(level.number) or f"{texts.shown(run.name)}.xsb line {level.line}",
+                    level, line)
+        for level, line in zip(now.levels, now.lines) if not line.is_answered])
+    yield from searched(state.unanswered(), state.memory.outcomes, run.outcomes)
+    found = changes.changes(run.before, now) if run.before else []
     yield from changed(found)
-    if done.edited:
-        yield f"edited by hand: {_levels(done.edited)} {changes.ranges(done.edited)}"
-    elif done.before and not found:
+    edited = [number for number, form in enumerate(now.forms, 1)
+              if number in state.merged.edited or form.key in run.edited]
+    if edited:
+        yield f"edited by hand: {_levels(edited)} {changes.ranges(edited)}"
+    elif run.before and not found:
         yield "nothing changed since the last time"
-    if done.others:
-        yield (f"with fewer pushes in {done.name}.other.answers: {_levels(done.others)} "
-               f"{changes.ranges(done.others)}")
-    if done.kept:
-        yield f"kept in {done.name}.kept.xsb: " + ", ".join(done.kept)
+    if others:
+        yield (f"with fewer pushes in {run.name}.other.answers: {_levels(others)} "
+               f"{changes.ranges(others)}")
+    kept = state.left.reasons(now.forms)
+    if kept:
+        yield f"kept in {run.name}.kept.xsb: " + ", ".join(kept)
     yield from _some("twins: ", [
         f"level {later + 1} is level {first + 1}, {turn.words}"
-        for later, first, turn in boards.twins_of(done.now.forms)])
+        for later, first, turn in boards.twins_of(now.forms)])
+    if run.written:
+        names = [texts.shown(run.name) + end for end in own_files.LISTED if end in run.written]
+        if sys.stdout.isatty() and own_files.PAGE in run.written:
+            names[0] += " (open it in a browser)"
+        yield "wrote: " + ", ".join(names)
+
+
+def _unanswered(place: str, level: levels.Level, line: report.Line) -> str:
+    """Returns where a level without an answer is, what the report says of it and why, and its
+    title."""
+    why = messages.reason(level, line) if line.status == "refused" else ""
+    return f"{place}: {': '.join(filter(None, (line.text, why)))}\t{level.title}".rstrip()
 
 
 def _some(head: str, items: Sequence[str], most: int = MOST_LINES) -> Iterator[str]:

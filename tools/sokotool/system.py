@@ -7,12 +7,14 @@ import importlib
 import multiprocessing
 import multiprocessing.connection
 import os
+import re
 import shlex
 import signal
 import subprocess
 import sys
 import threading
-from typing import Any, Callable, List, Optional, Sequence
+import time
+from typing import IO, Any, Callable, List, Optional, Sequence
 
 try:
     import fcntl
@@ -35,6 +37,14 @@ _KILL = getattr(signal, "SIGKILL", signal.SIGTERM)
 # whether a process has ended, without taking it off the system's list: its number stays its own
 _LOOK = os.WEXITED | os.WNOHANG | os.WNOWAIT if hasattr(os, "waitid") else 0
 _PR_SET_PDEATHSIG = 1
+# the folder of the process for renameat2, and its flag
+_HERE, _NO_REPLACE = -100, 1
+# how many processes may be waited for at once: before Python 3.13 Windows waits for up to 63
+MOST_PROCESSES = 60 if IS_WINDOWS else sys.maxsize
+_DEVICE = re.compile(
+    r"(?i)(con|con(in|out)\$|prn|aux|nul|(com|lpt)[1-9\u00b9\u00b2\u00b3]) *([.:]|$)")
+# the seconds in which a file is tried again
+PATIENCE = 1.0
 
 
 def processors() -> int:
@@ -42,6 +52,29 @@ def processors() -> int:
     if hasattr(os, "sched_getaffinity"):
         return len(os.sched_getaffinity(0))
     return os.cpu_count() or 1
+
+
+def is_device(name: str) -> bool:
+    """Returns whether a name, whatever end it has, is that of a device."""
+    return IS_WINDOWS and bool(_DEVICE.match(name))
+
+
+def is_closed_pipe(error: OSError) -> bool:
+    """Returns whether a write failed because the reader has closed the pipe."""
+    return isinstance(error, BrokenPipeError) or IS_WINDOWS and error.errno == errno.EINVAL
+
+
+def patiently(work: Callable[..., None], *words: str) -> None:
+    """Replaces or removes a file by this function. On Windows that fails while another program
+    reads the file, as a scanner does with new ones for a moment: it is tried again for a second."""
+    end = time.monotonic() + PATIENCE
+    while True:
+        try:
+            return work(*words)
+        except PermissionError:
+            if not IS_WINDOWS or time.monotonic() > end:
+                raise
+            time.sleep(PATIENCE / 20)
 
 
 def takes_status_lines(stream: Any) -> bool:
@@ -81,6 +114,53 @@ def lock(handle: int) -> bool:
     except OSError as error:
         return error.errno not in (errno.EACCES, errno.EAGAIN, errno.EDEADLK)
     return True
+
+
+def keep(file: IO[Any]) -> None:
+    """Writes a file to the disk, so that it outlasts a power cut."""
+    file.flush()
+    os.fsync(file.fileno())
+
+
+def keep_names(folder: str) -> None:
+    """Writes the names in a folder to the disk, where the system can."""
+    with contextlib.suppress(OSError):
+        handle = os.open(folder, os.O_RDONLY)
+        try:
+            os.fsync(handle)
+        finally:
+            os.close(handle)
+
+
+def copy_rights(path: str, made: str) -> None:
+    """Gives a new file the access lists and labels of the file at a path, where it has some."""
+    if hasattr(os, "listxattr"):
+        with contextlib.suppress(OSError):
+            for name in os.listxattr(path):
+                os.setxattr(made, name, os.getxattr(path, name))
+
+
+def rename_new(made: str, path: str) -> None:
+    """Renames a file, or raises FileExistsError if a file has the new name."""
+    if IS_WINDOWS:
+        patiently(os.rename, made, path)
+        return
+    try:
+        os.link(made, path)
+    except FileExistsError:
+        raise
+    except OSError:  # a file system without links
+        _rename_without_links(made, path)
+    else:
+        os.unlink(made)
+
+
+def _rename_without_links(made: str, path: str) -> None:
+    """Does the same where nothing but Linux can do both at once."""
+    if not _RENAME or _RENAME(_HERE, os.fsencode(made), _HERE, os.fsencode(path), _NO_REPLACE):
+        if os.path.lexists(path):
+            raise FileExistsError
+        os.replace(made, path)
 
 
 def end_with_parent() -> None:
@@ -132,15 +212,15 @@ class Group:
                 self.process.kill()
 
 
-def _prctl() -> Any:
-    """Returns Linux's function for settings of a process, or None."""
+def _linux(name: str) -> Any:
+    """Returns a function of Linux, or None."""
     try:
-        return ctypes.CDLL(None).prctl
+        return getattr(ctypes.CDLL(None), name)
     except (AttributeError, OSError, TypeError):
         return None
 
 
-_PRCTL = _prctl()
+_PRCTL, _RENAME = _linux("prctl"), _linux("renameat2")
 
 
 def _die_with_parent() -> None:

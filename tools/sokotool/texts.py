@@ -4,14 +4,17 @@ import hashlib
 import os
 import re
 import sys
-from typing import Any, AnyStr, Callable, List, Optional, Sequence, Tuple, Union
+from typing import Any, AnyStr, Callable, Dict, List, Optional, Sequence, Tuple, Union
+
+from . import encodings
 
 MOST_BYTES = 33_554_432
 MARK = b"\xef\xbb\xbf"
 # the most lines that a cache keeps
 MOST_KEPT = 1 << 19
 _BLOCK = 1 << 16
-_RETURNS = re.compile("\r\r+\n")
+# From the first CR on: a search from each of a million takes hours.
+_RETURNS = re.compile("(?<!\r)\r\r+\n")
 _INNER_MARK = re.compile("(?<!\n)\ufeff")
 
 
@@ -63,8 +66,9 @@ def lines(data: bytes) -> List[bytes]:
     found = _split(data, b"\n")
     last = found.pop() if found else b""
     if b"\r" in data:
-        seen = Cache(_same)
-        found = [seen[line[:-1]] if line.endswith(b"\r") else line for line in found]
+        seen: Dict[bytes, bytes] = {}
+        found = [line for at in range(0, len(found), _BLOCK) for line in _shared(
+            [it[:-1] if it.endswith(b"\r") else it for it in found[at:at + _BLOCK]], seen)]
     return found + [last] if last else found
 
 
@@ -73,33 +77,36 @@ def _split(data: AnyStr, end: AnyStr) -> List[AnyStr]:
     to the limit of the cache."""
     found: List[AnyStr] = []
     last: List[AnyStr] = []
-    seen = Cache(_same)
+    seen: Dict[AnyStr, AnyStr] = {}
     for at in range(0, len(data), _BLOCK):
         parts = data[at:at + _BLOCK].split(end)
         last.append(parts[0])
         if len(parts) > 1:
             found.append(end[:0].join(last))
-            found += map(seen.__getitem__, parts[1:-1])
+            found += _shared(parts[1:-1], seen)
             last = parts[-1:]
     return found + [end[:0].join(last)] if data else found
 
 
-class Cache(dict):
+def _shared(parts: List[AnyStr], seen: Dict[AnyStr, AnyStr]) -> List[AnyStr]:
+    """Returns parts, of which equal ones are one object, as far as there is room for more."""
+    if len(seen) < MOST_KEPT:
+        return [seen.setdefault(part, part) for part in parts]
+    return [seen.get(part, part) for part in parts]
+
+
+class Cache(Dict[Any, Any]):
     """Maps a line to what a function makes of it, and keeps that for up to MOST_KEPT lines."""
 
     def __init__(self, function: Callable[[Any], Any]) -> None:
         super().__init__()
         self.function = function
 
-    def __missing__(self, line):
+    def __missing__(self, line: Any) -> Any:
         value = self.function(line)
         if len(self) < MOST_KEPT:
             self[line] = value
         return value
-
-
-def _same(line):
-    return line
 
 
 def shown(text: Union[str, bytes]) -> str:
@@ -123,7 +130,8 @@ def decoded(data: bytes) -> str:
 
 def text_of(data: bytes, encoding: str = "") -> Tuple[Optional[str], str]:
     """Returns the text of a file, with LF at the end of each line, or None if it isn't a text, and
-    what it was read as if it isn't all UTF-8 or UTF-16: an encoding, or Windows-1252 by lines.
+    what it was read as if it isn't all UTF-8 or UTF-16: this encoding, or one that is guessed for
+    the other lines.
 
     Byte order marks are dropped, except at the start of a later line.
     """
@@ -140,8 +148,7 @@ def text_of(data: bytes, encoding: str = "") -> Tuple[Optional[str], str]:
         if coding != "utf-8":
             return None, ""
         try:
-            text, other = (data.decode(encoding), encoding) if encoding else (
-                _mixed(data), "Windows-1252")
+            text, other = (data.decode(encoding), encoding) if encoding else _mixed(data)
         except UnicodeDecodeError:
             return None, ""
     if "\0" in text:
@@ -153,24 +160,39 @@ def text_of(data: bytes, encoding: str = "") -> Tuple[Optional[str], str]:
     return text, "" if encoding else other
 
 
-def _mixed(data: bytes) -> str:
-    """Returns the text of bytes that are UTF-8 in part, decoded line by line."""
-    parts, at = [], 0
+def _mixed(data: bytes) -> Tuple[str, str]:
+    """Returns the text of bytes that are UTF-8 in part, decoded line by line, and the encoding of
+    the other lines."""
+    blocks, others, at = [], b"", 0
     while at < len(data):
         end = data.find(b"\n", at + _BLOCK) + 1 or len(data)
         block = data[at:end]
-        try:
-            parts.append(block.decode("utf-8"))
-        except UnicodeDecodeError:
-            parts.append("\n".join(_decoded_line(line) for line in block.split(b"\n")))
+        is_plain = _is_utf8(block)
+        if not is_plain and len(others) < encodings.MOST:
+            others += b"\n".join(line for line in block.split(b"\n") if not _is_utf8(line)) + b"\n"
+        blocks.append((block, is_plain))
         at = end
-    return "".join(parts)
+    name = encodings.guessed(others)
+    return "".join(
+        block.decode("utf-8") if is_plain else
+        "\n".join(_decoded_line(line, name) for line in block.split(b"\n"))
+        for block, is_plain in blocks), name
 
 
-def _decoded_line(line: bytes) -> str:
-    if line.startswith(MARK):
-        return "\ufeff" + decoded(line[len(MARK):])
-    return decoded(line)
+def _is_utf8(line: bytes) -> bool:
+    try:
+        line.decode("utf-8")
+    except UnicodeDecodeError:
+        return False
+    return True
+
+
+def _decoded_line(line: bytes, name: str) -> str:
+    try:
+        return line.decode("utf-8")
+    except UnicodeDecodeError:
+        is_marked = line.startswith(MARK)
+        return "\ufeff" * is_marked + encodings.decoded(line[len(MARK) * is_marked:], name)
 
 
 def lines_of(text: str) -> List[str]:

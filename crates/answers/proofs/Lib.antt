@@ -12,7 +12,6 @@ pub mod LetterPieces
 pub mod LetterTotals
 pub mod LineTexts
 pub mod NextRecords
-pub mod NumberTable
 pub mod Numerals
 pub mod Outcome
 pub mod PlainLines

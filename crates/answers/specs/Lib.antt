@@ -9,6 +9,7 @@ pub mod Pieces
 pub mod Reading
 pub mod Records
 pub mod RoundTrip
+pub mod Words
 pub use Rattle.bstr.specs.Text
 pub use Rattle.devices.specs.Device
 pub use Rattle.devices.specs.Writing

@@ -1,8 +1,7 @@
 //! Writes cells, many at a time.
 //!
-//! The texts of up to 32 cells are put into a buffer from its end to its front. Numbers are right-aligned in the entries of the table, so
-//! from the end every number is one copy of an entry, whatever its length. This is for speed: with a write for each part of a cell, `make`
-//! takes 44 % more instructions on a large collection.
+//! The texts of up to 32 cells are put into a buffer from its end to its front, as `itoa` puts the digits of a number. This is for speed:
+//! with a write for each part of a cell, `make` takes 44 % more instructions on a large collection.
 ghost use Rattle.std.specs.Prelude.{◌≡◌, ◌+◌, ◌<◌, ◌≤◌, ◌++◌, length, drop};
 ghost use Rattle.std.specs.List.{flat_map};
 ghost use Rattle.answers.specs.CellTexts.{between};
@@ -11,28 +10,13 @@ ghost use Rattle.answers.specs.Grammar.{numeral};
 
 use crate::pattern::Coord;
 use devices::{DeviceFault, Sink, write_whole};
+use itoa::write_digits;
 
 // The number of cells that are written at once.
 const PART: usize = 32;
 
 // The size of the buffer: 24 bytes for each cell.
 const ROOM: usize = 768;
-
-// The numbers below 256. An entry is the count of digits and then three digits, right-aligned. 0 has no digits.
-static NUMBERS: [u8; 1024] = *b"\
-    00001001100210031004100510061007100810092010201120122013201420152016201720182019\
-    20202021202220232024202520262027202820292030203120322033203420352036203720382039\
-    20402041204220432044204520462047204820492050205120522053205420552056205720582059\
-    20602061206220632064206520662067206820692070207120722073207420752076207720782079\
-    20802081208220832084208520862087208820892090209120922093209420952096209720982099\
-    31003101310231033104310531063107310831093110311131123113311431153116311731183119\
-    31203121312231233124312531263127312831293130313131323133313431353136313731383139\
-    31403141314231433144314531463147314831493150315131523153315431553156315731583159\
-    31603161316231633164316531663167316831693170317131723173317431753176317731783179\
-    31803181318231833184318531863187318831893190319131923193319431953196319731983199\
-    32003201320232033204320532063207320832093210321132123213321432153216321732183219\
-    32203221322232233224322532263227322832293230323132323233323432353236323732383239\
-    3240324132423243324432453246324732483249325032513252325332543255";
 
 // Writes each cell between two texts.
 #[inline(always)]
@@ -129,42 +113,8 @@ fn put_number(number: u16, text: &mut [u8], end: usize) -> usize
     ensures put { drop result text.new ≡ numeral number ++ drop end text.old }
     ensures len { length text.new ≡ length text.old }
 {
-    if number < 256 {
-        return put_short(number, text, end);
+    if number == 0 {
+        return end;
     }
-    put_digits(number, text, end)
-}
-
-// Puts the digits of a number below 256. It copies the whole entry of the table. What comes before the digits is overwritten by the
-// next text.
-#[inline(always)]
-fn put_short(number: u16, text: &mut [u8], end: usize) -> usize
-    requires short { number < 256 }
-    requires room { (5 ≤ end) × (end ≤ length text.old) }
-    ensures few { (end ≤ result + 5) × (result ≤ end) }
-    ensures put { drop result text.new ≡ numeral number ++ drop end text.old }
-    ensures len { length text.new ≡ length text.old }
-{
-    let entry = 4 * number as usize;
-    let digits = NUMBERS[entry] - b'0';
-    text[end - 4..end].copy_from_slice(&NUMBERS[entry..entry + 4]);
-    end - digits as usize
-}
-
-// Puts the digits of any number, one by one.
-#[inline(never)]
-fn put_digits(number: u16, text: &mut [u8], end: usize) -> usize
-    requires room { (5 ≤ end) × (end ≤ length text.old) }
-    ensures few { (end ≤ result + 5) × (result ≤ end) }
-    ensures put { drop result text.new ≡ numeral number ++ drop end text.old }
-    ensures len { length text.new ≡ length text.old }
-{
-    let mut left = number;
-    let mut at = end;
-    while left > 0 {
-        at -= 1;
-        text[at] = b'0' + (left % 10) as u8;
-        left /= 10;
-    }
-    at
+    write_digits(u64::from(number), text, end)
 }

@@ -3,14 +3,14 @@
 use smallvec::SmallVec;
 
 /// A cell as the text spells it: column and row from 1, where 0 is off every board. Cells are ordered by row, then by column.
-#[derive(Clone, Copy, Debug, Default)]
+#[derive(Clone, Copy, Debug, Default, PartialEq, Eq, PartialOrd, Ord)]
 pub struct Coord {
     pub row: u16,
     pub column: u16,
 }
 
 /// The cells at which the region of a pattern begins.
-#[derive(Debug, Drop)]
+#[derive(Clone, Debug, PartialEq, Eq, Drop)]
 pub enum Seeds {
     /// The room without the boxes, written `*`.
     Room,
@@ -19,7 +19,7 @@ pub enum Seeds {
 }
 
 /// Boxes with the seeds of a region, and the line of the text; a made pattern has line 0.
-#[derive(Debug, Drop)]
+#[derive(Clone, Debug, PartialEq, Eq, Drop)]
 pub struct Pattern {
     pub line: usize,
     pub boxes: SmallVec<Coord, 8>,
@@ -27,7 +27,7 @@ pub struct Pattern {
 }
 
 /// Cells, and the line of the text; a made zone has line 0.
-#[derive(Debug, Drop)]
+#[derive(Clone, Debug, PartialEq, Eq, Drop)]
 pub struct Zone {
     pub line: usize,
     pub cells: Vec<Coord>,

@@ -121,7 +121,7 @@ fn after_blank(text: &[u8]) -> Option<&[u8]>
 fn is_before(a: Coord, b: Coord) -> bool
     ensures { result ≡ is_before a b }
 {
-    a.row < b.row || (a.row == b.row && a.column < b.column)
+    a < b
 }
 
 // Reads cells off the front of a text, up to its end or to a blank and `@`. Adds them to the empty list, and returns the rest.

@@ -1,4 +1,6 @@
 //! Reads an answers text: splits it into records and reads each of them.
+//!
+//! `read` is for callers. The program uses `split`, whose contract says the same of the text, and reads a record when it judges its level.
 
 ghost use Rattle.std.specs.Prelude.{All, ◌≡◌, ◌⊎◌, ◌++◌, ◌∷◌, [], List, map, length, IfOk, IfErr, MatchResult};
 ghost use Rattle.answers.specs.Grammar.{HasLettersWithin, SpellsEntries, said_answers, said_record};

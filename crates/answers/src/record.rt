@@ -1,9 +1,14 @@
 //! The records of an answers text, read or made.
 
+ghost use Rattle.answers.specs.Words.{bad_line_word};
+ghost use Rattle.std.specs.Prelude.{◌≡◌};
+
 use crate::pattern::{Pattern, Zone};
+use thiserror::Error;
 
 /// Why a line is bad.
-#[derive(Clone, Copy, Debug)]
+#[derive(Clone, Copy, Debug, PartialEq, Eq, Error)]
+#[error("{}", self.word())]
 pub enum BadLineWhy {
     /// No line like this may be there.
     Syntax,
@@ -11,8 +16,20 @@ pub enum BadLineWhy {
     Count,
 }
 
+impl BadLineWhy {
+    /// Returns the word of the report.
+    pub fn word(self) -> &'static str
+        ensures { result.now ≡ bad_line_word self }
+    {
+        match self {
+            BadLineWhy::Syntax => "syntax",
+            BadLineWhy::Count => "count",
+        }
+    }
+}
+
 /// What a record of the text says of its level.
-#[derive(Debug, Drop)]
+#[derive(Clone, Debug, PartialEq, Eq, Drop)]
 pub enum Record<'a> {
     /// The letter lines of a solution, borrowed from the text.
     Solution(Vec<&'a [u8]>),
@@ -25,7 +42,7 @@ pub enum Record<'a> {
 }
 
 /// What is next in a certificate.
-#[derive(Drop)]
+#[derive(Clone, Debug, PartialEq, Eq, Drop)]
 pub enum CertificateLine {
     /// A pattern. More lines may follow.
     Pattern(Pattern),
@@ -38,13 +55,13 @@ pub enum CertificateLine {
 }
 
 /// The records of a text, each with the number of its level. The numbers rise.
-#[derive(Drop)]
+#[derive(Clone, Debug, PartialEq, Eq, Drop)]
 pub struct Answers<'a> {
     pub records: Vec<(usize, Record<'a>)>,
 }
 
 /// What a made record says of its level.
-#[derive(Drop)]
+#[derive(Clone, Debug, PartialEq, Eq, Drop)]
 pub enum MadeBody<'a> {
     /// The letters of a solution.
     Letters(&'a [u8]),
@@ -55,7 +72,7 @@ pub enum MadeBody<'a> {
 }
 
 /// A record to write, and the number of its level.
-#[derive(Drop)]
+#[derive(Clone, Debug, PartialEq, Eq, Drop)]
 pub struct MadeRecord<'a> {
     pub level: usize,
     pub body: MadeBody<'a>,

@@ -26,7 +26,7 @@ pub struct RecordText<'a> {
 }
 
 /// The lines of a certificate that are left to read.
-#[derive(Drop)]
+#[derive(Debug, Drop)]
 pub struct CertificateLines<'a> {
     pub(crate) version: u8,
     // The number of patterns before.

@@ -1,4 +1,7 @@
 //! Writes the canonical text of records.
+//!
+//! `write` is for callers. The program writes the parts of the same text: `write_header`, and `write_record` or `write_lone_record` for each
+//! level.
 ghost use Rattle.std.specs.Prelude.{◌≡◌, ◌+◌, ◌++◌, Ok, OnOk, OnErr, codes, drop, take};
 ghost use Rattle.std.specs.List.{flat_map};
 ghost use Rattle.std.specs.Io.KnownBytes.{Appends};

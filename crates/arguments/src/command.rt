@@ -13,7 +13,7 @@ use std::alloc::{AllocError, Global};
 const MAX_NUMBER: u16 = 10_000;
 
 /// What the words ask for. Files are named by their paths.
-#[derive(Clone, Copy)]
+#[derive(Clone, Copy, Debug, PartialEq, Eq)]
 pub enum Command<'a> {
     /// A report on the levels and their answers.
     Audit { levels: &'a str, answers: &'a str },

@@ -7,6 +7,7 @@ pub mod Cut
 pub mod Rows
 pub mod Sketch
 pub mod Legal
+pub mod Words
 pub use Rattle.cellset.specs.Shape
 pub use Rattle.cellset.specs.Cell
 pub use Rattle.cellset.specs.CellSet

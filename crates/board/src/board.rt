@@ -12,7 +12,7 @@ use reach::Rows;
 use std::marker::Model;
 
 /// A level that can be played, with sets of cells of the type `S`.
-#[derive(Drop)]
+#[derive(Debug, Drop)]
 pub struct Board<S: CellSet> {
     pub(crate) player: Cell,
     // Apart, so that a board is moved without its sets.
@@ -62,6 +62,7 @@ impl<S: CellSet> Board<S> {
     pub fn boxes(&self) -> &S
         ensures members { S.members result.now ≡ self.now.boxes }
         ensures extent { S.extent result.now ≡ self.now.shape }
+        ensures formed { IsWellFormed self.now }
     {
         &self.sketch.boxes
     }
@@ -78,14 +79,16 @@ impl<S: CellSet> Board<S> {
     pub fn room(&self) -> &S
         ensures members { S.members result.now ≡ self.now.room }
         ensures extent { S.extent result.now ≡ self.now.shape }
+        ensures formed { IsWellFormed self.now }
     {
         &self.sketch.room
     }
 
     /// Returns the room as rows of bits.
-    pub fn rows(&self) -> &Rows
+    pub fn room_rows(&self) -> &Rows
         ensures members { result.now.members ≡ self.now.room }
         ensures extent { result.now.extent ≡ self.now.shape }
+        ensures formed { IsWellFormed self.now }
     {
         &self.sketch.region
     }

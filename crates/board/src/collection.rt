@@ -9,7 +9,6 @@ use crate::characters::{characters_in, is_board_character, walls_in};
 use crate::passing::past_text;
 use lines::first_line;
 use std::alloc::Global;
-use std::fmt;
 use std::marker::Model;
 use std::simd::prelude::*;
 use thiserror::Error;
@@ -18,7 +17,7 @@ use thiserror::Error;
 pub const MAX_LEVELS: usize = 10_000;
 
 /// A level as the text draws it.
-#[derive(Drop)]
+#[derive(Debug, Drop)]
 pub struct LevelText<'a> {
     pub(crate) text: &'a [u8],
     pub(crate) width: usize,
@@ -41,21 +40,14 @@ impl<'a> Model for LevelText<'a> {
 }
 
 /// Why a text has no list of levels.
-#[derive(Clone, Copy, Debug, Drop, Error)]
+#[derive(Clone, Copy, Debug, PartialEq, Eq, Error)]
 pub enum LevelsFault {
     /// There are more than `MAX_LEVELS` levels.
+    #[error("too many levels")]
     TooMany,
     /// The system refused memory.
+    #[error("out of memory")]
     Memory,
-}
-
-impl fmt::Display for LevelsFault {
-    fn fmt<W: fmt::Write>(&self, f: &mut fmt::Formatter<W>) -> fmt::Result {
-        f.write_str(match self {
-            LevelsFault::TooMany => "too many levels",
-            LevelsFault::Memory => "out of memory",
-        })
-    }
 }
 
 /// Finds the levels of a text, in order. Each borrows its rows from the text.

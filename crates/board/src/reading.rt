@@ -8,6 +8,7 @@ ghost use Rattle.board.specs.Board.{IsWellFormed};
 ghost use Rattle.board.specs.Legal.{IsBoardOf, IsRefusal};
 ghost use Rattle.board.specs.Lines.{lines_in};
 ghost use Rattle.board.specs.Sketch.{HasRows, IsLegalUnlessOpen, IsSketchOf, extent_of, level_in};
+ghost use Rattle.board.specs.Words.{board_words};
 
 use crate::board::Board;
 use crate::collection::LevelText;
@@ -15,11 +16,11 @@ use crate::sketch::{Sketch, blank, draw};
 use cellset::{Cell, CellSet, Shape};
 use reach::step::ByWalk;
 use std::alloc::{AllocError, Global};
-use std::fmt;
 use thiserror::Error;
 
 /// Why a level has no board: the first of these that holds.
-#[derive(Clone, Copy, Debug, Drop, Error)]
+#[derive(Clone, Copy, Debug, PartialEq, Eq, Error)]
+#[error("{}", self.word())]
 pub enum BoardFault {
     /// A side is above `MAX_SIDE` of `cellset`.
     Size,
@@ -32,19 +33,23 @@ pub enum BoardFault {
     /// A cell of the room lies in the first or last row or column.
     Open,
     /// The system refused memory.
+    #[error("out of memory")]
     Memory,
 }
 
-impl fmt::Display for BoardFault {
-    fn fmt<W: fmt::Write>(&self, f: &mut fmt::Formatter<W>) -> fmt::Result {
-        f.write_str(match self {
+impl BoardFault {
+    /// Returns the word of the report. Out of memory is no fault of a level and has none.
+    pub fn word(self) -> &'static str
+        ensures { result.now ≡ board_words self }
+    {
+        match self {
             BoardFault::Size => "size",
             BoardFault::Player => "player",
             BoardFault::Box => "box",
             BoardFault::Goals => "goals",
             BoardFault::Open => "open",
-            BoardFault::Memory => "memory",
-        })
+            BoardFault::Memory => "",
+        }
     }
 }
 

@@ -16,7 +16,7 @@ use reach::Rows;
 use std::alloc::{AllocError, Global};
 
 /// The cells of each kind that the rows so far show, with memory for the room.
-#[derive(Drop)]
+#[derive(Debug, Drop)]
 pub(crate) struct Sketch<S: CellSet> {
     pub(crate) shape: Shape,
     pub(crate) walls: S,

@@ -14,7 +14,7 @@ use std::marker::Model;
 /// A bit for each cell of the grid, in reading order.
 ///
 /// Looking up, adding or removing a cell takes one step. Joining, comparing, copying and counting sets take a step for 64 cells.
-#[derive(Drop)]
+#[derive(Debug, Drop)]
 pub struct BitSet {
     shape: Shape,
     words: Vec<u64>,

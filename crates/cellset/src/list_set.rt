@@ -11,7 +11,7 @@ use std::marker::Model;
 ///
 /// Looking up a cell is a binary search. Adding or removing one moves the cells after it. Joining, comparing and copying
 /// sets take one such step for each member.
-#[derive(Drop)]
+#[derive(Debug, Drop)]
 pub struct ListSet {
     shape: Shape,
     cells: Vec<Cell>,

@@ -6,7 +6,7 @@ use crate::{Cell, CellSet};
 use std::marker::Model;
 
 /// The members of a set in reading order.
-#[derive(Drop)]
+#[derive(Debug, Drop)]
 pub struct MembersOf<'a, S: CellSet> {
     set: &'a S,
     from: Option<Cell>,

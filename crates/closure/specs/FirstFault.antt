@@ -8,7 +8,7 @@
 -- by its cell in reading order, and then by direction.
 use Rattle.std.specs.{Prelude.◌≡◌, Prelude.ℕ, Prelude.◌<◌, Prelude.◌≤◌, Prelude.◌⊎◌, Prelude.List, Prelude.◌∷◌, Prelude.◌++◌, List.Contains}
 use Rattle.cellset.specs.{Cell.IsOn, Cell.Before, CellSet.Cells, CellSet.Has, CellSet.Lacks, declared.cell.Cell.Cell, declared.dir.Dir.Dir}
-use Rattle.reach.specs.{Pushes.PushBefore, Pushes.dir_rank, declared.pushes.Push.Push as PushOut}
+use Rattle.reach.specs.{Pushes.dir_rank, declared.pushes.Push.Push as PushOut}
 use Rattle.board.specs.Game.{Level, start}
 use Rattle.answers.specs.Body.{PatternLine, ZoneLine}
 use Rattle.closure.specs.declared.fault.LineWhy.{LineWhy, TheVariants.Board, TheVariants.Wall, TheVariants.Seed, TheVariants.Goals}
@@ -16,7 +16,7 @@ use Rattle.closure.specs.declared.fault.CheckFault.{CheckFault, TheVariants.Line
 use Rattle.closure.specs.declared.fault.{ZoneLineWhy.ZoneLineWhy, ZoneFault.ZoneFault}
 use Rattle.closure.specs.declared.fault.ZoneLineWhy.TheVariants as zone_why
 use Rattle.closure.specs.declared.fault.ZoneFault.TheVariants as zone_fault
-use Rattle.patterns.specs.Pattern.{Pattern, cells_of, pattern_of, patterns_of, IsCovered, PushesOut, after_push}
+use Rattle.patterns.specs.Pattern.{Pattern, cells_of, pattern_of, patterns_of, IsCovered, IsFirstUncovered}
 use Rattle.closure.specs.Zone.{count_in, Leaks, IsClosedZone, IsZoneOnBoard, IsZoneOffWalls, IsRefuting}
 use Rattle.patterns.specs.Pattern.{IsListedSeed, IsOnBoard, IsOffWalls, HasFairSeeds, IsLawful, AreLawful, CoversPushesOf}
 use Rattle.closure.specs.Closed.{Closed}
@@ -37,12 +37,6 @@ pub record IsFirstFaultyLine (IsFine IsFaulty : PatternLine → Type 0) (lines :
   pub number_is : line.line ≡ number
   pub fine : (earlier : PatternLine) → Contains before earlier → IsFine earlier
   pub faulty : IsFaulty line
-
--- the first push out of the pattern whose result isn't covered
-pub record IsFirstUncovered (level : Level) (patterns : List Pattern) (pattern : Pattern) (push : PushOut) : Type 0 where
-  pub out : PushesOut level pattern push
-  pub uncovered : IsCovered level patterns (after_push pattern push) → ⊥
-  pub first : (earlier : PushOut) → PushesOut level pattern earlier → PushBefore earlier push → IsCovered level patterns (after_push pattern earlier)
 
 -- the first push out of the pattern whose result isn't covered is the one by the player on this cell in this direction
 abbrev pub HasFirstUncovered : Level → List Pattern → Pattern → Cell → Dir → Type 0

@@ -1,8 +1,10 @@
+pub mod Checking
 pub mod Closed
 pub mod FirstFault
 pub mod Index
 pub mod PatternList
 pub mod Scan
+pub mod Words
 pub mod Zone
 pub use Rattle.cellset.specs.Shape
 pub use Rattle.cellset.specs.Cell

@@ -1,25 +1,18 @@
 //! The check of lawful patterns: whether the list covers the start and what each push out of its patterns leads to.
-ghost use Rattle.std.specs.Prelude.{◌≡◌, ◌≢◌, ◌<◌, ◌↔◌, ℕ, Bool, IsTrue, IfOk, IfErr, OnOk, MatchOption, length, slice_index_or};
-ghost use Rattle.std.specs.List.{Contains};
-ghost use Rattle.cellset.specs.{Cell.IsOn, Cell.neighbor, CellSet.Has, CellSet.Lacks, declared.cell.Cell.Cell as GridCell, declared.dir.Dir.Dir as GridDir};
-ghost use Rattle.board.specs.Game.{start};
-ghost use Rattle.patterns.specs.Pattern.{Pattern as PatternSet, IsCovered, AreLawful};
-ghost use Rattle.patterns.specs.{Pattern.CoversPushesOf, GroupPushes.AreNoted, GroupPushes.IsReady};
-ghost use Rattle.closure.specs.Closed.{Closed};
-ghost use Rattle.patterns.specs.{Arena.lines_in, Arena.list_in, Groups.list_of};
+ghost use Rattle.std.specs.Prelude.{◌≡◌, ◌≢◌, ◌<◌, ◌↔◌, ℕ, Bool, IsTrue, IfErr, OnOk, Some, length, slice_index_or};
+ghost use Rattle.board.specs.{Board.IsWellFormed, Game.start};
+ghost use Rattle.patterns.specs.Pattern.{IsCovered, AreLawful};
+ghost use Rattle.patterns.specs.{GroupPushes.AreNoted, Tables.AreTables, Trap.AreOff};
+ghost use Rattle.closure.specs.{Checking.IsChecker, Closed.Closed};
+ghost use Rattle.patterns.specs.{Arena.lines_in, Arena.list_in, Groups.boxes_of, Groups.list_of};
 ghost use Rattle.closure.specs.FirstFault.{IsFirstPatternFault};
-ghost use Rattle.patterns.specs.Tables.{AreFilled, AreTables};
 
 use crate::fault::CheckFault;
-use crate::region::Finder;
 use board::Board;
-use cellset::{Cell, CellSet, Dir, MembersOf, Shape};
-use patterns::{
-    Arena, FilledTables, PushScratch, Tables, are_in, find_trap, is_any_covering, note_hinted,
-};
-use reach::{Push, Pushes, Rows};
+use cellset::CellSet;
+use patterns::{Arena, Lookups, Tables, Task, are_in, find_trap, note_hinted};
+use reach::Rows;
 use std::alloc::{AllocError, Global};
-use std::marker::Model;
 
 // Checks that a list of lawful patterns is closed, and returns its first fault if it isn't.
 pub(crate) fn check_lawful<S: CellSet>(
@@ -28,11 +21,10 @@ pub(crate) fn check_lawful<S: CellSet>(
     arena: Arena,
 ) -> Result<(), CheckFault>
     requires { AreLawful board.now (list_in arena) }
+    ensures formed { IsWellFormed board.now }
     ensures ok { OnOk result (Closed board.now (list_in arena)) }
     ensures exact { IfErr result (λ fault. fault ≢ CheckFault.Memory → IsFirstPatternFault board.now (lines_in arena) fault) }
 {
-    // For the proof: the board is well formed.
-    let _shape = board.shape();
     let Ok(mut trap) = Rows::new(alloc, board.shape()) else {
         drop(arena);
         return Err(CheckFault::Memory);
@@ -51,7 +43,7 @@ pub(crate) fn check_lawful<S: CellSet>(
     check_tables(alloc, tables)
 }
 
-// Checks a list by its tables. Most lists need no lookup, since the trap and hints cover all.
+// Checks a list by its tables.
 fn check_tables<S: CellSet>(alloc: Global, tables: Tables<S>) -> Result<(), CheckFault>
     requires tables { AreTables tables }
     ensures ok { OnOk result (Closed tables.entry.board.now (list_of tables.entry.groups)) }
@@ -62,52 +54,56 @@ fn check_tables<S: CellSet>(alloc: Global, tables: Tables<S>) -> Result<(), Chec
         drop(tables);
         return Err(CheckFault::Memory);
     };
-    note_hinted(&tables, &mut covered);
-    if is_start_found(&tables) && are_all(&covered) {
-        drop(tables);
+    let checked = check_start(alloc, &tables, &mut covered);
+    drop(covered);
+    drop(tables);
+    checked
+}
+
+// Checks that the list covers the start, and then what pushes lead to. Most lists need no lookup, since the trap and hints settle all pushes.
+fn check_start<S: CellSet>(
+    alloc: Global,
+    tables: &Tables<S>,
+    covered: &mut Vec<bool>,
+) -> Result<(), CheckFault>
+    requires tables { AreTables tables.now }
+    requires covered { AreNoted tables.now.board.now tables.now.groups covered.old.items }
+    ensures ok { OnOk result (Closed tables.now.board.now (list_of tables.now.groups)) }
+    ensures exact { IfErr result (λ fault. fault ≢ CheckFault.Memory
+        → IsFirstPatternFault tables.now.board.now (lines_in tables.now.groups.arena) fault) }
+{
+    if !is_start_covered(tables) {
+        return Err(CheckFault::Start);
+    }
+    note_hinted(tables, covered);
+    if are_all(covered) {
         return Ok(());
     }
-    let filled = tables.fill(alloc)?;
-    let checked = check_filled(alloc, &filled, &covered);
-    drop(filled);
-    checked
-}
-
-// Checks a list by lookups, for the groups that aren't noted as covered.
-fn check_filled<S: CellSet>(
-    alloc: Global,
-    filled: &FilledTables<S>,
-    covered: &[bool],
-) -> Result<(), CheckFault>
-    requires filled { AreFilled filled.now }
-    requires covered { AreNoted filled.now.tables.board.now filled.now.tables.groups covered.now }
-    ensures ok { OnOk result (Closed filled.now.tables.board.now (list_of filled.now.tables.groups)) }
-    ensures exact { IfErr result (λ fault. fault ≢ CheckFault.Memory
-        → IsFirstPatternFault filled.now.tables.board.now (lines_in filled.now.tables.groups.arena) fault) }
-{
-    let mut trial = Trial::new(alloc, filled.tables.board.shape())?;
-    let Ok(mut scratch) = PushScratch::new(alloc, filled) else {
-        drop(trial);
-        return Err(CheckFault::Memory);
+    let lookups = Lookups::new(alloc, tables)?;
+    let mut checker = Checker {
+        lookups,
+        settled: None,
     };
-    let checked = check_covering(filled, covered, &mut scratch, &mut trial);
-    drop(scratch);
-    drop(trial);
+    let checked = checker.check_pushes(alloc, tables, covered);
+    drop(checker);
     checked
 }
 
-// Returns true only if the trap, or a group whose region is all of the room but its boxes, covers the start.
-fn is_start_found<S: CellSet>(tables: &Tables<S>) -> bool
+// Returns whether the list covers the start.
+fn is_start_covered<S: CellSet>(tables: &Tables<S>) -> bool
     requires { AreTables tables.now }
-    ensures { IsTrue result → IsCovered tables.now.board.now (list_of tables.now.groups) (start tables.now.board.now) }
+    ensures { IsTrue result ↔ IsCovered tables.now.board.now (list_of tables.now.groups) (start tables.now.board.now) }
 {
-    let board = tables.board;
-    if tables.trap.meets(board.boxes()) {
+    let start = tables.board.boxes();
+    if tables.trap.meets(start) {
         return true;
     }
     for group in 0..tables.groups.spans.len() {
         let boxes = tables.groups.boxes(group);
-        if tables.is_whole(group) && are_in(boxes, board.boxes()) {
+        if !are_in(boxes, start) {
+            continue;
+        }
+        if tables.has_root(group) {
             return true;
         }
     }
@@ -126,142 +122,83 @@ fn are_all(covered: &[bool]) -> bool
     true
 }
 
-// Tries the pushes out of patterns, one line after another, in the same memory.
+// Lookups, and the group whose pushes were settled last.
 #[derive(Drop)]
-struct Trial<S: CellSet> {
-    finder: Finder<S>,
-    boxes: S,
-    region: S,
-    players: S,
+struct Checker {
+    lookups: Lookups,
+    settled: Option<usize>,
 }
 
-impl<S: CellSet> Model for Trial<S> {
-    ghost use Rattle.std.specs.Prelude.{◌≡◌};
-    ghost use Rattle.cellset.specs.Shape.{Extent};
-
-    ghost Value = { Extent };
-
-    ghost view = { λ t. t.finder.flooder };
-
-    ghost invariant = { λ t. (S.extent t.finder.seeds ≡ t.finder.flooder) × (S.extent t.boxes ≡ t.finder.flooder)
-        × (S.extent t.region ≡ t.finder.flooder) × (S.extent t.players ≡ t.finder.flooder) };
-}
-
-// Checks that the list covers the start, and what each push out of its patterns leads to if their group isn't noted as covered.
-fn check_covering<S: CellSet>(
-    filled: &FilledTables<S>,
-    covered: &[bool],
-    scratch: &mut PushScratch<S>,
-    trial: &mut Trial<S>,
-) -> Result<(), CheckFault>
-    requires ready { IsReady S.extent filled.now scratch.old }
-    requires trial { trial.old ≡ filled.now.tables.board.now.shape }
-    requires covered { AreNoted filled.now.tables.board.now filled.now.tables.groups covered.now }
-    ensures ok { OnOk result (Closed filled.now.tables.board.now (list_of filled.now.tables.groups)) }
-    ensures exact { IfErr result (λ fault. fault ≢ CheckFault.Memory
-        → IsFirstPatternFault filled.now.tables.board.now (lines_in filled.now.tables.groups.arena) fault) }
-{
-    let board = filled.tables.board;
-    if !is_any_covering(filled, board.player(), board.boxes(), &mut scratch.lookup) {
-        return Err(CheckFault::Start);
-    }
-    for line in 0..filled.tables.groups.arena.lines.len() {
-        if covered[filled.tables.groups.of[line] as usize] {
-            continue;
-        }
-        if let Some(push) = trial.first_push(filled, line, scratch) {
-            return Err(CheckFault::Push {
-                line: filled.tables.groups.arena.lines[line].number,
-                player: push.player,
-                dir: push.dir,
-            });
-        }
-    }
-    Ok(())
-}
-
-impl<S: CellSet> Trial<S> {
-    ghost use Rattle.patterns.specs.Arena.{pattern_at};
-    ghost use Rattle.closure.specs.FirstFault.{IsFirstUncovered};
-
-    // Returns a trial for boards of this shape.
-    fn new(alloc: Global, shape: Shape) -> Result<Trial<S>, AllocError>
-        ensures { IfOk result (λ t. t ≡ shape) }
-    {
-        let boxes = S::new(alloc, shape)?;
-        let region = S::new(alloc, shape)?;
-        let players = S::new(alloc, shape)?;
-        let finder = Finder::new(alloc, shape)?;
-        Ok(Trial {
-            finder,
-            boxes,
-            region,
-            players,
-        })
-    }
-
-    // Returns the first push out of the pattern of a line whose result isn't covered.
-    fn first_push(
+impl Checker {
+    // Checks line by line what each push leads to, if the line's group isn't noted as covered. Notes the groups of which no push is left.
+    fn check_pushes<S: CellSet>(
         &mut self,
-        filled: &FilledTables<S>,
-        line: usize,
-        scratch: &mut PushScratch<S>,
-    ) -> Option<Push>
-        requires shape { self.old ≡ filled.now.tables.board.now.shape }
-        requires line { line < length filled.now.tables.groups.arena.lines.items }
-        requires ready { IsReady S.extent filled.now scratch.old }
-        ensures shape { self.new ≡ filled.now.tables.board.now.shape }
-        ensures ready { IsReady S.extent filled.now scratch.new }
-        ensures exact { MatchOption result
-            (CoversPushesOf filled.now.tables.board.now (list_of filled.now.tables.groups) (pattern_at (list_of filled.now.tables.groups) line))
-            (IsFirstUncovered filled.now.tables.board.now (list_of filled.now.tables.groups) (pattern_at (list_of filled.now.tables.groups) line)) }
+        alloc: Global,
+        tables: &Tables<S>,
+        covered: &mut Vec<bool>,
+    ) -> Result<(), CheckFault>
+        requires tables { AreTables tables.now }
+        requires start { IsCovered tables.now.board.now (list_of tables.now.groups) (start tables.now.board.now) }
+        requires covered { AreNoted tables.now.board.now tables.now.groups covered.old.items }
+        requires checker { IsChecker tables.now self.old }
+        ensures ok { OnOk result (Closed tables.now.board.now (list_of tables.now.groups)) }
+        ensures exact { IfErr result (λ fault. fault ≢ CheckFault.Memory
+            → IsFirstPatternFault tables.now.board.now (lines_in tables.now.groups.arena) fault) }
     {
-        let board = filled.tables.board;
-        let pattern = filled.tables.groups.arena.pattern(line);
-        self.finder
-            .find(board, pattern, &mut self.boxes, &mut self.region);
-        find_players(&self.boxes, &self.region, &mut self.players);
-        scratch.load(filled, pattern.boxes);
-        for push in Pushes::new(board.shape(), board.walls(), &self.boxes, &self.players) {
-            if !scratch.covers(filled, pattern.boxes, push) {
-                return Some(push);
+        for line in 0..tables.groups.arena.lines.len() {
+            let group = tables.groups.of[line] as usize;
+            if covered[group] {
+                continue;
+            }
+            if tables.is_trapped(tables.groups.boxes(group)) {
+                continue;
+            }
+            self.settle(alloc, tables, covered, group)?;
+            if self.lookups.left.is_empty() {
+                covered[group] = true;
+                continue;
+            }
+            if let Some(push) = self.lookups.first_left(tables, group, line) {
+                return Err(CheckFault::Push {
+                    line: tables.groups.arena.lines[line].number,
+                    player: push.player,
+                    dir: push.dir,
+                });
             }
         }
-        None
+        Ok(())
     }
-}
 
-// Replaces `players` by the cells of a region that are beside boxes. The players of the pushes out of the region stand there.
-fn find_players<S: CellSet>(boxes: &S, region: &S, players: &mut S)
-    requires boxes { S.extent boxes.now ≡ S.extent players.old }
-    requires region { S.extent region.now ≡ S.extent players.old }
-    ensures extent { S.extent players.new ≡ S.extent players.old }
-    ensures inside { (c : GridCell) → Has (S.members players.new) c → Has (S.members region.now) c }
-    ensures beside { (c : GridCell) (d : GridDir) → IsOn (S.extent region.now) c → Has (S.members region.now) c
-        → Has (S.members boxes.now) (neighbor c d) → Has (S.members players.new) c }
-{
-    players.clear();
-    for from in MembersOf::new(boxes) {
-        add_player(region, from, Dir::L, players);
-        add_player(region, from, Dir::U, players);
-        add_player(region, from, Dir::R, players);
-        add_player(region, from, Dir::D, players);
-    }
-}
-
-// Adds the neighbour of a cell in a direction, if it is in the region.
-fn add_player<S: CellSet>(region: &S, from: Cell, dir: Dir, players: &mut S)
-    requires region { S.extent region.now ≡ S.extent players.old }
-    requires on { IsOn (S.extent region.now) from }
-    requires inside { (c : GridCell) → Has (S.members players.old) c → Has (S.members region.now) c }
-    ensures extent { S.extent players.new ≡ S.extent players.old }
-    ensures inside { (c : GridCell) → Has (S.members players.new) c → Has (S.members region.now) c }
-    ensures kept { (c : GridCell) → Has (S.members players.old) c → Has (S.members players.new) c }
-    ensures added { Has (S.members region.now) (neighbor from dir) → Has (S.members players.new) (neighbor from dir) }
-{
-    if let Some(player) = region.shape().step(from, dir) {
-        if region.contains(player) {
-            players.insert(player);
+    // Finds the pushes out of a group whose results the list doesn't cover, unless it is the group that was settled last.
+    fn settle<S: CellSet>(
+        &mut self,
+        alloc: Global,
+        tables: &Tables<S>,
+        covered: &[bool],
+        group: usize,
+    ) -> Result<(), AllocError>
+        requires tables { AreTables tables.now }
+        requires covered { AreNoted tables.now.board.now tables.now.groups covered.now }
+        requires group { group < length tables.now.groups.spans.items }
+        requires off { AreOff tables.now.trap.members (boxes_of tables.now.groups group) }
+        requires checker { IsChecker tables.now self.old }
+        ensures checker { OnOk result (IsChecker tables.now self.new) }
+        ensures settled { OnOk result (self.new.settled ≡ Some group) }
+    {
+        if let Some(known) = self.settled {
+            if known == group {
+                return Ok(());
+            }
         }
+        let boxes = tables.groups.boxes(group);
+        let task = Task {
+            tables,
+            covered,
+            group,
+            boxes,
+        };
+        self.lookups.settle(alloc, &task)?;
+        self.settled = Some(group);
+        Ok(())
     }
 }

@@ -1,4 +1,4 @@
-//! Which states a list of patterns covers.
+//! Which states a list of patterns covers. `Coverage` is for callers. The program uses `PatternList`, over the same definitions.
 ghost use Rattle.std.specs.Prelude.{◌≡◌, ◌↔◌, IsTrue};
 ghost use Rattle.cellset.specs.{Shape.Extent, Cell.IsOn};
 ghost use Rattle.board.specs.Game.{State};

@@ -1,37 +1,40 @@
-//! A coverage that looks states up in tables.
-ghost use Rattle.std.specs.Prelude.{◌≡◌, ◌↔◌, IfOk, map};
+//! A coverage that looks states up in tables. It is for callers, as `coverage` says. `PatternList` makes the same tables.
+ghost use Rattle.std.specs.Prelude.{◌≡◌, ◌<◌, ◌↔◌, IfOk, length, map};
 ghost use Rattle.board.specs.Game.{State};
 ghost use Rattle.answers.specs.Grammar.{said_pattern};
 ghost use Rattle.patterns.specs.Pattern.{patterns_of, IsCovered, AreLawful};
+ghost use Rattle.patterns.specs.{Lookups.AreLookups, Tables.AreTables};
 
 use crate::coverage::Coverage;
 use answers::Pattern;
 use board::Board;
 use cellset::{Cell, CellSet};
-use patterns::{FilledTables, Scratch, Tables, arena_of, is_any_covering};
+use patterns::{Lookups, Tables, arena_of};
 use reach::Rows;
 use std::alloc::{AllocError, Global};
 use std::marker::Model;
 
 /// A list of patterns, with the tables for quick lookups.
-#[derive(Drop)]
+#[derive(Debug, Drop)]
 pub struct Index<'a, S: CellSet> {
-    filled: FilledTables<'a, S>,
-    scratch: Scratch,
+    tables: Tables<'a, S>,
+    lookups: Lookups,
 }
 
 impl<'a, S: CellSet> Model for Index<'a, S> {
     ghost use Rattle.closure.specs.Index.{Listed, coded_listed};
-    ghost use Rattle.patterns.specs.Arena.{lines_in};
-    ghost use Rattle.patterns.specs.Tables.{AreFilled, IsRoomy};
+    ghost use Rattle.std.specs.Prelude.{◌≡◌, ◌<◌, length};
+    ghost use Rattle.std.specs.FinSet as finset;
+    ghost use Rattle.patterns.specs.{Arena.lines_in, Lookups.AreLookups, Tables.AreTables};
 
     ghost Value = { Listed };
 
     ghost coded = { coded_listed };
 
-    ghost view = { λ index. record { level = index.filled.tables.board.now; lines = lines_in index.filled.tables.groups.arena } };
+    ghost view = { λ index. record { level = index.tables.board.now; lines = lines_in index.tables.groups.arena } };
 
-    ghost invariant = { λ index. AreFilled index.filled × IsRoomy index.filled index.scratch };
+    ghost invariant = { λ index. AreTables index.tables × (index.tables.trap.members ≡ finset.empty) × AreLookups index.tables index.lookups
+        × (0 < length index.lookups.tree.nodes.items) };
 }
 
 impl<'a, S: CellSet> Index<'a, S> {
@@ -51,13 +54,23 @@ impl<'a, S: CellSet> Index<'a, S> {
         let arena = arena_of(alloc, board.shape(), patterns)?;
         let trap = Rows::new(alloc, board.shape())?;
         let tables = Tables::build(alloc, board, arena, trap)?;
-        let filled = tables.fill(alloc)?;
-        let Ok(scratch) = Scratch::new(alloc, &filled) else {
-            drop(filled);
+        let Ok(lookups) = fill(alloc, &tables) else {
+            drop(tables);
             return Err(AllocError);
         };
-        Ok(Index { filled, scratch })
+        Ok(Index { tables, lookups })
     }
+}
+
+// Returns what lookups of any state need.
+fn fill<S: CellSet>(alloc: Global, tables: &Tables<S>) -> Result<Lookups, AllocError>
+    requires { AreTables tables.now }
+    ensures are { IfOk result (AreLookups tables.now) }
+    ensures grown { IfOk result (λ l. 0 < length l.tree.nodes.items) }
+{
+    let mut lookups = Lookups::new(alloc, tables)?;
+    lookups.grow(alloc, tables)?;
+    Ok(lookups)
 }
 
 impl<S: CellSet> Coverage<S> for Index<'_, S> {
@@ -68,6 +81,6 @@ impl<S: CellSet> Coverage<S> for Index<'_, S> {
     ghost covered = { λ index s. IsListedCovered index s };
 
     fn covers(&mut self, player: Cell, boxes: &S) -> bool {
-        is_any_covering(&self.filled, player, boxes, &mut self.scratch)
+        self.lookups.covers(&self.tables, player, boxes)
     }
 }

@@ -12,13 +12,13 @@
 //! 1. Its lines are added one after another (`pattern_list`), and each is checked for its own faults (`lawful`). After a line at fault none is
 //!    added.
 //! 2. If each line has a box on the list's trap and the start has one there too, the list is closed (`checking`).
-//! 3. Lines with the same boxes become groups, and the trap and hints are asked about each push out of each group. If they settle all pushes,
-//!    and the start is found as quickly, the list is closed. This is so for nearly every list that a program writes.
-//! 4. Otherwise the start is looked up, and the lines are gone through up to the first fault. Each line whose group has pushes left gets a
-//!    flood of its own (`region`), and its pushes are looked up.
+//! 3. Lines with the same boxes become groups. The start is covered if all boxes of a group are there and its region has the player.
+//! 4. The trap and hints are asked about each push out of each group. If they settle all pushes, the list is closed. This is so for nearly
+//!    every list that a program writes.
+//! 5. Otherwise the lines are gone through up to the first fault. If the pushes of a line's group aren't settled yet, lookups settle them. If
+//!    one is left, the line gets a flood of its own, and the first push left by a player in it is the fault.
 //!
-//! So a list takes at most 2n floods, n more for a list with a trap that has to be looked up, and one for each piece that is looked at. The
-//! head of `patterns` says what lookups take.
+//! So a list takes at most 2n floods, and one for each piece that is entered. The head of `patterns` says how lookups settle pushes.
 //!
 //! `Index` answers lookups alone (`index`), and `Scan` answers the same questions line by line (`coverage`, `scan`). Zones are `zone`'s.
 //! `fault` has the faults, and `laws` what follows from an answer.

@@ -1,6 +1,6 @@
-//! Lists of patterns, and their check.
+//! Lists of patterns, and their check. `check` is for callers. The program uses `PatternList`, with the same contract.
 ghost use Rattle.std.specs.Prelude.{◌≡◌, ◌≢◌, ◌⊎◌, ◌++◌, ◌∷◌, [], IfOk, IfErr, OnOk, IsOkUnless, MatchOption, length, map};
-ghost use Rattle.board.specs.Game.{Solvable};
+ghost use Rattle.board.specs.{Board.IsWellFormed, Game.Solvable};
 ghost use Rattle.answers.specs.Grammar.{said_pattern};
 ghost use Rattle.patterns.specs.{Pattern.pattern_of, Pattern.patterns_of, Pattern.AreLawful, Pattern.IsLawful, Arena.lines_in, Arena.list_in};
 ghost use Rattle.closure.specs.Closed.{Closed};
@@ -16,13 +16,13 @@ use patterns::Arena;
 use std::alloc::{AllocError, Global};
 
 /// An accepted list: the number of its patterns.
-#[derive(Clone, Copy, Debug)]
+#[derive(Clone, Copy, Debug, PartialEq, Eq)]
 pub struct Accepted {
     pub patterns: usize,
 }
 
 /// A list of patterns, to which one line after another is added before it is checked.
-#[derive(Drop)]
+#[derive(Debug, Drop)]
 pub struct PatternList<'a, S: CellSet> {
     board: &'a Board<S>,
     // The patterns, up to the first that isn't lawful.
@@ -95,8 +95,6 @@ impl<'a, S: CellSet> PatternList<'a, S> {
         // What this means for the game.
         ensures unsolvable { (lines : List PatternLine) → IsListOf lines self.entry → OnOk result (Solvable self.entry.board.now → ⊥) }
     {
-        // For the proof: the board is well formed.
-        let _shape = self.board.shape();
         if let Some((line, why)) = self.unlawful {
             return Err(CheckFault::Line { line, why });
         }
@@ -111,6 +109,7 @@ fn check_lines<S: CellSet>(
     arena: Arena,
 ) -> Result<Accepted, CheckFault>
     requires { AreLawful board.now (list_in arena) }
+    ensures formed { IsWellFormed board.now }
     ensures ok { IfOk result (λ accepted. Closed board.now (list_in arena) × (accepted.patterns ≡ length (lines_in arena))) }
     ensures exact { IfErr result (λ fault. fault ≢ CheckFault.Memory → IsFirstPatternFault board.now (lines_in arena) fault) }
 {

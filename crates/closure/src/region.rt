@@ -46,8 +46,6 @@ impl<S: CellSet> Finder<S> {
         ensures members { S.members boxes.new ≡ cells_in pattern.entry.boxes.now }
         ensures exact { (c : GridCell) → Has (S.members region.new) c ↔ InPatternRegion board.now (pattern_in pattern.entry) c }
     {
-        // For the proof: the board is well formed.
-        let _shape = board.shape();
         load(pattern.boxes, boxes);
         match pattern.seeds {
             None => {

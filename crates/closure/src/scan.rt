@@ -1,4 +1,4 @@
-//! A coverage that goes through its patterns, one after another.
+//! A coverage that goes through its patterns, one after another. It is for callers, as `coverage` says.
 ghost use Rattle.std.specs.{Prelude.◌≡◌, Prelude.◌↔◌, Prelude.IsTrue, Prelude.IfOk, Prelude.map, List.All, List.AllZip};
 ghost use Rattle.cellset.specs.Cell.{IsOn};
 ghost use Rattle.board.specs.Game.{State};
@@ -16,7 +16,7 @@ use std::alloc::{AllocError, Global};
 use std::marker::Model;
 
 // The entry of a pattern: the cells of its boxes, and its region. For `*` it has no region, since that is the room without the boxes.
-#[derive(Drop)]
+#[derive(Debug, Drop)]
 struct Entry<S: CellSet> {
     shape: Shape,
     boxes: Vec<Cell>,
@@ -40,7 +40,7 @@ impl<S: CellSet> Model for Entry<S> {
 }
 
 /// A list of patterns that is searched from its beginning.
-#[derive(Drop)]
+#[derive(Debug, Drop)]
 pub struct Scan<S: CellSet> {
     room: S,
     entries: Vec<Entry<S>>,

@@ -3,7 +3,7 @@ ghost use Rattle.std.specs.Prelude.{◌≡◌, ◌≢◌, ◌⊎◌, ◌↔◌, 
 ghost use Rattle.std.specs.FinSet as finset;
 ghost use Rattle.cellset.specs.{Cell.IsOn, CellSet.Has, declared.dir.Dir.Dir as GridDir};
 ghost use Rattle.reach.specs.Pushes.{dir_rank};
-ghost use Rattle.board.specs.Game.{Solvable};
+ghost use Rattle.board.specs.{Board.IsWellFormed, Game.Solvable};
 ghost use Rattle.answers.specs.{Body.ZoneLine, Grammar.said_zone};
 ghost use Rattle.patterns.specs.Pattern.{cells_of};
 ghost use Rattle.closure.specs.{declared.fault.ZoneFault.ZoneFault as Fault, FirstFault.IsFirstLeak, FirstFault.IsFirstZoneFault};
@@ -17,7 +17,7 @@ use patterns::{add_cells, are_outside, load};
 use std::alloc::Global;
 
 /// An accepted zone: the number of its cells, each counted once.
-#[derive(Clone, Copy, Debug)]
+#[derive(Clone, Copy, Debug, PartialEq, Eq)]
 pub struct AcceptedZone {
     pub cells: usize,
 }
@@ -43,8 +43,6 @@ pub fn check_zone<S: CellSet>(
     // What this means for the game.
     ensures unsolvable { OnOk result (Solvable board.now → ⊥) }
 {
-    // For the proof: the board is well formed.
-    let _shape = board.shape();
     check_by_counts(alloc, board, zone)
 }
 
@@ -54,6 +52,7 @@ fn check_by_counts<S: CellSet>(
     board: &Board<S>,
     zone: &Zone,
 ) -> Result<AcceptedZone, ZoneFault>
+    ensures formed { IsWellFormed board.now }
     ensures ok { IfOk result (λ accepted. IsRefuting board.now (cells_of (said_zone zone.now).cells)
         × (accepted.cells ≡ finset.len (cells_of (said_zone zone.now).cells))) }
     ensures exact { IfErr result (λ fault. fault ≢ ZoneFault.Memory

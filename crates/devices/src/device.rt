@@ -52,7 +52,7 @@ pub trait Sink {
 ///
 /// Errors of any kind are failures, also an interrupted call or running out of memory, and so is a write that takes no byte of
 /// a text that isn't empty. No call is tried again.
-#[derive(Drop)]
+#[derive(Debug, Drop)]
 pub struct Device<T> {
     inner: T,
     failures: u64,

@@ -6,7 +6,7 @@ ghost use Rattle.std.specs.Io.KnownBytes.{Keeps, ReadConsumes, WriteAppends};
 use std::io::{self, ErrorKind, Read, Write};
 
 /// How a blown fuse fails.
-#[derive(Clone, Copy)]
+#[derive(Clone, Copy, Debug, PartialEq, Eq)]
 pub enum Blown {
     /// Every call is an error.
     Error,
@@ -17,7 +17,7 @@ pub enum Blown {
 }
 
 /// A reader or writer that passes a number of calls and then fails. It doesn't report its bytes.
-#[derive(Drop)]
+#[derive(Debug, Drop)]
 pub struct Fuse<T> {
     pub inner: T,
     /// The number of calls that still pass.

@@ -5,6 +5,7 @@ ghost use Rattle.devices.specs.Reading.{CountsReadFault, TakesAtMost, most_bytes
 
 use crate::device::Source;
 use std::alloc::{AllocError, Global};
+use thiserror::Error;
 
 /// The most bytes that a text may have.
 pub const MAX_TEXT: usize = 33_554_432;
@@ -13,13 +14,16 @@ pub const MAX_TEXT: usize = 33_554_432;
 const ROOM: usize = 65_536;
 
 /// Why a text could not be read whole.
-#[derive(Clone, Copy)]
+#[derive(Clone, Copy, Debug, PartialEq, Eq, Error)]
 pub enum ReadFault {
     /// A read failed.
+    #[error("cannot read")]
     Device,
     /// The text has more bytes than a text may have.
+    #[error("too long")]
     TooLong,
     /// The system refused memory.
+    #[error("out of memory")]
     Memory,
 }
 

@@ -10,8 +10,12 @@ mod pictures;
 #[cfg(test)]
 mod pushes;
 #[cfg(test)]
+mod runs;
+#[cfg(test)]
 mod same;
 #[cfg(test)]
 mod sets;
+#[cfg(test)]
+mod values;
 #[cfg(test)]
 mod writing;

@@ -12,11 +12,11 @@ pub trait Class: Copy {
 }
 
 /// The class of one byte.
-#[derive(Clone, Copy)]
+#[derive(Clone, Copy, Debug, PartialEq, Eq)]
 pub struct Byte(pub u8);
 
 /// The class of every other byte.
-#[derive(Clone, Copy)]
+#[derive(Clone, Copy, Debug, PartialEq, Eq)]
 pub struct NotByte(pub u8);
 
 impl Class for Byte {

@@ -4,6 +4,7 @@ ghost use Rattle.bstr.specs.Text.{without_terminator};
 ghost use Rattle.lines.specs.Lines.{IsFirstLine};
 ghost use Rattle.lines.specs.Starts.{AreFeeds};
 
+use bstr::ByteSlice;
 use std::simd::prelude::*;
 
 /// Returns the first line of a text that isn't empty, without its end, and the rest of the text.
@@ -21,28 +22,17 @@ pub fn first_line(text: &[u8]) -> (&[u8], &[u8])
     (content(line), rest)
 }
 
-// Returns the offset of the first line feed of a text, or the length of the text if there is none. Lines are short, so the search is in
-// place, 32 bytes at a time.
+// Returns the offset of the first line feed of a text, or the length of the text if there is none.
 #[inline]
 fn line_feed(text: &[u8]) -> usize
     ensures within { result ≤ length text.now }
     ensures before { (k : ℕ) → k < result → slice_index text.now k ≢ 10 }
     ensures found { result < length text.now → slice_index text.now result ≡ 10 }
 {
-    let mut at = 0;
-    'lanes: while text.len() - at >= 32 {
-        let feeds = feeds_at(text, at);
-        if feeds != 0 {
-            return at + feeds.trailing_zeros() as usize;
-        }
-        at += 32;
+    match text.find_byte(b'\n') {
+        Some(at) => at,
+        None => text.len(),
     }
-    for i in at..text.len() {
-        if text[i] == b'\n' {
-            return i;
-        }
-    }
-    text.len()
 }
 
 // Returns which of 32 bytes from an offset on are line feeds.

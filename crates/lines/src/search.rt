@@ -11,7 +11,7 @@ use crate::class::Class;
 use crate::line::feeds_at;
 
 /// The place at which a line begins, and the number of lines before it.
-#[derive(Clone, Copy)]
+#[derive(Clone, Copy, Debug, PartialEq, Eq)]
 pub struct Start {
     pub at: usize,
     pub before: usize,

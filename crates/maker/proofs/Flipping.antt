@@ -142,3 +142,16 @@ passed_on level matching start b goal free entries is_free near on pair near_sta
       boxes = λ c h. either (has_insert matched start c h) (λ e. rw e box) (is.boxes c);
       pairs = all_matched level matched (Pairs level.shape between) (Pairs level.shape new) (one_match level.shape new) goal start next last near_start lacks;
     }
+
+-- a free goal in the reach of a box can be matched to it at once
+pub free_matched : (level : Level) (matching : List (Option Cell)) (start goal : Cell) → HasEntries level.shape matching → IsFreeGoal level matching goal
+    → InReach level start goal → MatchesOneMore level matching start (set matching (index level.shape goal) (Some start))
+free_matched level matching start goal entries free near matched is box lacks =
+    let new = set matching (index level.shape goal) (Some start) in
+    let unmatched : (b : Cell) → Pairs level.shape matching goal b → ⊥ = λ b pair. let e = sym free.unmatched ∙ pair.entry in cc in
+    record {
+      boxes = λ c h. either (has_insert matched start c h) (λ e. rw e box) (is.boxes c);
+      pairs = all_matched level matched (Pairs level.shape matching) (Pairs level.shape new) (one_match level.shape new) goal start
+          (freed_start level matched (Pairs level.shape matching) goal is.pairs free.goal unmatched)
+          (table_matched level.shape matching goal start (Some start) free.on entries refl) near lacks;
+    }

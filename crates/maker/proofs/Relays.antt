@@ -2,7 +2,7 @@
 -- No relaxed push leaves a closed set. So if pushes lead from one cell to another, the second cell is in the reach of the first, and so is
 -- every cell in the reach of the second.
 use Rattle.std.proofs.Common.{◌≡◌, ℕ, ◌<◌, List, length, sym, subst, arith}
-use Rattle.std.specs.Prelude.{Option, None, Some, IfSome}
+use Rattle.std.specs.Prelude.{◌↔◌, Option, None, Some, IfSome}
 use Rattle.cellset.specs.Cell.{IsOn}
 use Rattle.cellset.specs.CellSet.{Cells, Has}
 use Rattle.cellset.specs.declared.cell.Cell.{Cell}
@@ -12,8 +12,8 @@ use Rattle.board.specs.Board.{IsWellFormed}
 use Rattle.maker.specs.Matching.{InReach}
 use Rattle.maker.specs.Search.{visit_at, IsTraced, IsSearch, IsFreeGoal}
 use Rattle.maker.specs.declared.zones.search.Visit.{Visit}
-use Rattle.maker.specs.Relay.{IsRelay, IsSameRelay, HasFreeGoal}
-use Rattle.maker.specs.declared.zones.relay.Relay.{Relay}
+use Rattle.maker.specs.Relay.{HasFreeGoal}
+use Rattle.maker.specs.declared.zones.relay.Relays.{Relays}
 use Rattle.maker.proofs.Searches.{push_stays}
 
 pub in_own_reach : (level : Level) (c : Cell) → InReach level c c
@@ -37,6 +37,16 @@ pushed_reach level formed source cell is c (by_step b before p) = λ zone closed
     subst (Has zone) (sym p.next)
     (push_stays level zone b p.dir closed (record { player = p.behind; floor = rw p.next at (formed.room c p.ahead) })
     (pushed_reach level formed source cell is b before zone closed h))
+
+-- floods from and to a cell link what they find
+pub floods_link : (level : Level) → IsWellFormed level → (cell : Cell) (from to sources targets : Cells)
+    → ((c : Cell) → Has from c ↔ (c ≡ cell)) → ((c : Cell) → Has targets c ↔ Reached (PushesTo (Has level.room)) (Has from) c)
+    → ((c : Cell) → Has to c ↔ (c ≡ cell)) → ((c : Cell) → Has sources c ↔ Reached (PullsTo (Has level.room)) (Has to) c)
+    → (b q : Cell) → Has sources b → Has targets q → InReach level b q
+floods_link level formed cell from to sources targets is_from pushed is_to pulled b q source target =
+    reach_through level b cell q
+    (pulled_reach level formed (Has to) cell (λ x h. (is_to x).0 h) b ((pulled b).0 source))
+    (pushed_reach level formed (Has from) cell (λ x h. (is_from x).0 h) q ((pushed q).0 target))
 
 -- a free goal is on the grid
 pub free_on_grid : (level : Level) (matching : List (Option Cell)) (cells : Cells) (found : Option Cell)
@@ -62,21 +72,7 @@ pub traced_last : (level : Level) (matching : List (Option Cell)) (start : Cell)
     → InReach level v.cell g → IsTraced level matching start queue (length queue) g v.via
 traced_last level matching start visited queue at v g is_search below is near = grind (arith, traced_to)
 
--- a relay stays sound if the reach of the last box alone is written
-pub relay_kept : (level : Level) (relay new : Relay) → IsSameRelay relay new → IsRelay level relay → IsRelay level new
-relay_kept level relay new same is = grind arith
-
-pub same_relay : (relay : Relay) → IsSameRelay relay relay
-same_relay relay = search
-
-pub same_twice : (a b c : Relay) → IsSameRelay a b → IsSameRelay b c → IsSameRelay a c
-same_twice a b c first then = search
-
-pub free_kept : (level : Level) (matching : List (Option Cell)) (relay new : Relay) → IsSameRelay relay new → HasFreeGoal level matching relay
-    → HasFreeGoal level matching new
-free_kept level matching relay new same is = grind arith
-
--- the goal of a relay is free, and in the reach of each source
-pub goal_of : (level : Level) (matching : List (Option Cell)) (relay : Relay) (g : Cell) → relay.free ≡ Some g → HasFreeGoal level matching relay
-    → IsFreeGoal level matching g × ((b : Cell) → Has relay.sources.members b → InReach level b g)
-goal_of level matching relay g is free = rw is at free
+-- the goal of the last relay is free, and in the reach of each source
+pub goal_of : (level : Level) (matching : List (Option Cell)) (relays : Relays) (g : Cell) → relays.last.free ≡ Some g → HasFreeGoal level matching relays
+    → IsFreeGoal level matching g × ((b : Cell) → Has relays.last.sources.members b → InReach level b g)
+goal_of level matching relays g is free = rw is at free

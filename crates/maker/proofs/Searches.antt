@@ -3,7 +3,7 @@
 -- is expanded and none is at a free goal, the visited cells are closed and hold the boxes matched to their goals. So they are the least
 -- set that confines the paths, which is a Hall violator.
 use Rattle.std.proofs.Common.{◌≡◌, ℕ, ◌+◌, ◌*◌, ◌<◌, ◌≤◌, List, [], ◌∷◌, ◌++◌, length, get_or, sym, ◌∙◌, ap, subst, inl, inr, arith}
-use Rattle.std.specs.Prelude.{Option, None, Some}
+use Rattle.std.specs.Prelude.{◌⊎◌, Option, None, Some}
 use Rattle.std.proofs.lemmas.Bool.{cases_lt}
 use Rattle.std.specs.FinSet as set
 use Rattle.std.specs.FinSet.{len-empty}
@@ -48,6 +48,11 @@ pub queued_here : (v : Visit) (visited : Cells) (queue : List Visit) (visited' :
 queued_here v visited queue visited' queue' (inl (has, s, l)) = search
 queued_here v visited queue visited' queue' (inr (lacks, s, l)) = grind (arith, inserted)
 
+pub queued_cases : (v : Visit) (visited : Cells) (queue : List Visit) (visited' : Cells) (queue' : List Visit) (q : Cell)
+    → IsQueued v visited queue visited' queue' → Has visited' q → (q ≡ v.cell) ⊎ Has visited q
+queued_cases v visited queue visited' queue' q (inl (has, s, l)) h = inr (rw s at h)
+queued_cases v visited queue visited' queue' q (inr (lacks, s, l)) h = has_insert visited v.cell q (rw s at h)
+
 -- ---- one visit more
 traced_on : (level : Level) (matching : List (Option Cell)) (start : Cell) (queue : List Visit) (v : Visit) (i : ℕ) (c : Cell) (via : Option ℕ)
     → i ≤ length queue → IsTraced level matching start queue i c via → IsTraced level matching start (queue ++ v ∷ []) i c via
@@ -82,9 +87,11 @@ module _ (level : Level) (matching : List (Option Cell)) (start : Cell) (visited
         (kept_by_insert visited v.cell (cell_visited queue i) (is_search.listed i less)))
         (λ e is. rw is (inserted visited v.cell));
     all = λ q h. elim (has_insert visited v.cell q h) [
-      | inl e ↦ (length queue, let more = one_longer in omega arith, ap (λ (x : Visit). x.cell) (last_visit queue v) ∙ sym e)
-      | inr old ↦ let (i, less, is) = is_search.all q old in
-          (i, let more = one_longer in omega arith, ap (λ (x : Visit). x.cell) (earlier_visit queue v i less) ∙ is)
+      | inl e ↦ inl (length queue, let more = one_longer in omega arith, ap (λ (x : Visit). x.cell) (last_visit queue v) ∙ sym e)
+      | inr old ↦ elim (is_search.all q old) [
+        | inl (i, less, is) ↦ inl (i, let more = one_longer in omega arith, ap (λ (x : Visit). x.cell) (earlier_visit queue v i less) ∙ is)
+        | inr passed ↦ inr (record { around = λ d push. kept_by_insert visited v.cell (neighbor q d) (passed.around d push); no_goal = passed.no_goal })
+      ]
     ];
     once = λ i j less h. each_visit j h
         (λ below is. let i_below : i < length queue = omega arith in
@@ -154,7 +161,7 @@ first_search level matching start floor =
       begins = inserted set.empty start;
       least = λ zone q confines h. rw (← (is_start q h)) at confines.begins;
       listed = λ i h. let e : 0 ≡ i = omega arith in subst (λ (n : ℕ). Has (set.insert set.empty start) (cell_visited (v ∷ []) n)) e (inserted set.empty start);
-      all = λ q h. (0, omega arith, sym (is_start q h));
+      all = λ q h. inl (0, omega arith, sym (is_start q h));
       once = λ i j less h. absurd (omega arith);
       traced = λ i h. let e : 0 ≡ i = omega arith in
           rw (← e) (λ zone closed has. has);
@@ -182,8 +189,10 @@ pub search_violator : (level : Level) (matching : List (Option Cell)) (start : C
     → IsSearch level matching start visited queue → ((g b : Cell) → Pairs level.shape matching g b → Has level.goals g)
     → ((i : ℕ) → i < length queue → IsExpanded level matching visited (cell_visited queue i)) → IsHallViolator level (Pairs level.shape matching) start visited
 search_violator level matching start visited queue is_search goals expanded =
-    let each : (q : Cell) → Has visited q → IsExpanded level matching visited q = λ q h. let (i, less, is) = is_search.all q h in
-    rw is at (expanded i less) in
+    let each : (q : Cell) → Has visited q → IsExpanded level matching visited q = λ q h. elim (is_search.all q h) [
+      | inl (i, less, is) ↦ rw is at (expanded i less)
+      | inr passed ↦ record { around = passed.around; matched_box = λ goal. absurd (passed.no_goal goal) }
+    ] in
     record {
       confines = record {
         closed = λ x d leak. not_both visited (neighbor x d) ((each x leak.inside).around d (record { player = leak.behind; floor = leak.ahead })) leak.outside;
@@ -202,7 +211,7 @@ pub queue_fits : (level : Level) (matching : List (Option Cell)) (start : Cell) 
 queue_fits level matching start visited queue is_search = grind (arith, len_on_grid)
 
 -- the queue has room for a visit at a new cell
-pub visit_room : (shape : Extent) (visited : Cells) (n capacity : ℕ) (c : Cell) → ((q : Cell) → Has visited q → IsOn shape q) → n ≡ set.len visited
+pub visit_room : (shape : Extent) (visited : Cells) (n capacity : ℕ) (c : Cell) → ((q : Cell) → Has visited q → IsOn shape q) → n ≤ set.len visited
     → shape.width * shape.height ≤ capacity → Lacks visited c → IsOn shape c → n < capacity
 visit_room shape visited n capacity c on count room lacks here =
     let few = len_on_grid shape (set.insert visited c)

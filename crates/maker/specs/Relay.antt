@@ -10,30 +10,28 @@ use Rattle.maker.specs.Dead.{IsRoomOf}
 use Rattle.maker.specs.Matching.{InReach}
 use Rattle.maker.specs.Search.{IsFreeGoal, Pairs}
 use Rattle.maker.specs.declared.zones.relay.Relay.{Relay}
+use Rattle.maker.specs.declared.zones.relay.Relays.{Relays}
 
--- the relay is sound: its rows are on the grid of the level, `room` is the room, each target is in the reach of each source, and
--- the goals that it keeps are on the grid
+-- a relay is sound: its rows are on the grid of the level, each target is in the reach of each source, and the goals that it keeps are on
+-- the grid
 pub record IsRelay (level : Level) (relay : Relay) : Type 0 where
-  pub room : IsRoomOf level relay.room.now
   pub sources_on : relay.sources.extent ≡ level.shape
   pub targets_on : relay.targets.extent ≡ level.shape
-  pub reach_on : relay.reach.extent ≡ level.shape
   pub linked : (b c : Cell) → Has relay.sources.members b → Has relay.targets.members c → InReach level b c
   pub free_on : IfSome relay.free (IsOn level.shape)
   pub given_on : IfSome relay.given (IsOn level.shape)
 
--- the relays are the same, except perhaps for the reach of the last box
-pub record IsSameRelay (relay new : Relay) : Type 0 where
-  pub room : new.room.now ≡ relay.room.now
-  pub sources : new.sources ≡ relay.sources
-  pub targets : new.targets ≡ relay.targets
-  pub reach : new.reach.extent ≡ relay.reach.extent
-  pub free : new.free ≡ relay.free
-  pub given : new.given ≡ relay.given
+-- both relays are sound, and `room` is the room
+pub record AreRelays (level : Level) (relays : Relays) : Type 0 where
+  pub room : IsRoomOf level relays.room.now
+  pub reach_on : relays.reach.extent ≡ level.shape
+  pub last : IsRelay level relays.last
+  pub other : IsRelay level relays.other
 
--- the goal of the relay, if it has one, is free and in the reach of each source
-abbrev pub HasFreeGoal : Level → List (Option Cell) → Relay → Type 0
-HasFreeGoal level matching relay = IfSome relay.free (λ g. IsFreeGoal level matching g × ((b : Cell) → Has relay.sources.members b → InReach level b g))
+-- the goal of the last relay, if it has one, is free and in the reach of each source
+abbrev pub HasFreeGoal : Level → List (Option Cell) → Relays → Type 0
+HasFreeGoal level matching relays = IfSome relays.last.free
+    (λ g. IsFreeGoal level matching g × ((b : Cell) → Has relays.last.sources.members b → InReach level b g))
 
 -- the cells are those to which pushes bring a box from the cell `start`, if there are no other boxes
 pub record IsReachOf (level : Level) (start : Cell) (reach : Cells) : Type 0 where
@@ -42,10 +40,10 @@ pub record IsReachOf (level : Level) (start : Cell) (reach : Cells) : Type 0 whe
   pub exact : (c : Cell) → Has reach c ↔ Reached (PushesTo (Has level.room)) (Has seeds) c
 
 -- the goal is in the reach of the last box, and it is matched to a source
-pub record IsGivenGoal (level : Level) (matching : List (Option Cell)) (relay : Relay) (g : Cell) : Type 0 where
+pub record IsGivenGoal (level : Level) (matching : List (Option Cell)) (relays : Relays) (g : Cell) : Type 0 where
   pub on : IsOn level.shape g
-  pub reached : Has relay.reach.members g
+  pub reached : Has relays.reach.members g
   pub goal : Has level.goals g
   pub box : Cell
   pub pair : Pairs level.shape matching g box
-  pub source : Has relay.sources.members box
+  pub source : Has relays.last.sources.members box

@@ -1,7 +1,8 @@
 -- One breadth-first search for an augmenting path: the table of the matching, the visits, and the steps from visit to visit.
 --     table        for each cell of the grid the box matched to the goal there, or none
 --     visit        a cell in the queue: pushes of the first box lead to it, or pushes of the box matched to the goal of an earlier visit
---     search       the visited cells are the cells in the queue, each once; all are floor, and every set that confines the paths has them
+--     passed       a visited cell that isn't in the queue: it is no goal, and the cells to which pushes lead from it are visited
+--     search       the queue has the visited cells but passed ones, each once; all are floor, and every set that confines the paths has them
 --     expanded     a visit with all successors visited: the cells to which pushes lead and, at a goal, the box matched to the goal
 use Rattle.std.specs.Prelude.{◌≡◌, ◌≢◌, ℕ, ◌*◌, ◌<◌, ◌≤◌, ◌⊎◌, Option, None, Some, List, [], ◌∷◌, ◌++◌, length, slice_index_or}
 use Rattle.std.specs.FinSet as set
@@ -50,22 +51,21 @@ abbrev pub IsTraced : Level → List (Option Cell) → Cell → List Visit → �
 IsTraced level matching start queue i c None = InReach level start c
 IsTraced level matching start queue i c (Some j) = (j < i) × (b : Cell) × Pairs level.shape matching (cell_visited queue j) b × InReach level b c
 
+-- the search need not go on from c: it is no goal, and the cells to which pushes lead from it are visited
+pub record IsPassed (level : Level) (visited : Cells) (c : Cell) : Type 0 where
+  pub around : (d : Dir) → IsRelaxedPush level c d → Has visited (neighbor c d)
+  pub no_goal : Has level.goals c → ⊥
+
 -- a search from the box `start` has visited these cells, and has this queue
 pub record IsSearch (level : Level) (matching : List (Option Cell)) (start : Cell) (visited : Cells) (queue : List Visit) : Type 0 where
   pub floor : (q : Cell) → Has visited q → IsFloor level q
   pub begins : Has visited start
   pub least : (zone : Cells) (q : Cell) → ConfinesPaths level (Pairs level.shape matching) start zone → Has visited q → Has zone q
   pub listed : (i : ℕ) → i < length queue → Has visited (cell_visited queue i)
-  pub all : (q : Cell) → Has visited q → (i : ℕ) × (i < length queue) × (cell_visited queue i ≡ q)
+  pub all : (q : Cell) → Has visited q → ((i : ℕ) × (i < length queue) × (cell_visited queue i ≡ q)) ⊎ IsPassed level visited q
   pub once : (i j : ℕ) → i < j → j < length queue → cell_visited queue i ≢ cell_visited queue j
   pub traced : (i : ℕ) → i < length queue → IsTraced level matching start queue i (cell_visited queue i) (visit_at queue i).via
-  pub count : length queue ≡ set.len visited
-
--- a search from the box `start` visits these cells, and maybe others
-pub record AreSearched (level : Level) (matching : List (Option Cell)) (start : Cell) (visited : Cells) : Type 0 where
-  pub floor : (q : Cell) → Has visited q → IsFloor level q
-  pub begins : Has visited start
-  pub least : (zone : Cells) (q : Cell) → ConfinesPaths level (Pairs level.shape matching) start zone → Has visited q → Has zone q
+  pub count : length queue ≤ set.len visited
 
 -- these are the visited cells and the queue of a search from some box, for some matching
 abbrev pub IsSomeSearch : Level → Cells → List Visit → Type 0

@@ -15,27 +15,29 @@ pub fn dead_squares<S: CellSet>(alloc: Global, board: &Board<S>) -> Result<S, Al
     ensures extent { IfOk result (λ s. S.extent s ≡ board.now.shape) }
     ensures exact { IfOk result (λ s. AreDead board.now (S.members s)) }
 {
-    dead_rows(alloc, board)?.to_set(alloc)
+    let (dead, live) = dead_rows(alloc, board)?;
+    drop(live);
+    dead.to_set(alloc)
 }
 
-/// Returns the dead squares of a board as rows of bits.
-pub fn dead_rows<S: CellSet>(alloc: Global, board: &Board<S>) -> Result<Rows, AllocError>
-    ensures extent { IfOk result (λ r. r.extent ≡ board.now.shape) }
-    ensures exact { IfOk result (λ r. AreDead board.now r.members) }
+/// Returns the dead squares of a board as rows of bits, and the rows of the live cells, whose memory serves again.
+pub fn dead_rows<S: CellSet>(alloc: Global, board: &Board<S>) -> Result<(Rows, Rows), AllocError>
+    ensures extent { IfOk result (λ r. r.0.extent ≡ board.now.shape) }
+    ensures exact { IfOk result (λ r. AreDead board.now r.0.members) }
+    ensures live { IfOk result (λ r. r.1.extent ≡ board.now.shape) }
 {
     let shape = board.shape();
     let mut live = Rows::new(alloc, shape)?;
     add_cells(board.goals(), &mut live);
-    live.grow::<ByPull>(board.rows());
+    live.grow::<ByPull>(board.room_rows());
     let Ok(mut dead) = Rows::new(alloc, shape) else {
         drop(live);
         return Err(AllocError);
     };
-    dead.copy_from(board.rows());
+    dead.copy_from(board.room_rows());
     add_cells(board.boxes(), &mut dead);
     dead.subtract(&live);
-    drop(live);
-    Ok(dead)
+    Ok((dead, live))
 }
 
 // Inserts the cells of a set one by one. That takes fewer steps than reading every row, because a board has few goals and boxes.

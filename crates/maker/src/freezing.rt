@@ -1,4 +1,6 @@
 //! Frozen boxes: the largest set of boxes none of which can be pushed, except onto a dead square.
+//!
+//! `frozen` is for callers. The program uses `frozen_among`, with the same contract, over rows.
 ghost use Rattle.std.specs.Prelude.{◌≡◌, ◌↔◌, ◌+◌, ◌≤◌, ◌<◌, ◌⊎◌, length, true, false, vec_capacity, IfOk};
 ghost use Rattle.std.specs.List.{Contains};
 ghost use Rattle.cellset.specs.Cell.{IsOn, neighbor};

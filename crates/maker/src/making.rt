@@ -1,4 +1,6 @@
 //! Makes certificates.
+//!
+//! `make` is for callers. The program uses `find`, with the same contract, which makes no pattern of each dead square.
 ghost use Rattle.std.specs.Prelude.{◌≡◌, ◌≤◌, ◌∷◌, [], IfOk, IfSome, IfNone, MatchBool, MatchOption, length, map, vec_capacity};
 ghost use Rattle.cellset.specs.CellSet.{Has, Lacks};
 ghost use Rattle.cellset.specs.declared.cell.Cell.{Cell as GridCell};
@@ -22,7 +24,7 @@ use smallvec::SmallVec;
 use std::alloc::{AllocError, Global};
 
 /// A certificate that was made.
-#[derive(Debug, Drop)]
+#[derive(Clone, Debug, PartialEq, Eq, Drop)]
 pub enum Made {
     /// A list of patterns.
     Patterns(Vec<Pattern>),
@@ -31,7 +33,7 @@ pub enum Made {
 }
 
 /// A certificate that was found. A list of dead squares alone is kept as their coordinates.
-#[derive(Drop)]
+#[derive(Clone, Debug, PartialEq, Eq, Drop)]
 pub enum Found {
     /// The dead squares, in reading order. Each is a pattern of one box with the seeds `*`.
     Dead(Vec<Coord>),
@@ -74,25 +76,27 @@ pub fn find<S: CellSet>(alloc: Global, board: &Board<S>) -> Result<Option<Found>
 {
     // For the proof: the board is well formed.
     let _shape = board.shape();
-    let dead = dead_rows(alloc, board)?;
+    let (dead, live) = dead_rows(alloc, board)?;
     if dead.meets(board.boxes()) {
+        drop(live);
         let cells = coords_in(alloc, &dead);
         drop(dead);
         return Ok(Some(Found::Dead(cells?)));
     }
-    match find_other(alloc, board, dead)? {
+    match find_other(alloc, board, dead, live)? {
         Some(made) => Ok(Some(Found::Other(made))),
         None => Ok(None),
     }
 }
 
-// Makes the certificate of a level without a box on a dead square.
+// Makes the certificate of a level without a box on a dead square. The cells of `spare` don't matter.
 fn find_other<S: CellSet>(
     alloc: Global,
     board: &Board<S>,
     dead: Rows,
+    spare: Rows,
 ) -> Result<Option<Made>, AllocError>
-    requires extent { dead.extent ≡ board.now.shape }
+    requires extents { (dead.extent ≡ board.now.shape) × (spare.extent ≡ board.now.shape) }
     requires exact { AreDead board.now dead.members }
     requires apart { (c : GridCell) → Has board.now.boxes c → Lacks dead.members c }
     ensures some { IfOk result (λ made. IfSome made (IsMade board.now)) }
@@ -107,7 +111,7 @@ fn find_other<S: CellSet>(
         return Ok(Some(Made::Patterns(patterns)));
     }
     // The dead squares are no longer needed.
-    let Some(zone) = made_zone(alloc, board, dead)? else {
+    let Some(zone) = made_zone(alloc, board, dead, spare)? else {
         return Ok(None);
     };
     Ok(Some(Made::Zone(zone)))
@@ -200,15 +204,18 @@ fn made_zone<S: CellSet>(
     alloc: Global,
     board: &Board<S>,
     scratch: Rows,
+    spare: Rows,
 ) -> Result<Option<Zone>, AllocError>
-    requires { scratch.extent ≡ board.now.shape }
+    requires { (scratch.extent ≡ board.now.shape) × (spare.extent ≡ board.now.shape) }
     ensures { IfOk result (λ made. MatchOption made (SomeZoneRefutes board.now → ⊥) (λ zone. IsLeastZoneLine board.now (said_zone zone))) }
 {
-    let Some(cells) = least_zone(alloc, board, scratch)? else {
+    // For the proof: the board is well formed.
+    let _shape = board.shape();
+    let Some(cells) = least_zone(alloc, board, scratch, spare)? else {
         return Ok(None);
     };
     Ok(Some(Zone {
         line: 0,
-        cells: coords_of(alloc, &cells)?,
+        cells: coords_in(alloc, &cells)?,
     }))
 }

@@ -12,66 +12,73 @@
 //! as matched boxes, and the set must hold the box of the search and exactly as many matched boxes as goals. The boxes matched to its
 //! goals are then all inside. No alternating path of the search leaves such a set, so the set holds every visited cell.
 //!
-//! Floods by rows of bits do most of the work. A relay gives many boxes a goal at the price of a few floods. For any other box a flood
-//! finds all cells in its reach. A free goal among them is an augmenting path, and so is the goal of a box to which the relay gives
-//! another one. If there is none, more floods look for a Hall violator. The search cell by cell runs only if they decide nothing.
+//! Floods by rows of bits do most of the work. If each box can be pushed to the first box's cell, and from there to each goal, no closed set
+//! refutes the level. In other levels a relay gives many boxes a goal at the price of a few floods. For any other box a flood finds all
+//! cells in its reach. A free goal among them ends an augmenting path, and so does the goal of a box to which a relay gives another one. If
+//! there is none, the search begins with the goals in the reach, and takes the other cells of the reach as visited.
 ghost use Rattle.std.specs.Prelude.{◌≡◌, ℕ, None, IfOk, IfSome, MatchBool, MatchOption, vec_capacity, slice_index_or};
 ghost use Rattle.cellset.specs.CellSet.{Cells, Has};
 ghost use Rattle.maker.specs.Zones.{SomeZoneRefutes, IsLeastZone};
 ghost use Rattle.maker.specs.Matching.{IsHallViolator};
-ghost use Rattle.maker.specs.Search.{Pairs, HasEntries, IsReady, EndsPath, IsMatchingOf, MatchesOneMore};
-ghost use Rattle.maker.specs.Relay.{IsRelay, IsSameRelay, HasFreeGoal, IsReachOf};
+ghost use Rattle.maker.specs.Search.{Pairs, HasEntries, IsReady, IsMatchingOf, MatchesOneMore};
+ghost use Rattle.maker.specs.Relay.{AreRelays};
 
 use board::Board;
 use cellset::{Cell, CellSet, MembersOf};
 use matching::flip;
 use reach::Rows;
-use relay::Relay;
-use search::{Search, Visit};
+use relay::{Relay, Relays};
+use search::Search;
 use std::alloc::{AllocError, Global};
-use violator::finds_violator;
 
 mod matching;
 mod relay;
 mod search;
-mod violator;
 
 /// Returns the least zone of a board, or None if no closed set of cells holds more boxes of the start than goals.
 ///
 /// The boxes are matched in reading order, each to a goal in its reach. A box may be matched to another goal later. If no augmenting
-/// path begins at a box, the zone is the set of cells that the search from that box visited. The cells of `scratch` don't matter.
+/// path begins at a box, the zone is the set of cells that the search from that box visited. The cells of `scratch` and
+/// `spare` don't matter.
 pub fn least_zone<S: CellSet>(
     alloc: Global,
     board: &Board<S>,
     scratch: Rows,
-) -> Result<Option<S>, AllocError>
-    requires { scratch.extent ≡ board.now.shape }
-    ensures extent { IfOk result (λ zone. IfSome zone (λ z. S.extent z ≡ board.now.shape)) }
-    ensures exact { IfOk result (λ zone. MatchOption zone (SomeZoneRefutes board.now → ⊥) (λ z. IsLeastZone board.now (S.members z))) }
+    spare: Rows,
+) -> Result<Option<Rows>, AllocError>
+    requires { (scratch.extent ≡ board.now.shape) × (spare.extent ≡ board.now.shape) }
+    ensures extent { IfOk result (λ zone. IfSome zone (λ z. z.extent ≡ board.now.shape)) }
+    ensures exact { IfOk result (λ zone. MatchOption zone (SomeZoneRefutes board.now → ⊥) (λ z. IsLeastZone board.now z.members)) }
 {
-    let mut relay = Relay::new(alloc, board, scratch)?;
-    let zone = search_zone(alloc, board, &mut relay);
-    drop(relay);
+    // For most levels this relay decides, and no other memory is needed.
+    let first = Relay::at_first_box(board, scratch, spare);
+    if first.serves_all(board) {
+        drop(first);
+        return Ok(None);
+    }
+    let mut relays = Relays::new(alloc, board, first)?;
+    let zone = search_zone(alloc, board, &mut relays);
+    drop(relays);
     zone
 }
 
-// Does the work of `least_zone` with a relay that has no sources.
+// Does the work of `least_zone` with relays that have no sources.
 fn search_zone<S: CellSet>(
     alloc: Global,
     board: &Board<S>,
-    relay: &mut Relay<'_>,
-) -> Result<Option<S>, AllocError>
-    requires { IsRelay board.now relay.old }
-    ensures extent { IfOk result (λ zone. IfSome zone (λ z. S.extent z ≡ board.now.shape)) }
-    ensures exact { IfOk result (λ zone. MatchOption zone (SomeZoneRefutes board.now → ⊥) (λ z. IsLeastZone board.now (S.members z))) }
+    relays: &mut Relays<'_>,
+) -> Result<Option<Rows>, AllocError>
+    requires { AreRelays board.now relays.old }
+    ensures extent { IfOk result (λ zone. IfSome zone (λ z. z.extent ≡ board.now.shape)) }
+    ensures exact { IfOk result (λ zone. MatchOption zone (SomeZoneRefutes board.now → ⊥) (λ z. IsLeastZone board.now z.members)) }
 {
     let shape = board.shape();
     let cells = shape.width() as usize * shape.height() as usize;
     let mut matching = vec![in alloc; None; cells]?;
     let queue = Vec::with_capacity(alloc, cells)?;
-    let visited = S::new(alloc, shape)?;
+    let visited = Rows::new(alloc, shape)?;
     let mut search = Search { visited, queue };
-    let are_matched = match_all(board, &mut matching, relay, &mut search);
+    let are_matched = match_all(board, &mut matching, relays, &mut search);
     drop(matching);
     if are_matched {
         return Ok(None);
@@ -84,18 +91,18 @@ fn search_zone<S: CellSet>(
 fn match_all<S: CellSet>(
     board: &Board<S>,
     matching: &mut [Option<Cell>],
-    relay: &mut Relay<'_>,
-    search: &mut Search<S>,
+    relays: &mut Relays<'_>,
+    search: &mut Search,
 ) -> bool
-    requires ready { IsReady board.now.shape (S.extent search.old.visited) (vec_capacity search.old.queue) }
+    requires ready { IsReady board.now.shape search.old.visited.extent (vec_capacity search.old.queue) }
     requires entries { HasEntries board.now.shape matching.old }
     requires unmatched { (k : ℕ) → slice_index_or matching.old k None ≡ None }
-    requires relay { IsRelay board.now relay.old }
-    ensures ready { IsReady board.now.shape (S.extent search.new.visited) (vec_capacity search.new.queue) }
-    ensures exact { MatchBool result (SomeZoneRefutes board.now → ⊥) (IsLeastZone board.now (S.members search.new.visited)) }
+    requires relays { AreRelays board.now relays.old }
+    ensures ready { IsReady board.now.shape search.new.visited.extent (vec_capacity search.new.queue) }
+    ensures exact { MatchBool result (SomeZoneRefutes board.now → ⊥) (IsLeastZone board.now search.new.visited.members) }
 {
     for cell in MembersOf::new(board.boxes()) {
-        if !match_box(board, matching, relay, search, cell) {
+        if !match_box(board, matching, relays, search, cell) {
             return false;
         }
     }
@@ -106,66 +113,38 @@ fn match_all<S: CellSet>(
 fn match_box<S: CellSet>(
     board: &Board<S>,
     matching: &mut [Option<Cell>],
-    relay: &mut Relay<'_>,
-    search: &mut Search<S>,
+    relays: &mut Relays<'_>,
+    search: &mut Search,
     start: Cell,
 ) -> bool
-    requires ready { IsReady board.now.shape (S.extent search.old.visited) (vec_capacity search.old.queue) }
+    requires ready { IsReady board.now.shape search.old.visited.extent (vec_capacity search.old.queue) }
     requires entries { HasEntries board.now.shape matching.old }
     requires valid { (matched : Cells) × IsMatchingOf board.now matched matching.old }
     requires start { Has board.now.boxes start }
-    requires relay { IsRelay board.now relay.old }
-    ensures ready { IsReady board.now.shape (S.extent search.new.visited) (vec_capacity search.new.queue) }
+    requires relays { AreRelays board.now relays.old }
+    ensures ready { IsReady board.now.shape search.new.visited.extent (vec_capacity search.new.queue) }
     ensures entries { HasEntries board.now.shape matching.new }
-    ensures relay { IsRelay board.now relay.new }
+    ensures relays { AreRelays board.now relays.new }
     ensures exact { MatchBool result (MatchesOneMore board.now matching.old start matching.new)
-        (IsHallViolator board.now (Pairs board.now.shape matching.old) start (S.members search.new.visited)) }
+        (IsHallViolator board.now (Pairs board.now.shape matching.old) start search.new.visited.members) }
 {
     let shape = board.shape();
-    if let Some(goal) = relay.goal_in_reach(board, matching, start) {
+    if let Some(goal) = relays.goal_in_reach(board, matching, start) {
         matching[shape.index_of(goal)] = Some(start);
         return true;
     }
-    if relay.pass_on(board, matching, start) {
+    if relays.pass_on(board, matching, start) {
         return true;
     }
-    if let Some(goal) = relay.other_goal(board, matching) {
+    if let Some(goal) = relays.other_goal(board, matching) {
         matching[shape.index_of(goal)] = Some(start);
         return true;
     }
-    let Some(found) = find_path(board, matching, relay, search, start) else {
+    search.begin(board, relays, start);
+    let Some(found) = search.find_free_goal(board, matching, relays) else {
         return false;
     };
-    relay.move_after(board, matching, &search.visited, found.cell);
+    relays.move_after(board, matching, &search.visited, found.cell);
     flip(board, matching, &search.queue, found, start);
     true
-}
-
-// Returns the last visit of an augmenting path from a box, at a free goal, or None if no augmenting path begins at the box. The relay has
-// the reach of the box.
-fn find_path<S: CellSet>(
-    board: &Board<S>,
-    matching: &[Option<Cell>],
-    relay: &mut Relay<'_>,
-    search: &mut Search<S>,
-    start: Cell,
-) -> Option<Visit>
-    requires ready { IsReady board.now.shape (S.extent search.old.visited) (vec_capacity search.old.queue) }
-    requires entries { HasEntries board.now.shape matching.now }
-    requires valid { (matched : Cells) × IsMatchingOf board.now matched matching.now }
-    requires start { Has board.now.boxes start }
-    requires relay { IsRelay board.now relay.old }
-    requires free { HasFreeGoal board.now matching.now relay.old }
-    requires reach { IsReachOf board.now start relay.old.reach.members }
-    ensures same { IsSameRelay relay.old relay.new }
-    ensures ready { IsReady board.now.shape (S.extent search.new.visited) (vec_capacity search.new.queue) }
-    ensures exact { MatchOption result
-        (IsHallViolator board.now (Pairs board.now.shape matching.now) start (S.members search.new.visited))
-        (EndsPath board.now matching.now start (S.members search.new.visited) search.new.queue.items) }
-{
-    if finds_violator(board, matching, relay, &mut search.visited, start) {
-        return None;
-    }
-    search.begin(board, start);
-    search.find_free_goal(board, matching, relay)
 }

@@ -6,8 +6,9 @@ use Rattle.std.specs.{Prelude.map, List.All, List.Contains}
 use Rattle.std.specs.FinSet as set
 use Rattle.std.proofs.lemmas.List.{get_or-map, length-map, map_push, take_more, take_all}
 use Rattle.std.proofs.lemmas.List.Elements.{All-same, Contains-append_right}
-use Rattle.cellset.specs.{Cell.cell_cmp, CellSet.Has, CellSet.Lacks, declared.cell.Cell.Cell}
+use Rattle.cellset.specs.{Cell.cell_cmp, CellSet.Has, CellSet.Lacks, declared.cell.Cell.Cell, declared.dir.Dir.TheVariants.L}
 use Rattle.cellset.proofs.Members.{cells_total, exact_cells, inserted, kept_by_insert, has_insert, has_empty}
+use Rattle.reach.specs.declared.pushes.Push.{Push}
 use Rattle.answers.specs.declared.pattern.Coord.{Coord}
 use Rattle.patterns.specs.{Pattern.cell_of, Pattern.cells_of, Sides.cells_in}
 
@@ -19,6 +20,9 @@ at_any (x ∷ xs) (suc i) d e lt = at_any xs i d e (omega arith)
 
 abbrev pub no_cell : Cell
 no_cell = record { row = 0; column = 0 }
+
+abbrev pub no_push : Push
+no_push = record { player = no_cell; dir = L; from = no_cell; to = no_cell }
 
 -- The members of the set of a list are the elements of the list.
 pub in_list : (xs : List Cell) (i : ℕ) (d : Cell) → i < length xs → Has (cells_in xs) (get_or xs i d)
@@ -33,6 +37,9 @@ of_list (x ∷ xs) c has =
       | inl e ↦ (0, omega arith, sym e)
       | inr rest ↦ let q = of_list xs c rest in Contains-append_right (x ∷ []) xs c q
     ]
+
+pub in_where : (xs : List Cell) (c : Cell) → Contains xs c → Has (cells_in xs) c
+in_where xs c (i, lt, is) = subst (Has (cells_in xs)) is (in_list xs i c lt)
 
 pub each_in : (P : Cell → Type 0) (xs : List Cell) → All P xs → (c : Cell) → Has (cells_in xs) c → P c
 each_in P xs all c has = grind (arith, of_list)

@@ -24,7 +24,7 @@ pub pushed_on : {S : Type 0} (tables : Tables S) → AreTables tables → (pushe
 pushed_on tables is pushed of = search (boxes_on, in_list)
 
 module _ (level : Level) (pattern : Pattern) (cell : Cell) (dir : Dir) where
-  player_behind : (push : Push) → PushesOut level pattern push → push.from ≡ cell → push.dir ≡ dir → push.player ≡ neighbor cell (opposite dir)
+  pub player_behind : (push : Push) → PushesOut level pattern push → push.from ≡ cell → push.dir ≡ dir → push.player ≡ neighbor cell (opposite dir)
   player_behind push out from toward = grind (arith, region_on, neighbor_back)
 
   pub unreached : (InPatternRegion level pattern (neighbor cell (opposite dir)) → ⊥) → HasNoPush level pattern cell dir
@@ -49,20 +49,27 @@ pub covered_each_box : (level : Level) (patterns : List Pattern) (pattern : Patt
     cells_in boxes ≡ pattern.boxes → ((i : ℕ) → i < n → CoversFrom level patterns pattern (cell_no boxes i)) → CoversPushesOf level patterns pattern
 covered_each_box level patterns pattern boxes n past own each push out = grind (arith, of_list, at_any, no_cell)
 
--- The results of the pushes out of a pattern are covered if the results are for its group.
-pub pattern_of_group : (level : Level) (groups : Groups) → IsGrouped groups → (j : ℕ) → j < length groups.arena.lines.items
-    → CoversPushesOf level (list_of groups) (position_at level groups (slice_index groups.of.items j)) →
-    CoversPushesOf level (list_of groups) (pattern_at (list_of groups) j)
-pattern_of_group level groups grouped j lt covers push out =
+-- A push out of a pattern is one out of its group.
+pub out_of_group : (level : Level) (groups : Groups) → IsGrouped groups → (j : ℕ) → j < length groups.arena.lines.items → (push : Push)
+    → PushesOut level (pattern_at (list_of groups) j) push → PushesOut level (position_at level groups (slice_index groups.of.items j)) push
+out_of_group level groups grouped j lt push out =
     let g = slice_index groups.of.items j in
     let same = line_boxes level groups grouped g j lt refl in
-    subst (λ b. IsCovered level (list_of groups) (state_after b push)) (sym same) (covers push (record {
+    record {
       standing = of_line level groups grouped g j lt refl push.player out.standing;
       next_cell = out.next_cell;
       box = rw same at out.box;
       cell_behind = out.cell_behind;
       free = rw same at out.free;
-    }))
+    }
+
+-- The results of the pushes out of a pattern are covered if the results are for its group.
+pub pattern_of_group : (level : Level) (groups : Groups) → IsGrouped groups → (j : ℕ) → j < length groups.arena.lines.items
+    → CoversPushesOf level (list_of groups) (position_at level groups (slice_index groups.of.items j)) →
+    CoversPushesOf level (list_of groups) (pattern_at (list_of groups) j)
+pattern_of_group level groups grouped j lt covers push out =
+    subst (λ b. IsCovered level (list_of groups) (state_after b push)) (sym (line_boxes level groups grouped (slice_index groups.of.items j) j lt refl))
+    (covers push (out_of_group level groups grouped j lt push out))
 
 -- ---- the facts about a group
 module _ {S : Type 0} (tables : Tables S) (is : AreTables tables) (g : ℕ) where

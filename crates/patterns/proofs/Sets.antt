@@ -6,7 +6,7 @@ use Rattle.std.{specs.Prelude.◌==◌, proofs.lemmas.Bool.eqb-true, proofs.lemm
 use Rattle.std.specs.FinSet as set
 use Rattle.std.specs.FinSet.{contains, contains-insert, contains-remove, contains-union, contains-intersection, contains-difference}
 use Rattle.cellset.specs.{CellSet.Cells, CellSet.Has, CellSet.Lacks, declared.cell.Cell.Cell}
-use Rattle.cellset.proofs.Members.{cells_total, same, same_cells, same_itself, same_or_other, not_both, inserted, kept_by_insert, has_insert, kept_by_remove, has_remove, has_empty, remove_inserted, same_members, lacks_where}
+use Rattle.cellset.proofs.Members.{cells_total, same, same_cells, same_itself, same_or_other, not_both, inserted, kept_by_insert, has_insert, kept_by_remove, has_remove, has_empty, same_members, lacks_where}
 use Rattle.cellset.proofs.Truth.{left_true, right_true, or_cases, and_parts, not_true}
 
 pub other_member : (s : Cells) (c k : Cell) → Has s c → Lacks s k → c ≢ k
@@ -71,9 +71,3 @@ pub same_cell : (a b : Cell) → true ≡ ((a.row == b.row) && (a.column == b.co
 same_cell a b h =
     let parts = and_parts (a.row == b.row) (a.column == b.column) (sym h) in
     λ i. record { row = eqb-true a.row b.row parts.0 i; column = eqb-true a.column b.column parts.1 i }
-
--- If a member is moved to a cell that is none and back, the set is as it was.
-pub moved_back : (s : Cells) (from to : Cell) → Has s from → Lacks s to → set.insert (set.remove (set.insert (set.remove s from) to) to) from ≡ s
-moved_back s from to has lacks =
-    ap (λ t. set.insert t from) (remove_inserted (set.remove s from) to (lacks_where _ to (λ h. not_both s to (has_remove s from to h).1 lacks)))
-    ∙ put_back s from has

@@ -4,13 +4,13 @@
 use Rattle.std.proofs.Common.{◌≡◌, ◌≢◌, ℕ, ◌+◌, ◌*◌, ◌<◌, ◌≤◌, false, List, [], ◌∷◌, ◌++◌, length, get_or, set, refl, sym, ◌∙◌, ap, subst, arith}
 use Rattle.std.specs.FinSet as finset
 use Rattle.std.proofs.lemmas.{Bool.cases_lt, Bool.false≢true, List.get_or-set_same, List.get_or-set_other, List.length-set}
-use Rattle.cellset.specs.{Shape.Extent, Shape.HasSides, Cell.IsOn, Cell.neighbor, Cell.opposite, CellSet.Cells, CellSet.Has, CellSet.Lacks}
+use Rattle.cellset.specs.{SortedList.index, Cell.IsOn, Cell.neighbor, Cell.opposite, CellSet.Cells, CellSet.Has, CellSet.Lacks}
 use Rattle.cellset.specs.declared.{cell.Cell.Cell, dir.Dir.Dir, dir.Dir.TheVariants.L, dir.Dir.TheVariants.U, dir.Dir.TheVariants.R, dir.Dir.TheVariants.D}
 use Rattle.cellset.proofs.Members.{has_or_lacks, has_remove, kept_by_remove, lacks_where, not_both, same, same_itself, same_or_other}
-use Rattle.cellset.proofs.Neighbors.{neighbor_back}
+use Rattle.cellset.proofs.{Neighbors.neighbor_back, ReadingOrder.below_index, ReadingOrder.index_apart}
 use Rattle.reach.specs.Region.{Joined, at_seed, beside}
 use Rattle.board.specs.{Game.Level, Game.IsFloor, Board.IsWellFormed}
-use Rattle.patterns.specs.{CellIndex.index_of, SpanningTree.AreJoinedBeside, SpanningTree.AreNodes, SpanningTree.IsGrowing, SpanningTree.IsNumbered}
+use Rattle.patterns.specs.{SpanningTree.AreJoinedBeside, SpanningTree.AreNodes, SpanningTree.IsGrowing, SpanningTree.IsNumbered}
 use Rattle.patterns.{specs.declared.tree.Node.Node, specs.declared.tree.Tree.Tree, proofs.Lists.old_item, proofs.Lists.new_item, proofs.Lists.length_more}
 use Rattle.patterns.proofs.Sets.{removed_lacks}
 
@@ -21,18 +21,10 @@ other_cell a b other e = grind (arith, false≢true, same_itself)
 pub lacks_remove : (s : Cells) (k c : Cell) → Lacks s c → Lacks (finset.remove s k) c
 lacks_remove s k c lacks = grind (arith, lacks_where, not_both, has_remove)
 
--- two cells of narrow grids that have one index are one cell
-pub same_index : (a b : Cell) → a.column < 256 → b.column < 256 → index_of a ≡ index_of b → a ≡ b
-same_index a b small low e = grind arith
-
--- the index of a cell of a grid is within a table by cells
-pub index_within : (shape : Extent) → HasSides shape.width shape.height → (c : Cell) → IsOn shape c → index_of c < 256 * (shape.height + 1)
-index_within shape sides c on = grind arith
-
 -- The tree of the root alone spans no other cell.
 module _ (level : Level) (root : Cell) (room : Has level.room root) (player : root ≡ level.player) where
-  pub root_alone : (left : Cells) (s : Node) (new : Tree) → left ≡ finset.remove level.room root → s.cell ≡ root → new.nodes.items ≡ s ∷ [] → length new.numbers.items ≡ 256 * (level.shape.height + 1)
-      → get_or new.numbers.items (index_of root) 0 ≡ 0 → IsGrowing level left new
+  pub root_alone : (left : Cells) (s : Node) (new : Tree) → left ≡ finset.remove level.room root → s.cell ≡ root → new.nodes.items ≡ s ∷ [] → length new.numbers.items ≡ level.shape.width * level.shape.height
+      → get_or new.numbers.items (index level.shape root) 0 ≡ 0 → IsGrowing level left new
   root_alone left s new left_is cell_is steps_is long number = record {
     nodes = record {
       some = rw steps_is (omega arith);
@@ -68,8 +60,8 @@ module _ (level : Level) (formed : IsWellFormed level) (left : Cells) (old : Tre
   nodes = old.nodes.items
 
   -- the index of a cell of the room is within the table
-  pub in_table : (c : Cell) → Has level.room c → (index_of c < length old.numbers.items) × (c.column < 256)
-  in_table c room = grind arith
+  pub in_table : (c : Cell) → Has level.room c → (index level.shape c < length old.numbers.items) × IsOn level.shape c
+  in_table c room = grind (arith, below_index)
 
   module _ (from : ℕ) (cell : Cell) (dir : Dir) (s : Node) (lt : from < length nodes) (has : Has left cell) (next : (x : Node) →
       neighbor (get_or nodes from x).cell dir ≡ cell)
@@ -116,7 +108,7 @@ module _ (level : Level) (formed : IsWellFormed level) (left : Cells) (old : Tre
               (back_to d))));
         }
 
-    numbered : (c : Cell) → Has level.room c → Lacks (finset.remove left cell) c → IsNumbered (set old.numbers.items (index_of cell) (length nodes)) more c
+    numbered : (c : Cell) → Has level.room c → Lacks (finset.remove left cell) c → IsNumbered level.shape (set old.numbers.items (index level.shape cell) (length nodes)) more c
     numbered c room lacks =
         let numbers = old.numbers.items in
         let long = length_more nodes s in
@@ -124,22 +116,22 @@ module _ (level : Level) (formed : IsWellFormed level) (left : Cells) (old : Tre
         let there = in_table c room in
         same_or_other c cell
         (λ same.
-        let number = get_or-set_same numbers (index_of cell) (length nodes) 0 here.0 in
+        let number = get_or-set_same numbers (index level.shape cell) (length nodes) 0 here.0 in
         rw same (record { within = omega arith; same = λ d. rw number (last_item (λ x. x.cell ≡ cell) (length nodes) d refl cell_is) }))
         (λ other.
-        let ne : index_of c ≢ index_of cell = λ e. other_cell c cell other (same_index c cell there.1 here.1 e) in
-        let number = get_or-set_other numbers (index_of cell) (index_of c) (length nodes) 0 ne in
+        let ne : index level.shape c ≢ index level.shape cell = λ e. index_apart level.shape c cell there.1 here.1 other e in
+        let number = get_or-set_other numbers (index level.shape cell) (index level.shape c) (length nodes) 0 ne in
         let was = growing.each c room
         (has_or_lacks left c (λ h. absurd (not_both (finset.remove left cell) c (kept_by_remove left cell c (λ e. other_cell c cell other e) h) lacks))
         (λ l. l)) in
         let within = was.within in
         record {
           within = omega arith;
-          same = λ d. rw number (kept_item (λ x. x.cell ≡ c) (get_or numbers (index_of c) 0) d within
+          same = λ d. rw number (kept_item (λ x. x.cell ≡ c) (get_or numbers (index level.shape c) 0) d within
               (was.same d));
         })
 
-    pub laid_more : (new : Tree) → new.numbers.items ≡ set old.numbers.items (index_of cell) (length nodes) → new.nodes.items ≡ more →
+    pub laid_more : (new : Tree) → new.numbers.items ≡ set old.numbers.items (index level.shape cell) (length nodes) → new.nodes.items ≡ more →
         IsGrowing level (finset.remove left cell) new
     laid_more new numbers_is steps_is = grind (arith, more_steps, length-set, has_remove, numbered, lacks_remove)
 
@@ -151,7 +143,7 @@ module _ (level : Level) (formed : IsWellFormed level) (left : Cells) (old : Tre
     goes_on : (c : Cell) (d : Dir) → Has level.room c → Lacks left c → Has level.room (neighbor c d) → Lacks left (neighbor c d)
     goes_on c d room lacks ahead =
         let number = growing.each c room lacks in
-        let i = get_or old.numbers.items (index_of c) 0 in
+        let i = get_or old.numbers.items (index level.shape c) 0 in
         subst (λ q. Lacks left (neighbor q d)) (number.same default) (joined i default d number.within (rw (number.same default) ahead))
 
     along : (c : Cell) → Joined (IsFloor level) (λ q. q ≡ level.player) c → Has level.room c × Lacks left c

@@ -51,7 +51,7 @@ module _ (level : Level) (formed : IsWellFormed level) (patterns : List Pattern)
         subst (Has level.room) (sym out.next_cell) (formed.goes_on push.player push.dir (room push.player out.standing)
         (rw out.next_cell at (floor push.from out.box)))
 
-    to_room : Has level.room (neighbor push.from push.dir)
+    pub to_room : Has level.room (neighbor push.from push.dir)
     to_room = formed.goes_on push.from push.dir from_room (rw (← out.cell_behind) (out.free.on, out.free.no_wall))
 
     behind : neighbor push.from (opposite push.dir) ≡ push.player

@@ -1,13 +1,12 @@
 -- Pushes out of groups, box by box and direction by direction, and which of them the list covers.
 use Rattle.std.specs.Prelude.{◌≡◌, ℕ, ◌<◌, Bool, false, IsTrue, List, length, slice_index_or}
-use Rattle.cellset.specs.{Shape.Extent, Cell.IsOn, Cell.neighbor, Cell.opposite, CellSet.Cells, CellSet.Has, CellSet.Lacks, declared.cell.Cell.Cell}
+use Rattle.cellset.specs.{Shape.Extent, Cell.IsOn, Cell.neighbor, Cell.opposite, declared.cell.Cell.Cell}
 use Rattle.cellset.specs.declared.dir.Dir.{Dir}
 use Rattle.reach.specs.declared.pushes.Push.{Push}
-use Rattle.board.specs.Game.{Level, IsFloor}
+use Rattle.board.specs.Game.{Level}
 use Rattle.patterns.specs.Pattern.{Pattern, InPatternRegion, IsCovered, PushesOut, after_push, CoversPushesOf}
-use Rattle.patterns.specs.{Sides.IsAround, Sides.cell_no, declared.pushes.PushedBox.PushedBox, declared.push_lookups.PushScratch.PushScratch}
-use Rattle.patterns.specs.{declared.tables.FilledTables.FilledTables, declared.groups.Groups.Groups, Groups.boxes_of, Groups.list_of, Groups.position_at}
-use Rattle.patterns.specs.{Piece.IsPiece, Piece.IsPieceSpace, Tables.AreFilled, Tables.IsRoomy}
+use Rattle.patterns.specs.{Sides.IsAround, Sides.cell_no, declared.pushes.PushedBox.PushedBox}
+use Rattle.patterns.specs.{declared.groups.Groups.Groups, Groups.boxes_of, Groups.list_of, Groups.position_at}
 
 -- a push has just moved a box by one step in its direction
 abbrev pub IsStepBack : Push → Type 0
@@ -21,15 +20,6 @@ pub record IsPushAt (shape : Extent) (cell : Cell) (dir : Dir) (push : Push) : T
   pub to : push.to ≡ neighbor cell dir
   pub to_on : IsOn shape push.to
   pub back : IsStepBack push
-
--- a push of one of the boxes by a player of the room, to a cell of the grid without one
-pub record IsPushOf (level : Level) (boxes : Cells) (push : Push) : Type 0 where
-  pub room : Has level.room push.player
-  pub next_cell : push.from ≡ neighbor push.player push.dir
-  pub floor : IsFloor level push.from
-  pub box : Has boxes push.from
-  pub to_on : IsOn level.shape push.to
-  pub to_free : Lacks boxes push.to
 
 -- no push out of the pattern moves the box on this cell in the direction
 abbrev pub HasNoPush : Level → Pattern → Cell → Dir → Type 0
@@ -58,15 +48,3 @@ pub record IsPushedBox (level : Level) (groups : Groups) (pushed : PushedBox) : 
   pub boxes : pushed.boxes.now ≡ boxes_of groups pushed.group
   pub number : pushed.number < length pushed.boxes.now
   pub sides : IsAround (InPatternRegion level (position_at level groups pushed.group)) (pushed_cell pushed) pushed.sides
-
--- the tables are filled for lookups, and the memory is for them
-pub record IsReady {S : Type 0} (extent : S → Extent) (full : FilledTables S) (scratch : PushScratch S) : Type 0 where
-  pub filled : AreFilled full
-  pub roomy : IsRoomy full scratch.lookup
-  pub state : extent scratch.state ≡ full.tables.board.now.shape
-  pub piece : IsPieceSpace extent full scratch.piece
-
--- the memory is for pushes of these boxes
-pub record IsLoaded {S : Type 0} (members : S → Cells) (filled : FilledTables S) (boxes : Cells) (scratch : PushScratch S) : Type 0 where
-  pub state : members scratch.state ≡ boxes
-  pub piece : IsPiece members filled boxes scratch.piece

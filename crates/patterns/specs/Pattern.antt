@@ -13,7 +13,7 @@
 use Rattle.std.specs.{Prelude.◌⊎◌, Prelude.List, Prelude.Option, Prelude.None, Prelude.Some, Prelude.map, List.Contains}
 use Rattle.std.specs.FinSet as set
 use Rattle.cellset.specs.{Cell.IsOn, Cell.cell_at, CellSet.Cells, CellSet.Has, CellSet.Lacks, declared.cell.Cell.Cell}
-use Rattle.reach.specs.{Region.InRegion, Pushes.IsPushOut, declared.pushes.Push.Push}
+use Rattle.reach.specs.{Region.InRegion, Pushes.IsPushOut, Pushes.PushBefore, declared.pushes.Push.Push}
 use Rattle.board.specs.Game.{Level, State, moved}
 use Rattle.answers.specs.{declared.pattern.Coord.Coord, Body.PatternLine}
 
@@ -103,3 +103,9 @@ AreLawful level patterns = (pattern : Pattern) → Contains patterns pattern →
 -- the list covers the result of every push out of the pattern
 abbrev pub CoversPushesOf : Level → List Pattern → Pattern → Type 0
 CoversPushesOf level patterns pattern = (push : Push) → PushesOut level pattern push → IsCovered level patterns (after_push pattern push)
+
+-- the first push out of the pattern whose result isn't covered
+pub record IsFirstUncovered (level : Level) (patterns : List Pattern) (pattern : Pattern) (push : Push) : Type 0 where
+  pub out : PushesOut level pattern push
+  pub uncovered : IsCovered level patterns (after_push pattern push) → ⊥
+  pub first : (earlier : Push) → PushesOut level pattern earlier → PushBefore earlier push → IsCovered level patterns (after_push pattern earlier)

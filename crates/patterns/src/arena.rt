@@ -8,14 +8,14 @@ use cellset::Cell;
 use std::alloc::AllocError;
 
 /// Cells next to each other in a vector: the number of the first one, and of the one after the last.
-#[derive(Clone, Copy)]
+#[derive(Clone, Copy, Debug, PartialEq, Eq)]
 pub struct Span {
     pub from: u32,
     pub to: u32,
 }
 
 /// A pattern line in an arena: its number in the text, its boxes, and its seeds. It has no seeds if it says `*`.
-#[derive(Clone, Copy)]
+#[derive(Clone, Copy, Debug, PartialEq, Eq)]
 pub struct StoredLine {
     pub number: usize,
     pub boxes: Span,
@@ -23,7 +23,7 @@ pub struct StoredLine {
 }
 
 /// The boxes of all lines, the seeds of all lines, and the lines.
-#[derive(Drop)]
+#[derive(Debug, Drop)]
 pub struct Arena {
     pub boxes: Vec<Cell>,
     pub seeds: Vec<Cell>,

@@ -11,7 +11,7 @@ use cellset::{Cell, Shape};
 use std::alloc::{AllocError, Global};
 
 /// A pattern as cells of the board: its boxes, and its seeds unless it says `*`.
-#[derive(Clone, Copy)]
+#[derive(Clone, Copy, Debug, PartialEq, Eq)]
 pub struct CellPattern<'a> {
     pub boxes: &'a [Cell],
     pub seeds: Option<&'a [Cell]>,

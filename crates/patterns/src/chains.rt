@@ -6,7 +6,7 @@ use crate::arena::to_u32;
 use std::alloc::{AllocError, Global};
 
 /// A chain for each key. The link to an item is its number plus 1, and link 0 ends a chain.
-#[derive(Drop)]
+#[derive(Debug, Drop)]
 pub struct Chains {
     /// By key, the link to its last item.
     pub first: Vec<u32>,

@@ -6,9 +6,13 @@ ghost use Rattle.std.specs.Prelude.{◌≡◌, ◌+◌, ◌<◌, ◌≤◌, ◌�
 ghost use Rattle.std.specs.FinSet as set;
 ghost use Rattle.cellset.specs.{Cell.IsOn, CellSet.Has, CellSet.Lacks, declared.cell.Cell.Cell as GridCell};
 ghost use Rattle.patterns.specs.{Pattern.AreLawful, Around.AreSidesJoined, Around.IsFlooded, Around.IsOnePiece, GroupRegions.AreRegions, GroupRegions.no_sides};
+ghost use Rattle.reach.specs.Region.{Joined};
+ghost use Rattle.board.specs.{Board.IsWellFormed, Game.Level};
+ghost use Rattle.patterns.specs.{Arena.pattern_in, Pattern.InPatternRegion, Pattern.IsLawful, Piece.InPiece, Piece.IsFreeOf};
 ghost use Rattle.patterns.specs.Groups.{HasSeedsFrom, HasSeedsOnly, HasStar, IsGrouped, list_of};
 ghost use Rattle.patterns.specs.Sides.{IsAround, cell_no, cells_in};
 
+use crate::cell_patterns::CellPattern;
 use crate::groups::Groups;
 use crate::sides::Sides;
 use crate::trap::is_trapped;
@@ -19,7 +23,7 @@ use reach::step::ByWalk;
 use std::alloc::{AllocError, Global};
 
 /// What is kept of the regions of all groups.
-#[derive(Drop)]
+#[derive(Debug, Drop)]
 pub struct Regions {
     /// By box in the vector of all boxes: on which sides of it the region of its group lies.
     pub sides: Vec<Sides>,
@@ -27,18 +31,18 @@ pub struct Regions {
 }
 
 /// Whether the region of a group has the root. If `whole` holds, it is all of the room but the boxes.
-#[derive(Clone, Copy)]
+#[derive(Clone, Copy, Debug, PartialEq, Eq)]
 pub struct Region {
     pub has_root: bool,
     pub whole: bool,
 }
 
-// The rows of a flood: the free cells and the region. If `whole` holds, the free cells are in one piece.
-#[derive(Drop)]
-struct Flood {
-    free: Rows,
-    region: Rows,
-    whole: bool,
+/// The rows of a flood: the free cells and the region. If `whole` holds, the free cells are in one piece.
+#[derive(Debug, Drop)]
+pub struct Flood {
+    pub free: Rows,
+    pub region: Rows,
+    pub whole: bool,
 }
 
 // Finds the region of each group without a box on the trap, one flood for each.
@@ -52,7 +56,7 @@ pub(crate) fn find_regions<S: CellSet>(
     requires groups { IsGrouped groups.now }
     ensures { IfOk result (AreRegions board.now trap.now.members groups.now) }
 {
-    let room = board.rows();
+    let room = board.room_rows();
     let trapless = trap.is_empty();
     let mut sides = vec![in alloc; Sides::default(); groups.arena.boxes.len()]?;
     let mut of = Vec::with_capacity(alloc, groups.spans.len())?;
@@ -79,7 +83,7 @@ pub(crate) fn find_regions<S: CellSet>(
 
 impl Flood {
     // Returns a flood for rows on the grid of this shape.
-    fn new(alloc: Global, shape: Shape) -> Result<Flood, AllocError>
+    pub(crate) fn new(alloc: Global, shape: Shape) -> Result<Flood, AllocError>
         ensures { IfOk result (λ f. (f.free.extent ≡ shape) × (f.region.extent ≡ shape)) }
     {
         Ok(Flood {
@@ -90,7 +94,7 @@ impl Flood {
     }
 
     // Makes the room without the boxes free, and notes whether it is surely in one piece.
-    fn take_out(&mut self, room: &Rows, boxes: &[Cell])
+    pub(crate) fn take_out(&mut self, room: &Rows, boxes: &[Cell])
         requires room { room.now.extent ≡ self.old.free.extent }
         requires on { (c : GridCell) → Has room.now.members c ⊎ Has (cells_in boxes.now) c → IsOn self.old.free.extent c }
         requires whole { IsOnePiece (Has room.now.members) }
@@ -145,8 +149,54 @@ impl Flood {
         false
     }
 
+    // Finds the piece of a player among the free cells.
+    pub(crate) fn find_piece(&mut self, player: Cell)
+        requires region { self.old.region.extent ≡ self.old.free.extent }
+        requires player { Has self.old.free.members player }
+        requires on { (c : GridCell) → Has self.old.free.members c → IsOn self.old.free.extent c }
+        requires whole { IsTrue self.old.whole → IsOnePiece (Has self.old.free.members) }
+        ensures same { (self.new.free ≡ self.old.free) × (self.new.whole ≡ self.old.whole) × (self.new.region.extent ≡ self.old.region.extent) }
+        ensures piece { (c : GridCell) → InPiece self.new c → Joined (Has self.old.free.members) (λ seed. seed ≡ player) c }
+    {
+        if self.whole {
+            return;
+        }
+        self.region.clear();
+        self.region.insert(player);
+        self.region.grow::<ByWalk>(&self.free);
+    }
+
+    // Returns whether a cell is in the piece that was found.
+    pub(crate) fn in_piece(&self, cell: Cell) -> bool
+        ensures { IsTrue result ↔ InPiece self.now cell }
+    {
+        if self.whole {
+            return self.free.has(cell);
+        }
+        self.region.has(cell)
+    }
+
+    // Finds the region of a pattern of the boxes that were taken out. If it returns true, the region is all that is free.
+    pub(crate) fn find_line(&mut self, pattern: CellPattern) -> bool
+        requires region { self.old.region.extent ≡ self.old.free.extent }
+        requires on { (c : GridCell) → Has self.old.free.members c → IsOn self.old.free.extent c }
+        ensures same { (self.new.free ≡ self.old.free) × (self.new.region.extent ≡ self.old.region.extent) }
+        ensures exact { (level : Level) → IsWellFormed level → IsLawful level (pattern_in pattern.entry) → IsFreeOf level (pattern_in pattern.entry).boxes self.old.free
+            → (c : GridCell) → MatchBool result (Has self.new.free.members c) (Has self.new.region.members c) ↔ InPatternRegion level (pattern_in pattern.entry) c }
+    {
+        match pattern.seeds {
+            None => true,
+            Some(seeds) => {
+                self.region.clear();
+                add_seeds(seeds, &self.free, &mut self.region);
+                self.region.grow::<ByWalk>(&self.free);
+                false
+            }
+        }
+    }
+
     // Returns the region that was found: all that is free, or the rows of the region.
-    fn found(&self, whole: bool) -> &Rows
+    pub(crate) fn found(&self, whole: bool) -> &Rows
         requires { self.now.region.extent ≡ self.now.free.extent }
         ensures extent { result.now.extent ≡ self.now.free.extent }
         ensures members { MatchBool whole (result.now.members ≡ self.now.free.members) (result.now.members ≡ self.now.region.members) }

@@ -9,7 +9,7 @@ use cellset::Cell;
 use std::alloc::{AllocError, Global};
 
 /// The groups of a list.
-#[derive(Drop)]
+#[derive(Debug, Drop)]
 pub struct Groups {
     pub arena: Arena,
     /// By line, its group.

@@ -7,7 +7,7 @@ pub(crate) const TRIES: usize = 128;
 
 // A group, and the odd part of the hash of its boxes. The part is 0 if the slot is free. Two bytes hold 65,536 groups, and groups
 // after those have no hints.
-#[derive(Clone, Copy)]
+#[derive(Clone, Copy, Debug)]
 pub(crate) struct Slot {
     mark: u16,
     group: u16,
@@ -26,7 +26,7 @@ impl Slot {
 const FREE: Slot = Slot { mark: 0, group: 0 };
 
 // Twice as many slots as lines.
-#[derive(Drop)]
+#[derive(Debug, Drop)]
 pub(crate) struct Hints {
     slots: Vec<Slot>,
 }

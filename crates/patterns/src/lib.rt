@@ -9,55 +9,58 @@
 //!   on it.
 //! - **Groups**: lines with the same boxes are one group, found by a hash (`groups`, `hints`, `chains`). One flood for each group off the trap
 //!   finds on which sides of its boxes its region lies, unless all that is free is in one piece or a line says `*` (`group_regions`,
-//!   `sides`). That makes the tables (`tables`).
+//!   `sides`). No region is kept. That makes the tables (`tables`).
 //! - **Pushes by hints** (`pushes`): if a push leads to the trap, it is covered. Otherwise a hash finds the group of just the boxes after the
-//!   push, and one side of the pushed box decides.
-//! - **Lookups** (`lookup`) need filled tables. A breadth-first search builds a spanning tree of the room (`tree`), and each group goes into the
-//!   bucket of one of its boxes, the one that the fewest lines have. A lookup goes through the buckets of the state's boxes.
-//! - **Pushes by lookups** (`push_lookups`): the group that covered the last result of a push from the same cell is asked first. Then one
-//!   look through the groups finds which boxes can be pushed by all players of one piece of the room less the boxes (`piece`, `subsets`). A
-//!   push that is still left is looked up by itself, first in the bucket of the cell ahead. All this is done without stale groups, which had the
-//!   boxes of many states in a row and covered none, and then, if the push stays open, among all groups.
+//!   push, and one side of the pushed box decides. Groups of which all pushes are settled are noted as covered. Most lists end here.
+//! - **Pushes by lookups** (`settling`, `unsettled`), for a group that isn't noted. Its pushes are open, and other groups settle them. A group
+//!   settles a push if at most one of its boxes isn't there: none, and its region has the player, and it lacks the pushed box; or just the one
+//!   on the cell ahead, and its region lies on the side from which the box comes. If a group whose boxes are all there, with the player in
+//!   its region, is noted as covered itself, it settles all pushes from the player's piece of the room less the boxes. A push that is open
+//!   when all groups were asked isn't covered.
+//! - **The order in which groups are asked** (`search`, `buckets`): first those that hints name; then, piece by piece, the covered group that
+//!   settled the last piece, the groups found so far whose boxes are all there, and the groups in the buckets of the cells ahead and of the
+//!   boxes, until nothing is open in the piece. Each group is in the bucket of one of its boxes, the one that the fewest groups have.
+//! - **States** (`lookups`): a group that covers a state is in the bucket of one of the state's boxes.
+//! - **Where a player is** (`place`, `tree`): a region has the player if it is whole. Otherwise the first box of the group on the player's
+//!   path to the root of a spanning tree decides, by the side on which the path meets it. The tree is grown when it is first needed.
 //!
-//! A group costs a look at its boxes. If they match and the region is parted, the player's path to the root is walked, once for each lookup
-//! or look: at most as many steps as the room has cells. In the worst case a lookup or look goes through each group. A stale group costs a few
-//! instructions.
-//!
-//! Suppose that a line without the pushed box covers each result. Then the pushes take groups × lines if the region of each group is one
-//! piece. Otherwise they also take pieces × those lines whose boxes are all there, where a piece counts again if the pushes come back to it.
-//! They take far less if the same lines cover the results of many groups. If only lines with a box on the cell ahead cover the results, they
-//! take pushes × lines, or less if these lines are in the bucket of this cell.
+//! In the worst case each group is looked at once for each group, and once more for each piece if its boxes are all there.
 #![tactic(auto)]
 
 mod arena;
+mod buckets;
 mod cell_patterns;
 mod cells;
 mod chains;
 mod group_regions;
 mod groups;
 mod hints;
-mod lookup;
-mod piece;
-mod push_lookups;
+mod lookups;
+mod place;
 mod pushes;
+mod search;
+mod settling;
 mod sides;
-mod subsets;
 mod tables;
+mod task;
 mod trap;
 mod tree;
+mod unsettled;
 
 pub use arena::{Arena, Span, StoredLine, part};
+pub use buckets::Buckets;
 pub use cell_patterns::{CellPattern, arena_of};
 pub use cells::{add_cells, are_in, are_outside, is_among, load, number_of, take_out};
 pub use chains::Chains;
-pub use group_regions::{Region, Regions};
+pub use group_regions::{Flood, Region, Regions};
 pub use groups::Groups;
-pub use lookup::{Scratch, is_any_covering};
-pub use piece::Piece;
-pub use push_lookups::PushScratch;
+pub use lookups::Lookups;
+pub use place::Place;
 pub use pushes::note_hinted;
+pub use search::Search;
 pub use sides::Sides;
-pub use subsets::Subsets;
-pub use tables::{Buckets, FilledTables, Tables};
+pub use tables::Tables;
+pub use task::Task;
 pub use trap::find_trap;
 pub use tree::{Hit, Node, Tree};
+pub use unsettled::{Ahead, Missing, Unsettled};

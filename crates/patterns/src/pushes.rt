@@ -1,8 +1,7 @@
 //! The pushes out of groups, and whether the trap and hints show that the list covers their results.
 //!
 //! After a push the player is beside the box that was pushed. So the group of just the boxes after the push covers the result
-//! exactly if its region lies on that side of that box. Hints find such a group. Pushes that they don't settle are looked up
-//! (`push_lookups`).
+//! exactly if its region lies on that side of that box. Hints find such a group. Lookups settle the others (`settling`).
 ghost use Rattle.std.specs.Prelude.{◌≡◌, ◌<◌, ◌↔◌, IsTrue, IfSome, MatchOption, length};
 ghost use Rattle.cellset.specs.{CellSet.Has, CellSet.Lacks, declared.cell.Cell.Cell as GridCell};
 ghost use Rattle.reach.specs.Region.{IsFree};
@@ -151,13 +150,28 @@ fn push_of<S: CellSet>(tables: &Tables<S>, pushed: &PushedBox, dir: Dir) -> Opti
     })
 }
 
-// Returns the number of the pushed box among `after`, if these cells have boxes after the push. It finds all boxes in any order, and
-// tries boxes[number] first, because the lists usually differ in one box.
+// Returns the number of the first cell from a number on that is this one.
+#[inline(always)]
+fn number_from(cells: &[Cell], from: usize, cell: Cell) -> Option<usize>
+    ensures { IfSome result (λ number. (number < length cells.now) × (cell_no cells.now number ≡ cell)) }
+{
+    for number in from..cells.len() {
+        if is_same(cells[number], cell) {
+            return Some(number);
+        }
+    }
+    None
+}
+
+// Returns the number of the pushed box among `after`, if these cells have boxes after the push. It tries boxes[number] first, because the
+// lists usually differ in one box, and finds all boxes if both lists are in the same order. A search goes on where the last one ended: lines
+// that agree in 1,500 boxes would take 2.8 s instead of 0.04 s if each search began anew.
 fn number_after(after: &[Cell], pushed: &PushedBox, push: Push) -> Option<usize>
     ensures { IfSome result (λ number. (number < length after.now) × (cell_no after.now number ≡ push.to)
         × ((c : GridCell) → Has (cells_in after.now) c → Has (moved (cells_in pushed.now.boxes.now) push.from push.to) c)) }
 {
     let mut found = None;
+    let mut passed = 0;
     for (number, at) in after.iter().enumerate() {
         if is_same(*at, push.to) {
             found = Some(number);
@@ -167,7 +181,7 @@ fn number_after(after: &[Cell], pushed: &PushedBox, push: Push) -> Option<usize>
             return None;
         }
         if number >= pushed.boxes.len() || !is_same(pushed.boxes[number], *at) {
-            number_of(pushed.boxes, *at)?;
+            passed = number_from(pushed.boxes, passed, *at)?;
         }
     }
     found

@@ -5,7 +5,7 @@ ghost use Rattle.patterns.specs.Sides.{toward};
 use cellset::Dir;
 
 /// By direction, whether the neighbour of a box is in a region.
-#[derive(Clone, Copy, Default)]
+#[derive(Clone, Copy, Debug, Default, PartialEq, Eq)]
 pub struct Sides {
     pub left: bool,
     pub up: bool,

@@ -33,7 +33,7 @@ pub fn find_trap<S: CellSet>(
     if trap.is_empty() {
         return Ok(false);
     }
-    let is_closed = trap.is_closed::<ByPush>(alloc, board.rows())?;
+    let is_closed = trap.is_closed::<ByPush>(alloc, board.room_rows())?;
     if is_closed {
         return Ok(all_single);
     }

@@ -1,45 +1,39 @@
 //! A spanning tree of the room, built by a breadth-first search.
 //!
-//! From each cell of the room a path leads from parent to parent to the root, the player's cell at the start. Lookups follow it (`lookup`).
+//! From each cell of the room a path leads from parent to parent to the root, the player's cell at the start. Lookups follow it (`place`).
 ghost use Rattle.std.specs.Prelude.{◌≡◌, ◌+◌, ◌<◌, ◌≤◌, ℕ, IfOk, OnOk, length, slice_index_or};
 ghost use Rattle.std.specs.FinSet as set;
 ghost use Rattle.cellset.specs.{Cell.neighbor, CellSet.Has, CellSet.Lacks, declared.cell.Cell.Cell as GridCell};
-ghost use Rattle.patterns.specs.{CellIndex.index_of, SpanningTree.AreJoinedBeside, SpanningTree.IsTree, SpanningTree.IsGrowing};
+ghost use Rattle.patterns.specs.{SpanningTree.AreJoinedBeside, SpanningTree.IsTree, SpanningTree.IsGrowing};
 ghost use Rattle.patterns.specs.declared.tree.Node.{Node as NodeValue};
 
+use crate::arena::to_u32;
 use board::Board;
 use cellset::{Cell, CellSet, Dir};
 use std::alloc::{AllocError, Global};
 
 /// A cell, and the step to its parent. The root is number 0 and has no parent.
-#[derive(Clone, Copy)]
+#[derive(Clone, Copy, Debug, PartialEq, Eq)]
 pub struct Node {
     pub cell: Cell,
     pub dir: Dir,
     /// The number of the parent, which is lower.
-    pub parent: usize,
+    pub parent: u32,
 }
 
 /// The cells of the room in the order in which the search reached them.
-#[derive(Drop)]
+#[derive(Debug, Drop)]
 pub struct Tree {
     /// By index of a cell, its number.
-    pub numbers: Vec<usize>,
+    pub numbers: Vec<u32>,
     pub nodes: Vec<Node>,
 }
 
 /// A box on a path to the root, and the side on which the path meets it.
-#[derive(Clone, Copy)]
+#[derive(Clone, Copy, Debug, PartialEq, Eq)]
 pub struct Hit {
     pub cell: Cell,
     pub side: Dir,
-}
-
-// Returns the index of a cell in a table by cells.
-pub(crate) fn index_of(cell: Cell) -> usize
-    ensures { result ≡ index_of cell }
-{
-    256 * usize::from(cell.row()) + usize::from(cell.column())
 }
 
 // Returns the tree of all cells of the room.
@@ -66,9 +60,8 @@ fn begin<S: CellSet>(alloc: Global, board: &Board<S>, left: &mut S) -> Result<Tr
     let root = board.player();
     left.copy_from(board.room());
     left.remove(root);
-    let height = usize::from(shape.height());
-    let mut numbers = vec![in alloc; 0; 256 * (height + 1)]?;
-    numbers[index_of(root)] = 0;
+    let cells = usize::from(shape.width()) * usize::from(shape.height());
+    let numbers = vec![in alloc; 0u32; cells]?;
     let mut nodes = Vec::with_capacity(alloc, left.len())?;
     nodes.push(Node {
         cell: root,
@@ -79,6 +72,16 @@ fn begin<S: CellSet>(alloc: Global, board: &Board<S>, left: &mut S) -> Result<Tr
 }
 
 impl Tree {
+    // Returns a tree without nodes.
+    pub(crate) fn new(alloc: Global) -> Tree
+        ensures { length result.nodes.items ≡ 0 }
+    {
+        Tree {
+            numbers: Vec::new(alloc),
+            nodes: Vec::new(alloc),
+        }
+    }
+
     // Adds the neighbours of a node that are left.
     fn join_around<S: CellSet>(
         &mut self,
@@ -129,11 +132,14 @@ impl Tree {
         if !left.remove(cell) {
             return Ok(());
         }
-        self.numbers[index_of(cell)] = self.nodes.len();
+        let number = to_u32(self.nodes.len())?;
+        let parent = to_u32(from)?;
+        let at = board.shape().index_of(cell);
+        self.numbers[at] = number;
         self.nodes.push(Node {
             cell,
             dir: dir.opposite(),
-            parent: from,
+            parent,
         })?;
         Ok(())
     }

@@ -3,6 +3,7 @@ pub mod Spelling
 pub mod Counts
 pub mod Solution
 pub mod FirstFault
+pub mod Words
 pub mod Field
 pub mod Letter
 pub mod Progress

@@ -1,9 +1,12 @@
 //! What can be wrong with a solution.
-use std::fmt;
+ghost use Rattle.play.specs.Words.{move_word};
+ghost use Rattle.std.specs.Prelude.{◌≡◌};
+
 use thiserror::Error;
 
 /// Why a letter is no legal step: the first of these that holds.
-#[derive(Clone, Copy, Debug, Error)]
+#[derive(Clone, Copy, Debug, PartialEq, Eq, Error)]
+#[error("{}", self.word())]
 pub enum MoveWhy {
     /// It is none of `l u r d L U R D`.
     Letter,
@@ -15,19 +18,22 @@ pub enum MoveWhy {
     Case,
 }
 
-impl fmt::Display for MoveWhy {
-    fn fmt<W: fmt::Write>(&self, f: &mut fmt::Formatter<W>) -> fmt::Result {
-        f.write_str(match self {
+impl MoveWhy {
+    /// Returns the word of the report.
+    pub fn word(self) -> &'static str
+        ensures { result.now ≡ move_word self }
+    {
+        match self {
             MoveWhy::Letter => "letter",
             MoveWhy::Wall => "wall",
             MoveWhy::Blocked => "blocked",
             MoveWhy::Case => "case",
-        })
+        }
     }
 }
 
 /// Why a text doesn't solve its level: the first of these that holds.
-#[derive(Clone, Copy, Debug, Error)]
+#[derive(Clone, Copy, Debug, PartialEq, Eq, Error)]
 pub enum ReplayFault {
     /// A letter is no legal step. Letters are numbered from 1, without blanks.
     #[error("move {number} {why}")]

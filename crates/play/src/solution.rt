@@ -1,4 +1,6 @@
 //! Plays whole solutions.
+//!
+//! `replay` and `replay_lines` are for callers. The program uses `Replayer`, with the same contract, and so plays all solutions in one memory.
 ghost use Rattle.std.specs.Prelude.{◌≡◌, ◌≢◌, ◌⊎◌, ◌+◌, ◌≤◌, ◌<◌, ◌^◌, true, false, length, slice_index, sum_by, IfOk, IfErr, OnOk};
 ghost use Rattle.play.specs.Field.{HasMask};
 ghost use Rattle.play.specs.Spelling.{letters, joined};
@@ -81,7 +83,7 @@ fn play_all<S: CellSet>(
 }
 
 /// Plays one solution after another, in memory that is kept.
-#[derive(Drop)]
+#[derive(Debug, Drop)]
 pub struct Replayer {
     field: Vec<u8>,
 }

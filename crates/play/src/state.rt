@@ -1,4 +1,6 @@
 //! States, and one step of the game.
+//!
+//! `State` is for callers. The program plays on a field of bytes; the contract of `Replayer` speaks of the same steps.
 ghost use Rattle.std.specs.Prelude.{◌≡◌, ◌↔◌, IfOk, OnErr};
 ghost use Rattle.std.specs.Option.{SomeIff};
 ghost use Rattle.cellset.specs.Cell.{IsOn, neighbor};
@@ -9,12 +11,11 @@ ghost use Rattle.play.specs.State.{StateOn, Moves, IsWallAhead, IsBlocked};
 use board::Board;
 use cellset::{Cell, CellSet, Dir};
 use std::alloc::{AllocError, Global};
-use std::fmt;
 use std::marker::Model;
 use thiserror::Error;
 
 /// What a step moved.
-#[derive(Clone, Copy, Debug)]
+#[derive(Clone, Copy, Debug, PartialEq, Eq)]
 pub enum Moved {
     /// The player alone.
     Walk,
@@ -23,25 +24,18 @@ pub enum Moved {
 }
 
 /// Why a step isn't possible: the first of these that holds.
-#[derive(Clone, Copy, Debug, Error)]
+#[derive(Clone, Copy, Debug, PartialEq, Eq, Error)]
 pub enum StepFault {
     /// The next cell is a wall.
+    #[error("wall")]
     Wall,
     /// The next cell has a box, and the cell after it is a wall or has a box.
+    #[error("blocked")]
     Blocked,
 }
 
-impl fmt::Display for StepFault {
-    fn fmt<W: fmt::Write>(&self, f: &mut fmt::Formatter<W>) -> fmt::Result {
-        f.write_str(match self {
-            StepFault::Wall => "wall",
-            StepFault::Blocked => "blocked",
-        })
-    }
-}
-
 /// The cells of the player and of the boxes. The boxes are kept in `S`.
-#[derive(Drop)]
+#[derive(Debug, Drop)]
 pub struct State<S: CellSet> {
     player: Cell,
     boxes: S,

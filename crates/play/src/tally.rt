@@ -1,7 +1,7 @@
 //! The counts of a solution.
 
 /// The counts of a solution.
-#[derive(Clone, Copy, Debug)]
+#[derive(Clone, Copy, Debug, PartialEq, Eq)]
 pub struct Tally {
     /// The steps, walks and pushes together.
     pub moves: u64,

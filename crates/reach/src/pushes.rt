@@ -1,4 +1,4 @@
-//! The pushes out of a region.
+//! The pushes out of a region. `Pushes` is for callers. The program finds pushes box by box, by the same definitions.
 //!
 //! A cursor visits the cells of the region in reading order and, at each cell, the four directions. It tests whether a player who
 //! steps from there in that direction pushes a box. So a whole run looks at the four neighbours of each cell of the region.
@@ -13,7 +13,7 @@ use cellset::{Cell, CellSet, Dir, MembersOf, Shape};
 use std::marker::Model;
 
 /// A push: the player's cell, the direction of its step, and the cells that the box leaves and enters.
-#[derive(Clone, Copy, Debug)]
+#[derive(Clone, Copy, Debug, PartialEq, Eq)]
 pub struct Push {
     pub player: Cell,
     pub dir: Dir,
@@ -22,7 +22,7 @@ pub struct Push {
 }
 
 /// The pushes out of a region, each once, by the player's cell in reading order, then left, up, right, down.
-#[derive(Drop)]
+#[derive(Debug, Drop)]
 pub struct Pushes<'a, S: CellSet> {
     walls: &'a S,
     boxes: &'a S,

@@ -1,6 +1,8 @@
 //! Regions: the cells joined to a seed.
 //!
 //! A region is what walks over free cells reach from the free seeds. It is found by rows of bits, which are reserved once.
+//!
+//! `flood` and `Flooder` are for callers. The program uses `Rows::grow`, whose contract speaks of the same chains.
 ghost use Rattle.std.specs.Prelude.{◌≡◌, IfOk};
 ghost use Rattle.std.specs.FinSet as set;
 ghost use Rattle.cellset.specs.Cell.{IsOn};
@@ -39,7 +41,7 @@ pub fn flood<S: CellSet>(
 }
 
 /// Finds one region after another on one shape, with rows that are reserved once.
-#[derive(Drop)]
+#[derive(Debug, Drop)]
 pub struct Flooder {
     free: Rows,
     region: Rows,

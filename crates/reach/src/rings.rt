@@ -7,7 +7,7 @@ ghost use Rattle.reach.specs.RowsOf.{InRows};
 use crate::columns::{columns_from, has_bit, row_at};
 
 /// Which of the eight cells around a cell are in a set.
-#[derive(Clone, Copy)]
+#[derive(Clone, Copy, Debug, PartialEq, Eq)]
 pub struct Ring {
     pub left: bool,
     pub left_up: bool,

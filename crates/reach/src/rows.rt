@@ -22,7 +22,7 @@ use std::alloc::{AllocError, Global};
 use std::marker::Model;
 
 /// A finite set of cells, kept as rows of `N` words. Bit 1 of a row is column 1, and row 0 is empty.
-#[derive(Drop)]
+#[derive(Debug, Drop)]
 pub struct RowsOf<const N: usize> {
     shape: Shape,
     rows: Vec<[u64; N]>,

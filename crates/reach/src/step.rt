@@ -42,6 +42,7 @@ pub trait StepBy<const N: usize>: StepKind {
 pub trait Step: StepBy<1> + StepBy<4> {}
 
 /// Walks: from a cell to a free neighbour.
+#[derive(Clone, Copy, Debug)]
 pub struct ByWalk;
 
 impl Step for ByWalk {}
@@ -61,6 +62,7 @@ impl<const N: usize> StepBy<N> for ByWalk {
 }
 
 /// Pulls: from a cell to each neighbour from which a push brings a box to it.
+#[derive(Clone, Copy, Debug)]
 pub struct ByPull;
 
 impl Step for ByPull {}
@@ -80,6 +82,7 @@ impl<const N: usize> StepBy<N> for ByPull {
 }
 
 /// Pushes: from a cell to each neighbour to which a player on its opposite side can push a box.
+#[derive(Clone, Copy, Debug)]
 pub struct ByPush;
 
 impl Step for ByPush {}

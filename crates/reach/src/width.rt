@@ -22,7 +22,7 @@ use std::alloc::{AllocError, Global};
 use std::marker::Model;
 
 /// A finite set of cells, kept as rows of bits.
-#[derive(Drop)]
+#[derive(Debug, Drop)]
 pub struct Rows {
     rows: ByWidth,
     // The rows that have a cell, and maybe others. A flood starts with them. If they aren't known, it looks at all rows first: always to do
@@ -31,7 +31,7 @@ pub struct Rows {
 }
 
 // Rows of one word for at most 63 columns, and of four for more.
-#[derive(Drop)]
+#[derive(Debug, Drop)]
 enum ByWidth {
     Narrow(RowsOf<1>),
     Wide(RowsOf<4>),

@@ -6,7 +6,7 @@ ghost use Rattle.std.specs.Prelude.{◌≡◌, ◌+◌, ◌*◌, ◌/◌, ◌^�
 ghost use Rattle.reach.specs.Bits.{HasBit, IsTaken};
 
 // A set of row numbers below `64 * M`, as bits. Contracts see its words.
-#[derive(Clone, Copy)]
+#[derive(Clone, Copy, Debug)]
 pub(crate) struct Worklist<const M: usize> {
     words: [u64; M],
 }

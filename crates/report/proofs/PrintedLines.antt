@@ -9,11 +9,14 @@ use Rattle.std.specs.Fmt.{digit_glyph, digits, digits_onto}
 use Rattle.std.proofs.lemmas.List.{append-nil, append_cancel_left}
 use Rattle.std.proofs.lemmas.Bool.Decides.{nat_tests}
 use Rattle.board.specs.Lines.{lines_in}
+use Rattle.board.specs.Words.{board_words}
 use Rattle.board.specs.declared.reading.BoardFault.{BoardFault}
 use Rattle.board.specs.declared.reading.BoardFault.TheVariants as board_fault
+use Rattle.cellset.specs.Words.{dir_word}
 use Rattle.cellset.specs.declared.cell.Cell.{Cell}
 use Rattle.cellset.specs.declared.dir.Dir.{Dir}
 use Rattle.cellset.specs.declared.dir.Dir.TheVariants.{L, U, R, D}
+use Rattle.play.specs.Words.{move_word}
 use Rattle.play.specs.declared.fault.MoveWhy.{MoveWhy}
 use Rattle.play.specs.declared.fault.MoveWhy.TheVariants as move_why
 use Rattle.play.specs.declared.fault.ReplayFault.{ReplayFault}
@@ -21,9 +24,11 @@ use Rattle.play.specs.declared.fault.ReplayFault.TheVariants as replay_fault
 use Rattle.play.specs.declared.tally.Tally.{Tally}
 use Rattle.answers.specs.Body.{Body, Entry}
 use Rattle.answers.specs.Canonical.{ended}
+use Rattle.answers.specs.Words.{bad_line_word}
 use Rattle.answers.specs.declared.record.BadLineWhy.{BadLineWhy}
 use Rattle.answers.specs.declared.record.BadLineWhy.TheVariants as bad_line
 use Rattle.answers.proofs.PlainLines.{ArePlain, IsPlainLine, is_plain, lines_again, plain-append}
+use Rattle.closure.specs.Words.{line_word, zone_word}
 use Rattle.closure.specs.declared.fault.LineWhy.{LineWhy}
 use Rattle.closure.specs.declared.fault.LineWhy.TheVariants as line_why
 use Rattle.closure.specs.declared.fault.CheckFault.{CheckFault}
@@ -39,7 +44,7 @@ use Rattle.report.specs.Report.{AllMean}
 use Rattle.report.specs.Status.{IsFirstFaultOf}
 use Rattle.report.specs.Summary.{summary_of}
 use Rattle.report.specs.Unsolvable.{IsUnsolvable}
-use Rattle.report.specs.Words.{Text, bad_line_word, board_words, dir_word, line_of, line_word, lines_from, move_word, patterns_words, cell_words, refusal_words, report_text, solution_words, solved_words, total_line, words_of, zone_word, zone_words}
+use Rattle.report.specs.Words.{Text, line_of, lines_from, patterns_words, cell_words, refusal_words, report_text, solution_words, solved_words, total_line, words_of, zone_words}
 use Rattle.report.specs.declared.status.Refusal.{Refusal}
 use Rattle.report.specs.declared.status.Refusal.TheVariants.{Board, BadLine, Solution, Patterns, Zone}
 use Rattle.report.specs.declared.status.Status.{Status}

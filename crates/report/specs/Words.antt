@@ -2,22 +2,16 @@
 use Rattle.std.specs.Prelude.{ℕ, ◌+◌, List, [], ◌∷◌, ◌++◌, codes, decimal}
 use Rattle.cellset.specs.declared.cell.Cell.{Cell}
 use Rattle.cellset.specs.declared.dir.Dir.{Dir}
-use Rattle.cellset.specs.declared.dir.Dir.TheVariants.{L, U, R, D}
-use Rattle.board.specs.declared.reading.BoardFault.{BoardFault}
-use Rattle.board.specs.declared.reading.BoardFault.TheVariants as board_fault
-use Rattle.play.specs.declared.fault.MoveWhy.{MoveWhy}
-use Rattle.play.specs.declared.fault.MoveWhy.TheVariants as move_why
+use Rattle.cellset.specs.Words.{dir_word}
+use Rattle.board.specs.Words.{board_words}
+use Rattle.play.specs.Words.{move_word}
 use Rattle.play.specs.declared.fault.ReplayFault.{ReplayFault}
 use Rattle.play.specs.declared.fault.ReplayFault.TheVariants as replay_fault
 use Rattle.play.specs.declared.tally.Tally.{Tally}
-use Rattle.answers.specs.declared.record.BadLineWhy.{BadLineWhy}
-use Rattle.answers.specs.declared.record.BadLineWhy.TheVariants as bad_line
-use Rattle.closure.specs.declared.fault.LineWhy.{LineWhy}
-use Rattle.closure.specs.declared.fault.LineWhy.TheVariants as line_why
+use Rattle.answers.specs.Words.{bad_line_word}
+use Rattle.closure.specs.Words.{line_word, zone_word}
 use Rattle.closure.specs.declared.fault.CheckFault.{CheckFault}
 use Rattle.closure.specs.declared.fault.CheckFault.TheVariants as check_fault
-use Rattle.closure.specs.declared.fault.ZoneLineWhy.{ZoneLineWhy}
-use Rattle.closure.specs.declared.fault.ZoneLineWhy.TheVariants as zone_why
 use Rattle.closure.specs.declared.fault.ZoneFault.{ZoneFault}
 use Rattle.closure.specs.declared.fault.ZoneFault.TheVariants as zone_fault
 use Rattle.report.specs.declared.status.Status.{Status}
@@ -31,51 +25,11 @@ use Rattle.report.specs.Summary.{summary_of}
 abbrev pub Text : Type 0
 Text = List ℕ
 
--- each fault of a level has these words; out of memory is no fault of a level, so it has none, here and below
-abbrev pub board_words : BoardFault → Text
-board_words board_fault.Size = codes "size"
-board_words board_fault.Player = codes "player"
-board_words board_fault.Box = codes "box"
-board_words board_fault.Goals = codes "goals"
-board_words board_fault.Open = codes "open"
-board_words board_fault.Memory = []
-
--- the word says why a letter can't be played
-abbrev pub move_word : MoveWhy → Text
-move_word move_why.Letter = codes "letter"
-move_word move_why.Wall = codes "wall"
-move_word move_why.Blocked = codes "blocked"
-move_word move_why.Case = codes "case"
-
--- the word says why a line of a record is bad
-abbrev pub bad_line_word : BadLineWhy → Text
-bad_line_word bad_line.Syntax = codes "syntax"
-bad_line_word bad_line.Count = codes "count"
-
--- the word says why a pattern is unlawful
-abbrev pub line_word : LineWhy → Text
-line_word line_why.Board = codes "board"
-line_word line_why.Wall = codes "wall"
-line_word line_why.Seed = codes "seed"
-line_word line_why.Goals = codes "goals"
-
--- the word says why a zone is unlawful
-abbrev pub zone_word : ZoneLineWhy → Text
-zone_word zone_why.Board = codes "board"
-zone_word zone_why.Wall = codes "wall"
-
--- a direction has the letter of its step
-abbrev pub dir_word : Dir → Text
-dir_word L = codes "l"
-dir_word U = codes "u"
-dir_word R = codes "r"
-dir_word D = codes "d"
-
 -- the words name a cell by its column and row, and a direction
 abbrev pub cell_words : Cell → Dir → Text
 cell_words c d = decimal c.column ++ codes "," ++ decimal c.row ++ codes " " ++ dir_word d
 
--- each fault of a solution has these words
+-- each fault of a solution has these words; out of memory is no fault of a level, so it has none, here and below
 abbrev pub solution_words : ReplayFault → Text
 solution_words (replay_fault.Move number why) = codes "move " ++ decimal number ++ codes " " ++ move_word why
 solution_words (replay_fault.Unsolved boxes) = codes "unsolved " ++ decimal boxes

@@ -20,7 +20,7 @@ use play::{ReplayFault, Replayer};
 use std::alloc::{AllocError, Global};
 
 /// Memory in which one level after another is judged.
-#[derive(Drop)]
+#[derive(Debug, Drop)]
 pub struct Scratch<S: CellSet> {
     board: Option<Board<S>>,
     replayer: Replayer,

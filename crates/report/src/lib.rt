@@ -21,8 +21,9 @@ mod report;
 mod status;
 mod summary;
 mod texts;
+mod words;
 
-pub use fault::{AuditError, DeadError, MOST_WORDS, Which, Why, Words};
+pub use fault::{AuditError, DeadError, Which, Why};
 pub use jobs::audit;
 pub use judging::{Scratch, judge};
 pub use laws::{
@@ -36,3 +37,4 @@ pub use map::dead_map;
 pub use status::{Refusal, Status};
 pub use summary::Summary;
 pub use texts::{audit_texts, judge_texts};
+pub use words::{MOST_WORDS, Words};

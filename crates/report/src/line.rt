@@ -1,15 +1,13 @@
 //! The lines of the report as bytes.
 ghost use Rattle.std.specs.Prelude.{◌≡◌, ◌++◌, OnOk, decimal, codes};
-ghost use Rattle.report.specs.Words.{line_of, words_of, refusal_words, board_words, move_word, bad_line_word, line_word, zone_word, solution_words, patterns_words, zone_words, cell_words, total_line};
+ghost use Rattle.report.specs.Words.{line_of, words_of, refusal_words, solution_words, patterns_words, zone_words, cell_words, total_line};
 
 use crate::status::{Refusal, Status};
 use crate::summary::Summary;
-use answers::BadLineWhy;
-use board::BoardFault;
 use cellset::{Cell, Dir};
-use closure::{CheckFault, LineWhy, ZoneFault, ZoneLineWhy};
+use closure::{CheckFault, ZoneFault};
 use itoa::Buffer;
-use play::{MoveWhy, ReplayFault};
+use play::ReplayFault;
 use std::alloc::AllocError;
 
 // Adds a word and then a number.
@@ -20,64 +18,6 @@ fn push_number(text: &mut Vec<u8>, word: &[u8], number: u64) -> Result<(), Alloc
     let mut digits = Buffer::new();
     text.extend_from_slice(digits.format(number).as_bytes())?;
     Ok(())
-}
-
-// Returns the words of a fault of a level.
-fn board_words_of(fault: BoardFault) -> &'static [u8]
-    ensures { result.now ≡ board_words fault }
-{
-    match fault {
-        BoardFault::Size => b"size",
-        BoardFault::Player => b"player",
-        BoardFault::Box => b"box",
-        BoardFault::Goals => b"goals",
-        BoardFault::Open => b"open",
-        BoardFault::Memory => b"",
-    }
-}
-
-// Returns the word for why a letter can't be played.
-fn move_word_of(why: MoveWhy) -> &'static [u8]
-    ensures { result.now ≡ move_word why }
-{
-    match why {
-        MoveWhy::Letter => b"letter",
-        MoveWhy::Wall => b"wall",
-        MoveWhy::Blocked => b"blocked",
-        MoveWhy::Case => b"case",
-    }
-}
-
-// Returns the word for why a line of a record is bad.
-fn bad_line_word_of(why: BadLineWhy) -> &'static [u8]
-    ensures { result.now ≡ bad_line_word why }
-{
-    match why {
-        BadLineWhy::Syntax => b"syntax",
-        BadLineWhy::Count => b"count",
-    }
-}
-
-// Returns the word for why a pattern is unlawful.
-fn line_word_of(why: LineWhy) -> &'static [u8]
-    ensures { result.now ≡ line_word why }
-{
-    match why {
-        LineWhy::Board => b"board",
-        LineWhy::Wall => b"wall",
-        LineWhy::Seed => b"seed",
-        LineWhy::Goals => b"goals",
-    }
-}
-
-// Returns the word for why a zone is unlawful.
-fn zone_word_of(why: ZoneLineWhy) -> &'static [u8]
-    ensures { result.now ≡ zone_word why }
-{
-    match why {
-        ZoneLineWhy::Board => b"board",
-        ZoneLineWhy::Wall => b"wall",
-    }
 }
 
 // Adds the number of a line of the answers, and then a word.
@@ -95,13 +35,8 @@ fn push_cell(text: &mut Vec<u8>, word: &[u8], cell: Cell, dir: Dir) -> Result<()
 {
     push_number(text, word, cell.column().into())?;
     push_number(text, b",", cell.row().into())?;
-    let letter: &[u8] = match dir {
-        Dir::L => b" l",
-        Dir::U => b" u",
-        Dir::R => b" r",
-        Dir::D => b" d",
-    };
-    text.extend_from_slice(letter)
+    text.extend_from_slice(b" ")?;
+    text.extend_from_slice(dir.word().as_bytes())
 }
 
 // Adds the words of a solution's fault.
@@ -112,7 +47,7 @@ fn push_solution(text: &mut Vec<u8>, fault: ReplayFault) -> Result<(), AllocErro
         ReplayFault::Move { number, why } => {
             push_number(text, b"move ", number)?;
             text.extend_from_slice(b" ")?;
-            text.extend_from_slice(move_word_of(why))
+            text.extend_from_slice(why.word().as_bytes())
         }
         ReplayFault::Unsolved { boxes } => push_number(text, b"unsolved ", boxes),
         ReplayFault::Memory => Ok(()),
@@ -124,7 +59,7 @@ fn push_patterns(text: &mut Vec<u8>, fault: CheckFault) -> Result<(), AllocError
     ensures ok { OnOk result (text.new.items ≡ text.old.items ++ patterns_words fault) }
 {
     match fault {
-        CheckFault::Line { line, why } => push_fault(text, line, line_word_of(why)),
+        CheckFault::Line { line, why } => push_fault(text, line, why.word().as_bytes()),
         CheckFault::Start => text.extend_from_slice(b"start"),
         CheckFault::Push { line, player, dir } => {
             push_number(text, b"line ", line as u64)?;
@@ -139,7 +74,7 @@ fn push_zone(text: &mut Vec<u8>, fault: ZoneFault) -> Result<(), AllocError>
     ensures ok { OnOk result (text.new.items ≡ text.old.items ++ zone_words fault) }
 {
     match fault {
-        ZoneFault::Line { line, why } => push_fault(text, line, zone_word_of(why)),
+        ZoneFault::Line { line, why } => push_fault(text, line, why.word().as_bytes()),
         ZoneFault::Leak { line, cell, dir } => {
             push_number(text, b"line ", line as u64)?;
             push_cell(text, b" leak ", cell, dir)
@@ -156,9 +91,9 @@ fn push_refusal(text: &mut Vec<u8>, refusal: Refusal) -> Result<(), AllocError>
     match refusal {
         Refusal::Board(fault) => {
             text.extend_from_slice(b"board ")?;
-            text.extend_from_slice(board_words_of(fault))
+            text.extend_from_slice(fault.word().as_bytes())
         }
-        Refusal::BadLine { line, why } => push_fault(text, line, bad_line_word_of(why)),
+        Refusal::BadLine { line, why } => push_fault(text, line, why.word().as_bytes()),
         Refusal::Solution(fault) => push_solution(text, fault),
         Refusal::Patterns(fault) => push_patterns(text, fault),
         Refusal::Zone(fault) => push_zone(text, fault),

@@ -5,7 +5,7 @@ use closure::{CheckFault, ZoneFault};
 use play::{ReplayFault, Tally};
 
 /// The status of a level: what an audit says of it.
-#[derive(Clone, Copy, Debug)]
+#[derive(Clone, Copy, Debug, PartialEq, Eq)]
 pub enum Status {
     /// The solution solves the level, with these counts.
     Solved(Tally),
@@ -20,7 +20,7 @@ pub enum Status {
 }
 
 /// The first fault of a level or of its answer. To run out of memory is no fault of a level.
-#[derive(Clone, Copy, Debug)]
+#[derive(Clone, Copy, Debug, PartialEq, Eq)]
 pub enum Refusal {
     /// The level is not legal.
     Board(BoardFault),

@@ -5,7 +5,7 @@ ghost use Rattle.report.specs.Summary.{AddsUp, status_of, with_status};
 use crate::status::Status;
 
 /// The number of levels, and the number of levels of each kind.
-#[derive(Clone, Copy, Debug)]
+#[derive(Clone, Copy, Debug, PartialEq, Eq)]
 pub struct Summary {
     pub levels: usize,
     pub solved: usize,

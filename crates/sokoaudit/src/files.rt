@@ -2,8 +2,8 @@
 ghost use Rattle.std.specs.Prelude.{None};
 ghost use Rattle.sokoaudit.specs.Files.{left_in};
 
-use crate::program::Opener;
 use devices::Device;
+use program::Opener;
 use std::io::Read;
 use std::{fs, io, rt};
 

@@ -1,16 +1,9 @@
 //! Audits collections of Sokoban levels, makes certificates for them, and maps their dead squares.
 //!
-//! Contracts see a word or a text as the list of its bytes. The library `report` says what a report, made answers and a map
-//! are. This crate says which of them the program's words ask for, and what a run prints.
-//!
-//! Read `specs/Program.antt` for what a run prints, and `specs/Command.antt` of `arguments` for the words. The law
-//! `printed_lines_are_true` says that the lines of a printed report are true.
+//! The library `program` says what a run prints. This crate hands the words, the files and the streams of the system to it.
 #![tactic(auto)]
 
 mod files;
-mod laws;
-mod program;
-mod words;
 
 use devices::{Device, Sink};
 use files::Files;

@@ -1,4 +1,5 @@
 pub mod Bodies
 pub mod Entries
 pub mod Judging
+pub mod Places
 pub mod Spelled

@@ -20,7 +20,12 @@ use Rattle.closure.specs.declared.fault.ZoneLineWhy.{ZoneLineWhy}
 use Rattle.closure.specs.declared.fault.ZoneLineWhy.TheVariants as zone_why
 use Rattle.closure.specs.declared.fault.ZoneFault.{ZoneFault}
 use Rattle.closure.specs.declared.fault.ZoneFault.TheVariants as zone_fault
-use Rattle.report.specs.Words.{bad_line_word, board_words, dir_word, line_word, move_word, patterns_words, refusal_words, solution_words, words_of, zone_word, zone_words}
+use Rattle.cellset.specs.Words.{dir_word}
+use Rattle.board.specs.Words.{board_words}
+use Rattle.play.specs.Words.{move_word}
+use Rattle.answers.specs.Words.{bad_line_word}
+use Rattle.closure.specs.Words.{line_word, zone_word}
+use Rattle.report.specs.Words.{patterns_words, refusal_words, solution_words, words_of, zone_words}
 use Rattle.report.specs.declared.status.Status.{Status}
 use Rattle.report.specs.declared.status.Status.TheVariants.{Solved, Unsolvable, UnsolvableZone, Refused, Missing}
 use Rattle.report.specs.declared.status.Refusal.{Refusal}

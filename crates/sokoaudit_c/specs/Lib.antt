@@ -2,3 +2,4 @@ pub mod Outcome
 pub mod Numbers
 pub mod Lines
 pub mod Judged
+pub mod Spans

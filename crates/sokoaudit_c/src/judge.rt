@@ -15,7 +15,7 @@ use report::{AuditError, Status, Which, judge_texts};
 use std::alloc::{AllocError, Global};
 
 /// Why there is no verdict.
-#[derive(Clone, Copy)]
+#[derive(Clone, Copy, Debug, PartialEq, Eq)]
 pub enum Fault {
     /// The system refused memory.
     Memory,

@@ -26,6 +26,7 @@ ghost use Rattle.sokoaudit_c.specs.Outcome.{Holds, outcome_of_answers, outcome_o
 mod judge;
 mod numbers;
 mod outcome;
+mod spans;
 mod verdicts;
 
 use answers::Device;
@@ -34,6 +35,7 @@ pub use numbers::Line;
 pub use outcome::Outcome;
 use outcome::{error_of, of_answers, of_error, of_map, of_report};
 use report::{DeadError, MOST_WORDS, Words, audit_texts, dead_map, make_answers};
+pub use spans::{Span, sokoaudit_levels};
 use std::alloc::Global;
 use std::fmt::Write;
 pub use verdicts::sokoaudit_lines;

@@ -11,7 +11,7 @@ use report::{Refusal, Status};
 
 /// What an audit says of a level: its status, and the numbers that the level's line of the report prints. A number that the
 /// line doesn't print is 0. `include/sokoaudit.h` explains each of them, and numbers statuses and reasons.
-#[derive(Clone, Copy)]
+#[derive(Clone, Copy, Debug, PartialEq, Eq)]
 #[repr(C)]
 pub struct Line {
     pub status: u64,

@@ -7,7 +7,7 @@ use board::BoardFault;
 use report::{AuditError, DeadError, Summary, Which, Why};
 
 /// The numbers of a call. A number that means nothing is 0. `include/sokoaudit.h` explains each of them, and numbers the faults.
-#[derive(Clone, Copy)]
+#[derive(Clone, Copy, Debug, PartialEq, Eq)]
 #[repr(C)]
 pub struct Outcome {
     pub bytes: usize,

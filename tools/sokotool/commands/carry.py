@@ -23,17 +23,17 @@ def run(options: argparse.Namespace) -> int:
     read = answers.read_file(options.answers, len(old))
     found = carried(read.records, boards.forms_of(old), boards.forms_of(new))
     lost = [record for record in read.records if record.level not in
-            {one.record.level for several in found.values() for one in several}]
+            {read.records[at].level for several in found.values() for at, _ in several}]
     answers_name, new_name = map(texts.shown, (options.answers, options.new))
     for record in lost:
         _report(f"{answers_name} line {record.line}: no level of {new_name} has the board of level "
                 f"{record.level}")
     for number, several in sorted(found.items()):
         if len(several) > 1:
-            numbers = ", ".join(str(one.record.level) for one in several)
-            _report(f"level {number} has the board of levels {numbers}: the record of level "
-                    f"{several[0].record.level} is printed")
-    chosen = [several[0].text for _, several in sorted(found.items())]
+            numbers = [str(read.records[at].level) for at, _ in several]
+            _report(f"level {number} has the board of levels {', '.join(numbers)}: the record of "
+                    f"level {numbers[0]} is printed")
+    chosen = [several[0][1].record(number) for number, several in sorted(found.items())]
     output.put(answers.text(chosen, read.version))
     return int(bool(lost))
 

@@ -15,40 +15,40 @@ wrong."""
 import argparse
 import math
 import os
-import re
-from typing import Any, List, NamedTuple, Optional, Sequence, Tuple
+from typing import Dict, List, Optional, Sequence, Tuple
 
-from .. import (answers, auditor, boards, exports, kept, memory, output, own_files, searching,
-                solvers, stages, summary, system, taking, texts)
+from .. import (answers, auditor, blocks, boards, by_hand, exports, memory, own_files, places,
+                rounds, sheet, solvers, summary, system, texts, transaction)
+from ..changes import Snapshot
 from ..collection import BOTH, MOVES, PUSHES, Collection
-from ..own_files import ANSWERS, KEPT_ANSWERS, KEPT_XSB, MEMORY, OTHER, PAGE, REPORT, XSB, noted
+from ..jobs import Result
+from ..own_files import (ANSWERS, KEPT_ANSWERS, KEPT_XSB, MEMORY, OTHER, PAGE, REPORT, SHEET, XSB,
+                         noted)
 from ..progress import Progress
-from ..stages import Exports, Found, Given
-from . import convert, page
-from .find import SECONDS, Unbroken, above_zero
+from ..stages import Run, State
+from . import above_zero, convert, page, seconds, unbroken
+from .find import SECONDS
 
 BUDGET = 60
 # how often the files are read again if they change
 ROUNDS = 3
-# a level by its number in the exports; in quotes it is a line of a file
-_LEVEL = re.compile(r"(?<!')\blevel (\d+)")
 
 
 def arguments(parser: argparse.ArgumentParser) -> None:
     """Adds the arguments of the command."""
     parser.add_argument("name", metavar="NAME", help="NAME.xsb, .answers, .report and .html are "
                         "written, and the former ones are read")
-    parser.add_argument("exports", metavar="EXPORT", nargs="+",
+    parser.add_argument("exports", metavar="EXPORT", nargs="*",
                         help="an export; - is standard input")
     parser.add_argument("--answers", metavar="FILE", nargs="+", action="extend", default=[],
                         help="more answers, by the numbers that levels have or had in NAME.xsb")
     parser.add_argument("--best", choices=(MOVES, PUSHES, BOTH),
                         help="which of several solutions is kept (default moves; both if "
                         "NAME.other.answers is there: it has those with fewer pushes)")
-    parser.add_argument("--seconds", metavar="S", type=float, default=SECONDS,
+    parser.add_argument("--seconds", metavar="S", type=seconds, default=SECONDS,
                         help="search each level that is left for up to S seconds "
                         f"(default {SECONDS}, 0 for no search)")
-    parser.add_argument("--search", metavar="S", type=float, default=BUDGET,
+    parser.add_argument("--search", metavar="S", type=seconds, default=BUDGET,
                         help=f"search for S seconds in all (default {BUDGET}, 0 for no search)")
     parser.add_argument("--jobs", metavar="N", type=above_zero(int),
                         default=system.processors(),
@@ -63,176 +63,182 @@ def arguments(parser: argparse.ArgumentParser) -> None:
     parser.add_argument("--solver-search", metavar="S", type=above_zero(float), default=math.inf,
                         help="begin no run of the solver after S seconds (no limit by default)")
     parser.add_argument("--verbose", action="store_true", help="print what the solver prints")
-
-
-class QuietCollection(Collection):
-    """A collection that keeps what is left out or wrong for the summary."""
-
-    advice = ""
-
-    def __init__(self, shown: Progress, options: argparse.Namespace) -> None:
-        super().__init__(options.best, encoding=options.encoding or "")
-        self.shown = shown
-        self.problems: List[Tuple[str, str]] = []
-
-    def fault(self, line, why, file=None):
-        self.problems.append((self.place(line, file), why))
-
-    def note(self, line, why, file=None):
-        self.shown.keep(self.place(line, file) + why)
-
-
-class Done(NamedTuple):
-    """What the stages of a check made, and what has no place in the collection."""
-
-    read: stages.Read
-    merge: stages.Merge
-    taken: taking.Taken
-    audited: stages.Audited
-    left: kept.Kept
+    parser.add_argument("--csv", action="store_true",
+                        help="also write NAME.csv, a table with a row for each level")
+    parser.add_argument("--compare", action="store_true",
+                        help="search and write nothing, and print which files would change, but "
+                        "for the note of the reference; the status is 1 if one would")
 
 
 def run(options: argparse.Namespace) -> int:
-    given, found = gathered(options), Found()
-    done = settled(given, found)
-    done = searched(given, found, done)
-    return report(given, found, done)
+    given = gathered(options)
+    if options.compare:
+        return compared(given)
+    return report(given, searched(given, settled(given)))
 
 
-def gathered(options: argparse.Namespace) -> Given:
+def gathered(options: argparse.Namespace) -> Run:
     """Reads what isn't a file of NAME."""
     convert.check_name(options.name)
+    if not options.exports:
+        raise texts.Stop("no EXPORT is named: first comes a new NAME for the collection, as in "
+                         f"'sokotool check mine {texts.shown(options.name)}'")
     if options.solver:
         solvers.words_of(options.solver)
     if not options.best:
         options.best = BOTH if os.path.exists(options.name + OTHER) else MOVES
-    shown, program = Progress("check"), auditor.find()
+    given = Run(options, Progress("check"), auditor.find())
     if options.solver and not system.ENDS_CHILDREN:
-        shown.keep("this system ends the solver alone: what it starts may go on")
-    own_files.check_writable(options.name)
-    more = [(name, answers.read_file(name, rising=False)) for name in options.answers]
-    return Given(options, shown, program, converted(options, shown), more)
+        given.shown.keep("this system ends the solver alone: what it starts may go on")
+    own_files.check_writable(options.name, *[SHEET] * options.csv)
+    given.more = [(name, answers.read_file(name, rising=False)) for name in options.answers]
+    convert_exports(given)
+    return given
 
 
-def converted(options: argparse.Namespace, shown: Progress) -> Exports:
+def convert_exports(given: Run) -> None:
     """Reads the exports, without the files of NAME."""
-    shown.show("reading")
-    collection = QuietCollection(shown, options)
-    is_own = own_files.own(options.name)
+    given.shown.show("reading")
+    options = given.options
+
+    def say(place: places.Place, why: str, is_fault: bool) -> None:
+        if is_fault:
+            given.origins.problems.append(places.Problem(place, why))
+        else:
+            given.shown.keep(place.said(why))
+
+    collection = Collection(options.best, False, options.encoding or "", say, "")
+    is_own = own_files.own(given.name)
     named = [name for name in options.exports if os.path.isdir(name) or not is_own(name)]
     if not named:
-        raise texts.Stop(f"would write over {texts.shown(options.exports[0])}")
+        raise texts.Stop(f"would write over {texts.shown(options.exports[0])}: choose another "
+                         "NAME, such as checked")
     convert.read_files(collection, exports.listed(named, is_own))
     if not collection.count:
-        raise texts.Stop("\n  ".join(["these files have no level",
-                                      *map("".join, collection.problems)]))
-    (_, text), (_, exported) = collection.files(options.name)
+        whole = " ".join(options.exports)
+        quotes = f"; put a name with blanks into quotes: '{texts.shown(whole)}'"
+        for line in given.origins.messages({}):
+            given.shown.keep(line)
+        raise texts.Stop("these files have no level" + quotes * (
+            len(options.exports) > 1 and os.path.exists(whole)))
+    (_, text), (_, exported) = collection.files(given.name)
+    given.exports = by_hand.collection(blocks.read(text))
+    given.origins.levels[:] = collection.origins
     others = answers.text([record for _, record in sorted(collection.others.items())])
-    return Exports(text, exported, others, collection.problems)
+    given.records = [record for it in (exported, others) for record in answers.read(it).records]
 
 
 # ---- the files of NAME
 
-def settled(given: Given, found: Found, done: Optional[Done] = None) -> Done:
-    """Brings the files of NAME up to date with what was found. If somebody else wrote one of them
-    since it was read, all are read again."""
+def settled(given: Run, state: Optional[State] = None) -> State:
+    """Brings the files of NAME up to date with what was found, from a state on. If somebody else
+    wrote one of them since it was read, all are read again."""
     for _ in range(ROUNDS):
         try:
-            with own_files.alone(given.options.name, given.shown):
-                return _round(given, found, done)
-        except output.Changed as changed:
-            if done:
-                found.edited.update(done.merge.now.forms[number - 1].key
-                                    for number in done.merge.merged.edited)
-            why, done = changed, None
+            with own_files.alone(given.name, given.shown):
+                made = state or State(given)
+                write(given, made)
+                return made
+        except transaction.Changed as changed:
+            if state:
+                given.edited.update(state.now.forms[number - 1].key
+                                    for number in state.merged.edited)
+            why, state = changed, None
             given.shown.keep(f"{changed}: reading again")
-    raise texts.Stop(f"{why}, again and again: the files are as they were")
+    with own_files.alone(given.name, given.shown):
+        more = ", and the next run has what was found" if given.keep() else ""
+    raise texts.Stop(f"{why}, again and again: the files are as they were{more}")
 
 
-def _round(given: Given, found: Found, done: Optional[Done]) -> Done:
-    """Goes through the stages, after the first ones if they were done, and writes the files."""
-    if done:
-        read, merge, taken = done[:3]
-    else:
-        read = stages.read(given, found)
-        merge = stages.merge(given, read)
-        taken = stages.take(given, read, merge)
-    audited = stages.audit(given, merge, taken, found)
-    made = Done(read, merge, taken, audited, stages.left(read, merge, taken))
-    write(given, found, made)
-    return made
-
-
-def write(given: Given, found: Found, done: Done) -> None:
-    """Writes the files."""
+def write(given: Run, state: State) -> None:
+    """Audits, and writes the files."""
+    state.audit(given)
     given.shown.show("writing")
-    read, merge, taken, audited, left = done
-    read.memory.outcomes.join(found.outcomes)
-    remembered = read.memory._replace(
-        blocks=merge.merged.blocks, is_ordered=merge.merged.is_ordered, computed=taken.computed())
-    listed = [merge.text, audited.answers, audited.report]
-    kept_text, kept_answers = left.files()
-    other = noted(given.program, taken.picks.other_answers())
-    with Unbroken():
-        read.files.write({KEPT_XSB: kept_text, KEPT_ANSWERS: kept_answers, XSB: listed[0],
-                          ANSWERS: listed[1], REPORT: listed[2],
-                          OTHER: other if given.options.best == BOTH else None,
-                          PAGE: page_of(given.options.name, listed, given.program),
-                          MEMORY: memory.text(remembered)})
-    found.has_backups = read.files.has_backups
+    files = contents(given, state)
+    with unbroken():
+        state.files.write(files)
+    given.has_backups = state.files.has_backups
+    given.written.update(state.files.written)
+
+
+def compared(given: Run) -> int:
+    """Prints which files a check would change, and returns the status."""
+    with own_files.alone(given.name, given.shown):
+        state = State(given)
+        state.audit(given)
+        changed = state.files.changed(contents(given, state))
+    given.shown.clear()
+    for line in changed or [f"{texts.shown(given.name)}: no file would change"]:
+        print(line)
+    return int(bool(changed))
+
+
+def contents(given: Run, state: State) -> Dict[str, Optional[bytes]]:
+    """Returns the contents of the files by the ends of their names, None where there is none."""
+    state.memory.outcomes.join(given.outcomes)
+    remembered = state.memory._replace(written=state.merged.written,
+                                       computed=state.pool.computed(),
+                                       found=given.without(state.now.forms))
+    kept_text, kept_answers = state.left.files()
+    other = noted(given.program, state.pool.other_answers())
+    sources = given.origins.sources(state.merged.written.places)
+    table = {SHEET: sheet_of(given.name, state.now, sources)} if given.options.csv else {}
+    return {KEPT_XSB: kept_text, KEPT_ANSWERS: kept_answers, XSB: state.text,
+            ANSWERS: state.answers, REPORT: state.report,
+            OTHER: other if given.options.best == BOTH else None,
+            PAGE: page_of(given, [state.text, state.answers, state.report], sources), **table,
+            MEMORY: memory.text(remembered)}
+
+
+def sheet_of(name: str, now: Snapshot, sources: Dict[int, places.Source]) -> bytes:
+    """Returns the table of the levels, with the file and line from which each comes."""
+    own = texts.shown(os.path.basename(name)) + XSB
+    froms = {number: (texts.shown(source.place.published), source.place.line)
+             for number, source in sources.items()}
+    return sheet.text([(level, line, *froms.get(level.number, (own, level.line)))
+                       for level, line in zip(now.levels, now.lines)])
 
 
 # ---- the search
 
-def searched(given: Given, found: Found, done: Done) -> Done:
+def searched(given: Run, state: State) -> State:
     """Searches the levels that are left, and brings the files up to date as results come."""
-    known = done.read.memory.outcomes
+    known = state.memory.outcomes
 
-    def take(way: str, results: Sequence[Tuple[boards.Form, Any]]) -> None:
-        nonlocal done
+    def take(way: str, results: Sequence[Tuple[boards.Form, Result]]) -> None:
+        nonlocal state
         for form, result in results:
-            for outcomes in (known, found.outcomes):
+            for outcomes in (known, given.outcomes):
                 outcomes.keep(form, way, result.what, result.seconds)
             if result.record:
-                found.add(form, answers.read(answers.text([result.record])).records[0])
-        done = settled(given, found, done)
+                given.found.append((form, answers.answer_of(result.record)))
+        state = settled(given, state)
 
-    searching.search(given.shown, searching.ways(given.options, given.program), searching.Wanted(
-        lambda: done.audited.unanswered(done.merge.now), known, take))
-    return done
+    rounds.search(given.shown, rounds.ways(given.options, given.program),
+                  lambda: state.unanswered(), known, take)
+    return state
 
 
 # ---- the summary
 
-def report(given: Given, found: Found, done: Done) -> int:
+def report(given: Run, state: State) -> int:
     """Prints the summary, and returns the status."""
-    read, merge, taken, audited, left = done
-    places = {at: number for number, at in enumerate(merge.merged.exports, 1)}
-    problems = [place + _LEVEL.sub(lambda it: f"level {places[int(it[1]) - 1]}", why)
-                for place, why in given.exports.problems]
-    problems += [f"{texts.shown(source.file)} line {source.line}: {why}"
-                 for source, why in taken.picks.left_out()]
+    problems = given.origins.messages(places.numbers_of(state.merged.written.places))
+    problems += state.pool.left_out()
     given.shown.clear()
     for line in problems if len(problems) > summary.MOST_PROBLEMS else ():
         given.shown.keep(line)
-    lines = audited.read.lines
-    edited = [number for number, form in enumerate(merge.now.forms, 1)
-              if number in merge.merged.edited or form.key in found.edited]
-    for said in summary.lines(summary.Done(
-            given.options.name, merge.now._replace(lines=lines), found.before, problems,
-            given.program.is_reference, edited, left.reasons(merge.now.forms),
-            summary.searched(audited.unanswered(merge.now), read.memory.outcomes,
-                             found.outcomes), list(taken.picks.others))):
+    for said in summary.lines(given, state, problems):
         print(said)
-    return int(bool(problems) or not all(line.is_answered for line in lines))
+    return int(bool(problems) or not all(line.is_answered for line in state.now.lines))
 
 
-def page_of(name: str, files: List[bytes], program: auditor.Auditor) -> bytes:
-    """Returns the page of the three files."""
-    names = [texts.shown(os.path.basename(name) + end) for end in (XSB, ANSWERS, REPORT)]
-    if program.is_reference:
+def page_of(given: Run, files: List[bytes], sources: Dict[int, places.Source]) -> bytes:
+    """Returns the page of the three files, with the sources of the levels."""
+    names = [texts.shown(os.path.basename(given.name) + end) for end in (XSB, ANSWERS, REPORT)]
+    if given.program.is_reference:
         names[1] += ", " + auditor.REFERENCE_NOTE
-    made, fault = page.written(files, names)
+    made, fault = page.written(files, names, sources=sources)
     if fault:
         raise texts.Stop(f"the report isn't of these levels and answers: {fault}")
     return made

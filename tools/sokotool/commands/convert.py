@@ -7,26 +7,26 @@ of solutions, for levels in other files. A replay puts each letter in its case.
 docs/keeping.md lists what is read.
 
 Anything that can't be read or played is reported with file and line. If NAME.xsb or NAME.answers
-has something that convert didn't write from the same exports, nothing is written without
---replace."""
+is there already, with other contents, nothing is written without --replace."""
 import argparse
 import codecs
-import hashlib
 import os
 import re
 import sys
 from typing import List, Optional, Sequence, Tuple
 
 from .. import collection as collections
-from .. import answers, exports, former, levels, output, own_files, texts
-from ..collection import Collection, Silent
-from ..formats import entries, letters, lists, plain, slc
+from .. import answers, exports, levels, output, own_files, system, texts
+from ..collection import Collection
+from ..formats import dress, entries, foreign, letters, lists, plain, slc
+from ..places import Place
 
+MOST_MESSAGES = 1000
 # a piece of a row, between other things
 _DRAWN = re.compile(r"#[-_ #]*[@$.*+][-_ #@$.*+]+#")
 
 
-def arguments(parser):
+def arguments(parser: argparse.ArgumentParser) -> None:
     """Adds the arguments of the command."""
     parser.add_argument("name", metavar="NAME",
                         help="the files NAME.xsb and NAME.answers are written")
@@ -36,19 +36,18 @@ def arguments(parser):
                         help="keep the solution with the fewest moves or pushes instead of the "
                              "first one")
     parser.add_argument("--replace", action="store_true",
-                        help="replace files with something that would be lost, and keep them as "
-                             "NAME.*~")
+                        help="replace files that are there already, and keep them as NAME.*~")
     parser.add_argument("--split", action="store_true",
                         help="write NAME-1.*, NAME-2.* and so on, each within the limits of "
                              "sokoaudit")
     encoding_argument(parser)
 
 
-def encoding_argument(parser):
+def encoding_argument(parser: argparse.ArgumentParser) -> None:
     """Adds the argument of commands that read exports."""
     parser.add_argument("--encoding", metavar="NAME", type=_encoding,
                         help="read files that aren't UTF-8 or UTF-16 in this encoding, by Python's "
-                             "name, such as koi8-r (default windows-1252)")
+                             "name, such as big5 (guessed by default)")
 
 
 def _encoding(name: str) -> str:
@@ -60,28 +59,58 @@ def _encoding(name: str) -> str:
         raise argparse.ArgumentTypeError(f"there is no encoding {texts.shown(name)}") from None
 
 
-def run(options) -> int:
+def run(options: argparse.Namespace) -> int:
     """Converts the files, and reports how much was read."""
     check_name(options.name)
     listed = exports.listed(options.files, own_files.own(options.name))
     files = [export.name for export in listed]
     _check_inputs(files, [options.name + end for end in (own_files.XSB, own_files.ANSWERS)])
-    collection = Collection(options.best, options.split, options.encoding or "")
-    sources = read_files(collection, listed)
-    collection.report_rest()
-    written: List[own_files.File] = []
-    for pair in collection.parts(options.name):
-        written += own_files.marked(pair, sources)
+    said = 0
+
+    def say(place: Place, why: str, _: bool) -> None:
+        nonlocal said
+        said += 1
+        if said <= MOST_MESSAGES:
+            print(f"convert: {place.said(why)}", file=sys.stderr)
+
+    collection = Collection(options.best, options.split, options.encoding or "", say)
+    read_files(collection, listed)
+    if said > MOST_MESSAGES:
+        print(f"convert: {said - MOST_MESSAGES} more messages", file=sys.stderr)
+    written = [file for pair in collection.parts(options.name) for file in pair]
     _check_inputs(files, [name for name, _ in written])
-    output.write_files(former.backups(written, sources, options.replace) + written)
+    output.write_files(_replaced(written, options.replace) + written)
     print(f"convert: {collection.summary()}", file=sys.stderr)
     return int(collection.faults > 0)
+
+
+def _replaced(written: Sequence[output.File], may_replace: bool) -> List[output.File]:
+    """Returns a copy, named NAME~, of each file that is there with other contents. If none may be
+    replaced, one ends the command."""
+    found = []
+    for name, data in written:
+        output.check_writable(name)
+        former = own_files.bytes_of(name) if os.path.isfile(name) else None
+        if former is not None and former != data:
+            found.append((name + "~", former))
+            if not may_replace:
+                raise texts.Stop(f"{texts.shown(name)} is there already: --replace keeps it as "
+                                 f"{texts.shown(name)}~")
+    return found
 
 
 def check_name(name: str) -> None:
     """Refuses a NAME that names no file."""
     if not os.path.basename(name):
         raise texts.Stop(f"the name {texts.shown(name)!r} has nothing before .xsb")
+    end = os.path.splitext(name)[1]
+    if end in own_files.ENDS:
+        why = ("is a file that is there" if os.path.isfile(name) else
+               f"has an end: type it without {end}")
+        raise texts.Stop("the first word is the NAME of a collection, and "
+                         f"{texts.shown(name)} {why}")
+    if system.is_device(os.path.basename(name)):
+        raise texts.Stop(f"{texts.shown(name)} is the name of a device")
 
 
 def _check_inputs(files: Sequence[str], written: Sequence[str]) -> None:
@@ -92,14 +121,12 @@ def _check_inputs(files: Sequence[str], written: Sequence[str]) -> None:
 
 # ---- what to read
 
-def read_files(collection: Collection, listed: Sequence[exports.Export]) -> List[str]:
+def read_files(collection: Collection, listed: Sequence[exports.Export]) -> None:
     """Reads exports into the collection, but no other file that sokotool wrote for some NAME than
-    its levels and answers. Returns their names from the common folder on, and of standard input a
-    checksum. A file that can't be read is reported, unless it is the only one."""
-    sources = []
+    its levels and answers. A file that can't be read is reported, unless it is the only one."""
     before: Tuple[str, int] = ("", 0)
     waiting = lists.Lists(collection)
-    names = exports.published([export.name for export in listed])
+    collection.names = names = exports.published([export.name for export in listed])
     for export in listed:
         try:
             data = export.read()
@@ -111,7 +138,6 @@ def read_files(collection: Collection, listed: Sequence[exports.Export]) -> List
         if own_files.is_made(export.name, data):
             continue
         name = names[export.name]
-        sources.append("-" + hashlib.sha256(data).hexdigest()[:16] if name == "-" else name)
         if not export.is_solution:
             collection.end_level()
         collection.file, collection.published = export.name, name
@@ -127,7 +153,6 @@ def read_files(collection: Collection, listed: Sequence[exports.Export]) -> List
     collection.end_level()
     waiting.place()
     collection.report_idle()
-    return sources
 
 
 def _read_answers(collection: Collection, data: bytes, its_levels: Optional[exports.Export],
@@ -147,15 +172,20 @@ def _read_answers(collection: Collection, data: bytes, its_levels: Optional[expo
 
 
 def _read_levels(collection: Collection, data: bytes, is_found: bool, waiting: lists.Lists) -> None:
-    if is_found and _is_idle(data, collection.encoding):
-        collection.idle.append(collection.published)
+    text, coding = texts.text_of(data, collection.encoding)
+    game = foreign.game_of(text) if text else ""
+    if is_found and (game or _is_idle(data, text)):
+        collection.idle.setdefault(game, []).append(collection.published)
         return
-    text = _text_of(collection, data)
+    if game:
+        collection.fault(1, f"a file of {game}, which is not read")
+        return
+    _report_coding(collection, text, coding)
     if text is None:
         return
-    if not slc.is_slc(text) and entries.is_list(texts.lines_of(text)):
-        waiting.add(collection.file, texts.lines_of(text),
-                    collection.published if is_found else "")
+    lines = dress.lines_of(text)
+    if not slc.is_slc(text) and entries.is_list(lines):
+        waiting.add(collection.file, lines, collection.published if is_found else "")
         return
     if collection.file != "-":
         collection.add_text(collection.source())
@@ -163,41 +193,40 @@ def _read_levels(collection: Collection, data: bytes, is_found: bool, waiting: l
     if slc.is_slc(text):
         slc.read(collection, data, text)
     else:
-        plain.read(collection, texts.lines_of(text))
+        plain.read(collection, lines)
     if collection.total == count:
         collection.fault(1, "no level in this file")
 
 
-def _is_idle(data: bytes, encoding: str) -> bool:
+def _is_idle(data: bytes, text: Optional[str]) -> bool:
     """Returns whether a file has neither a row nor letters, nor anything that looks like them."""
-    text, _ = texts.text_of(data, encoding)
     if text is None:
         return not any(len(line) > 2 and levels.is_row(line)
                        for line in texts.lines(data.replace(b"\0", b"")))
-    lines = texts.lines_of(text)
+    lines = dress.lines_of(text)
     if slc.is_slc(text) or entries.is_list(lines) or _DRAWN.search(text):
         return False
-    tried = Silent(encoding=encoding)
+    tried = Collection(split=True)
     plain.read(tried, lines)
     return not tried.total and not tried.faults
 
 
-def _text_of(collection: Collection, data: bytes) -> Optional[str]:
-    text, coding = texts.text_of(data, collection.encoding)
+def _report_coding(collection: Collection, text: Optional[str], coding: str) -> None:
+    """Reports a file that is no text, or one in another encoding."""
     if text is None:
         collection.fault(1, f"not a text in {collection.encoding or 'UTF-8, UTF-16 or Latin-1'}")
     elif coding:
         collection.note(1, f"not UTF-8: read as {coding}; --encoding names another encoding")
-    return text
 
 
 def _read_solution(collection: Collection, data: bytes, before: Tuple[str, int],
                    waiting: lists.Lists) -> None:
     """Reads a file of letters alone, for the one level of the file before it, or a list."""
-    text = _text_of(collection, data)
+    text, coding = texts.text_of(data, collection.encoding)
+    _report_coding(collection, text, coding)
     if text is None:
         return
-    lines = texts.lines_of(text)
+    lines = dress.lines_of(text)
     found = [at for at, line in enumerate(lines) if letters.are_alone(line)]
     is_alone = all(letters.are_alone(line) or not line.strip() or letters.heads(line)
                    for line in lines)

@@ -2,12 +2,13 @@
 boards, also turned or moved ones, and levels whose board changed by title or position.
 
 A line has the kind of the change, the level, and what is new. With --json each change is an object
-on a line of its own. The status is 1 if something changed."""
+on a line of its own, and --page writes a web page with the boards before and after. The status is 1
+if something changed."""
 import argparse
 import json
 from typing import Iterator, Sequence
 
-from .. import boards, changes, levels, report, texts
+from .. import boards, change_page, changes, levels, output, report, texts
 
 
 def arguments(parser: argparse.ArgumentParser) -> None:
@@ -17,22 +18,28 @@ def arguments(parser: argparse.ArgumentParser) -> None:
     parser.add_argument("new", metavar="NEW.xsb", help="the levels as they are")
     parser.add_argument("new_report", metavar="NEW.report", help="the report on them")
     parser.add_argument("--json", action="store_true", help="print an object for each change")
+    parser.add_argument("--page", metavar="FILE",
+                        help="also write a page with the boards before and after to this file")
 
 
 def run(options: argparse.Namespace) -> int:
-    found = changes.changes(state(options.old, options.old_report),
-                            state(options.new, options.new_report))
+    old = state(options.old, options.old_report)
+    new = state(options.new, options.new_report)
+    found = changes.changes(old, new)
+    if options.page:
+        names = [texts.shown(options.old), texts.shown(options.new)]
+        output.write_files([(options.page, change_page.text(old, new, found, names))])
     for line in map(_object, found) if options.json else lines(found):
         print(line)
     return int(bool(found))
 
 
-def state(levels_name: str, report_name: str) -> changes.State:
+def state(levels_name: str, report_name: str) -> changes.Snapshot:
     """Returns the levels of a file with a report on them."""
     found = levels.read_file(levels_name)
     read = report.read(texts.read(report_name))
     report.demand(read, report_name, levels_name, len(found))
-    return changes.State(found, boards.forms_of(found), read.lines)
+    return changes.Snapshot(found, boards.forms_of(found), read.lines)
 
 
 def _object(change: changes.Change) -> str:

@@ -11,11 +11,11 @@ a solution would not come back, or if a solution was left out."""
 import argparse
 import os
 import sys
-from typing import Dict, Iterator, List, NamedTuple
+from typing import Dict, Iterator, List, Tuple
 
 from .. import answers, game, levels, output, texts
-from ..collection import BOTH, Silent
-from ..formats import plain, slc, written
+from ..collection import BOTH, Collection
+from ..formats import dress, plain, slc, written
 from ..formats.written import Solution
 from ..own_files import ANSWERS, OTHER
 
@@ -38,9 +38,9 @@ def run(options: argparse.Namespace) -> int:
     data = texts.read(options.name + ".xsb")
     found = levels.read_within(data, options.name + ".xsb")
     solutions, certificates, faults = solutions_of(options.name + ANSWERS, found)
-    others = solutions_of(options.name + OTHER, found)
-    faults += others.faults
-    content = written.content_of(data, found, solutions, others.solutions)
+    others, _, more = solutions_of(options.name + OTHER, found)
+    faults += more
+    content = written.content_of(data, found, solutions, others)
     text = "".join(line + "\n" for line in written.FORMS[options.to](content)).encode()
     faults += differences_of(content, text)
     for line in faults:
@@ -48,53 +48,45 @@ def run(options: argparse.Namespace) -> int:
     output.put(text)
     left = f", {texts.count(certificates, 'certificate')} not exported" if certificates else ""
     print(f"export: {texts.count(len(found), 'level')}, "
-          f"{texts.count(len(solutions) + len(others.solutions), 'solution')}{left}",
+          f"{texts.count(len(solutions) + len(others), 'solution')}{left}",
           file=sys.stderr)
     return int(bool(faults))
 
 
-class Found(NamedTuple):
-    """The solutions by the numbers of their levels, how many certificates there are, and what is
-    wrong."""
-
-    solutions: Dict[int, Solution]
-    certificates: int
-    faults: List[str]
-
-
-def solutions_of(name: str, found: List[levels.Level]) -> Found:
-    """Returns the solutions in an answers file that solve their levels, if there is such a file."""
+def solutions_of(name: str, found: List[levels.Level]
+                 ) -> Tuple[Dict[int, Solution], int, List[str]]:
+    """Returns the solutions in an answers file that solve their levels, by the numbers of these, if
+    there is such a file, how many certificates there are, and what is wrong."""
     data = texts.read(name) if os.path.exists(name) else answers.text([])
     records = answers.read_text(name, data, len(found), rising=False).records
     solutions, faults = {}, []
     for record in records:
         if record.kind != "solution":
             continue
-        board = game.Board(found[record.level - 1])
+        board = game.board_of(found[record.level - 1])
         why = board.replay(record.letters).fault if board.player is not None else "board player"
         if why:
             faults.append(f"{texts.shown(name)} line {record.line}: not exported, as it is refused "
                           f"for level {record.level}: {why}")
         else:
-            notes = [texts.decoded(line) for line in record.above + record.raw
-                     if line.startswith(b";")]
+            notes = [texts.decoded(line) for line in record.answer.comments]
             letters = record.letters.translate(None, b" \t\r").decode()
             solutions[record.level] = Solution(letters, notes)
     certificates = sum(record.kind != "solution" for record in records)
-    return Found(solutions, certificates, faults)
+    return solutions, certificates, faults
 
 
 # ---- there and back
 
 def read_back(text: bytes, best: str) -> List[written.Entry]:
     """Returns the levels of an exported text as convert or check reads them."""
-    collection = Silent(best)
+    collection = Collection(best)
     collection.file = "-"
     decoded = text.decode()
     if slc.is_slc(decoded):
         slc.read(collection, text, decoded)
     else:
-        plain.read(collection, texts.lines_of(decoded))
+        plain.read(collection, dress.lines_of(decoded))
     collection.end_level()
     (_, data), (_, solved) = collection.files("")
     found = levels.read(data)

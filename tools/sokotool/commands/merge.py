@@ -5,18 +5,19 @@ needn't be in order here. Comments directly above a record and in it are kept; o
 dropped.
 
 If a file isn't an answers file, its first wrong line is reported and nothing is printed."""
+import argparse
 from typing import Dict
 
 from .. import answers, levels, output, texts
 
 
-def arguments(parser):
+def arguments(parser: argparse.ArgumentParser) -> None:
     """Adds the arguments of the command."""
     parser.add_argument("answers", metavar="ANSWERS", nargs="+",
                         help="an answers file; - is standard input")
 
 
-def run(options) -> int:
+def run(options: argparse.Namespace) -> int:
     """Prints the joined answers file."""
     texts.check_names(options.answers)
     kept: Dict[int, answers.Record] = {}
@@ -26,6 +27,6 @@ def run(options) -> int:
         version = max(version, found.version)
         for record in found.records:
             kept.setdefault(record.level, record)
-    records = [record.numbered(level).text for level, record in sorted(kept.items())]
+    records = [record.text for _, record in sorted(kept.items())]
     output.put(answers.text(records, version))
     return 0

@@ -3,11 +3,13 @@
 otherwise the last line of text above it that has no key such as 'Author: ..'.
 
 With --json each level is an object on a line of its own, with the digest of its board, in a form
-that docs/formats.md describes. The status is 1 if the report is of other levels or isn't whole."""
+that docs/formats.md describes. With --csv each level is a row of a table for spreadsheets. The
+status is 1 if the report is of other levels or isn't whole."""
 import argparse
 import json
+import sys
 
-from .. import boards, levels, report, texts
+from .. import boards, levels, messages, report, sheet, texts
 
 # the version of the form of objects
 VERSION = 1
@@ -18,13 +20,21 @@ def arguments(parser: argparse.ArgumentParser) -> None:
     parser.add_argument("levels", metavar="LEVELS", help="the levels file of the audit")
     parser.add_argument("report", metavar="REPORT",
                         help="the report of the audit; - is standard input")
-    parser.add_argument("--json", action="store_true", help="print an object for each level")
+    form = parser.add_mutually_exclusive_group()
+    form.add_argument("--json", action="store_true", help="print an object for each level")
+    form.add_argument("--csv", action="store_true", help="print a table with a row for each level")
 
 
 def run(options: argparse.Namespace) -> int:
     found = levels.read_file(options.levels)
     data = texts.read(options.report)
     name = texts.shown(options.levels)
+    if options.csv:
+        read = report.read(data)
+        report.demand(read, options.report, options.levels, len(found), 1)
+        sys.stdout.buffer.write(sheet.text([(level, line, name, level.line)
+                                            for level, line in zip(found, read.lines)]))
+        return 0
     for text in map(texts.shown, texts.lines(data)):
         line = report.line_of(text)
         level = found[line.level - 1] if line and line.level <= len(found) else None
@@ -32,7 +42,9 @@ def run(options: argparse.Namespace) -> int:
             if line and level:
                 print(json.dumps({"version": VERSION, **line.fields(), "file": name,
                                   "line": level.line, "title": level.title,
-                                  "board": boards.form_of(level).digest}))
+                                  "board": boards.form_of(level).digest,
+                                  **({"reason": messages.reason(level, line)}
+                                     if line.status == "refused" else {})}))
         else:
             print(f"{text}\t{name}:{level.line}\t{level.title}" if level else text)
     report.demand(report.read(data), options.report, options.levels, len(found), 1)

@@ -6,13 +6,15 @@ counts is the report.
 If the report isn't of these levels and answers, or is cut, the page says so in a bar at its top,
 and the status is 1."""
 import argparse
+import base64
+import hashlib
 import json
 import pkgutil
 import re
 import sys
 from typing import Any, Dict, List, Optional, Sequence, Tuple
 
-from .. import answers, game, levels, report, texts
+from .. import answers, game, levels, messages, places, report, texts
 
 _MARK = re.compile(r"@([A-Za-z.]+)@")
 # how many rows and characters of a row are drawn; no legal level has more
@@ -41,8 +43,10 @@ def run(options: argparse.Namespace) -> int:
     return int(bool(fault))
 
 
-def written(files: Sequence[bytes], names: List[str]) -> Tuple[bytes, Optional[str]]:
-    """Returns the page of levels, answers and report, and why the report is of others, or None."""
+def written(files: Sequence[bytes], names: List[str], above: str = "",
+            sources: Optional[Dict[int, places.Source]] = None) -> Tuple[bytes, Optional[str]]:
+    """Returns the page of levels, answers and report with some HTML above it, and why the report
+    is of others, or None. `sources` has where the levels come from, by their numbers."""
     found = levels.read_within(files[0], names[0])
     read = report.read(files[2])
     records: Dict[int, answers.Record] = {}
@@ -53,8 +57,9 @@ def written(files: Sequence[bytes], names: List[str]) -> Tuple[bytes, Optional[s
         fault = f"answers line {wrong.line} {wrong.why}"
     data = {"names": names, "fault": fault or "", "levels": [_level_of(level) for level in found],
             "records": {number: _record_of(record) for number, record in records.items()},
-            "verdicts": {line.level: _verdict_of(line) for line in read.lines}}
-    return _page_of(data), fault
+            "verdicts": {line.level: _verdict_of(line) for line in read.lines},
+            "sources": {number: _source_of(source) for number, source in (sources or {}).items()}}
+    return _page_of(data, above), fault
 
 
 # ---- does the report belong to the levels and answers?
@@ -66,7 +71,7 @@ def difference(found: Sequence[levels.Level], records: Dict[int, answers.Record]
     if fault:
         return fault
     for level, line in zip(found, read.lines):
-        if not is_of(game.Board(level), records.get(level.number), line):
+        if not is_of(game.board_of(level), records.get(level.number), line):
             return f"its line '{line.text}' isn't what this level and its answer give"
     return None
 
@@ -90,7 +95,7 @@ def is_of(board: game.Board, record: Optional[answers.Record], line: report.Line
     return said in ("refused start", "unsolvable " + _size_of(record))
 
 
-def _size_of(record):
+def _size_of(record: answers.Record) -> str:
     """Returns the report's words on an accepted certificate: its kind and size."""
     if len(record.body) == 1 and record.body[0][1].startswith(b"zone "):
         return f"zone {record.body[0][1].count(b',')}"
@@ -99,18 +104,23 @@ def _size_of(record):
 
 # ---- the data of the page's script: letters and rows have one character for each byte
 
-def _level_of(level):
+def _level_of(level: levels.Level) -> Dict[str, Any]:
     return {"number": level.number, "line": level.line, "title": level.title,
             "rows": [row[:_MOST_SIDE].decode("latin-1") for row in level.rows[:_MOST_SIDE]]}
 
 
-def _record_of(record):
+def _record_of(record: answers.Record) -> Dict[str, Any]:
     return {"kind": record.kind,
             "body": [[number, line.decode("latin-1")] for number, line in record.body]}
 
 
-def _verdict_of(line):
+def _verdict_of(line: report.Line) -> Dict[str, Any]:
     return {"status": line.status, "words": line.words, "line": line.text}
+
+
+def _source_of(source: places.Source) -> Dict[str, Any]:
+    return {"file": texts.shown(source.place.published), "line": source.place.line,
+            "left": source.left}
 
 
 # ---- the page
@@ -122,11 +132,25 @@ def part(name: str) -> str:
     return data.decode()
 
 
-def _page_of(data: Dict[str, Any]) -> bytes:
-    """Returns the skeleton, with each mark replaced by the part or the data that it names."""
-    def marked(mark):
-        # No text may end the script: '<' is escaped.
-        return (json.dumps(data).replace("<", "\\u003c") if mark.group(1) == "DATA"
-                else part(mark.group(1)).rstrip("\n"))
+def _page_of(data: Dict[str, Any], above: str) -> bytes:
+    """Returns the skeleton, with each mark replaced by the part or the data that it names. The
+    page runs no script but those whose checksums its policy has."""
+    page = _MARK.sub(lambda mark: part(mark[1]).rstrip("\n") if "." in mark[1] else mark[0],
+                     part("page.html")).replace("@WORDS@", words())
+    scripts = re.findall(r"<script>(.*?)</script>", page + above, re.S)
+    # No text may end the block of the data: '<' is escaped.
+    values = {"DATA": json.dumps(data).replace("<", "\\u003c"),
+              "POLICY": " ".join(map(_checksum, scripts))}
+    page = _MARK.sub(lambda mark: values.get(mark[1], mark[0]), page)
+    return page.replace("<body>\n", "<body>\n" + above, 1).encode("utf-8")
 
-    return _MARK.sub(marked, part("page.html")).encode("utf-8")
+
+def words() -> str:
+    """Returns what each refusal and each error means, and what to do, for the page's script."""
+    return json.dumps({**messages.REFUSALS, **messages.ERRORS})
+
+
+def _checksum(script: str) -> str:
+    """Returns how a policy names a script."""
+    digest = hashlib.sha256(script.encode()).digest()
+    return f"'sha256-{base64.b64encode(digest).decode()}'"

@@ -18,10 +18,10 @@ from collections import Counter
 from typing import Callable, Dict, List, NamedTuple, Sequence, Tuple
 
 from .. import answers, auditor, levels, output, report, texts
-from . import page
-from .find import above_zero
+from . import above_zero, page
 
 SECONDS, MEGABYTES = 60, 1000
+STATUSES = "solved", "unsolvable", "refused", "missing"
 HEAD = ("level", "entrant", "status", "moves", "pushes", "changes", "best by moves",
         "best by pushes")
 STANDINGS_HEAD = ("place", "entrant", "solved", "unsolvable", "refused", "missing",
@@ -49,15 +49,9 @@ class Entrant(NamedTuple):
     fault: str
 
 
+# who is best at a level, by the number of the level and the entrant, and how
 Marks = Dict[Tuple[int, str], str]
-
-
-class Contest(NamedTuple):
-    """The entrants, and who is best at each level, by moves and by pushes."""
-
-    entrants: List[Entrant]
-    moves: Marks
-    pushes: Marks
+Row = Tuple[str, ...]
 
 
 def run(options: argparse.Namespace) -> int:
@@ -66,11 +60,12 @@ def run(options: argparse.Namespace) -> int:
     data = texts.read(options.levels)
     found = levels.read_within(data, options.levels)
     entrants = audited(data, len(found), options)
-    contest = Contest(entrants, marks(entrants, lambda counts: counts[:2]),
-                      marks(entrants, lambda counts: counts[1::-1]))
+    best = [marks(entrants, lambda counts: counts[:2]),
+            marks(entrants, lambda counts: counts[1::-1])]
+    tables = rows(entrants, best, len(found)), standings(entrants, best)
     if options.page:
-        output.write_files([(options.page, page_of(contest, found, options.levels))])
-    for row in (HEAD, *rows(contest, len(found)), (), STANDINGS_HEAD, *standings(contest)):
+        output.write_files([(options.page, page_of(entrants, found, options.levels, *tables))])
+    for row in (HEAD, *tables[0], (), STANDINGS_HEAD, *tables[1]):
         print(*row, sep="\t")
     return int(any(entrant.fault for entrant in entrants))
 
@@ -115,33 +110,32 @@ def marks(entrants: Sequence[Entrant],
     return found
 
 
-def rows(contest: Contest, count: int) -> List[Tuple[str, ...]]:
+def rows(entrants: Sequence[Entrant], best: Sequence[Marks], count: int) -> List[Row]:
     """Returns the rows of the table: files that couldn't be audited, then level by level."""
-    found: List[Tuple[str, ...]] = [("", entrant.name, entrant.fault, *[""] * 5)
-                                    for entrant in contest.entrants if entrant.fault]
+    found: List[Row] = [("", entrant.name, entrant.fault, *[""] * 5)
+                        for entrant in entrants if entrant.fault]
     for level in range(1, count + 1):
-        for entrant in contest.entrants:
+        for entrant in entrants:
             if not entrant.fault:
                 line, at = entrant.lines[level - 1], (level, entrant.name)
                 counts = [str(number) for number in line.counts] or [""] * 3
                 found.append((str(level), entrant.name, line.status if line.counts else line.said,
-                              *counts, contest.moves.get(at, ""), contest.pushes.get(at, "")))
+                              *counts, *(marked.get(at, "") for marked in best)))
     return found
 
 
-def standings(contest: Contest) -> List[Tuple[str, ...]]:
+def standings(entrants: Sequence[Entrant], best: Sequence[Marks]) -> List[Row]:
     """Returns the rows of the standings, in order of answers, then of best solutions by moves, then
     by pushes. Equal entrants share a place."""
     ranked = []
-    for entrant in contest.entrants:
+    for entrant in entrants:
         count = Counter(line.status for line in entrant.lines)
-        best = [sum(name == entrant.name for _, name in marked)
-                for marked in (contest.moves, contest.pushes)]
-        score = (-count["solved"] - count["unsolvable"], -best[0], -best[1])
-        numbers = [count[status] for status in ("solved", "unsolvable", "refused", "missing")]
-        ranked.append((bool(entrant.fault), score, entrant, numbers + best))
+        first = [sum(name == entrant.name for _, name in marked) for marked in best]
+        score = (-count["solved"] - count["unsolvable"], -first[0], -first[1])
+        numbers = [count[status] for status in STATUSES]
+        ranked.append((bool(entrant.fault), score, entrant, numbers + first))
     ranked.sort(key=lambda one: one[:2])
-    found: List[Tuple[str, ...]] = []
+    found: List[Row] = []
     for fault, score, entrant, numbers in ranked:
         place = 1 + sum(other < score for _, other, *_ in ranked)
         cells = [""] * 6 if fault else [str(number) for number in numbers]
@@ -151,60 +145,46 @@ def standings(contest: Contest) -> List[Tuple[str, ...]]:
 
 # ---- the page
 
-def page_of(contest: Contest, found: List[levels.Level], name: str) -> bytes:
+def page_of(entrants: Sequence[Entrant], found: List[levels.Level], name: str,
+            solutions: Sequence[Row], places: Sequence[Row]) -> bytes:
     """Returns the page: the tables, and each answer as an entry of a collection of its own."""
-    entries = Entries(found)
-    for entrant in contest.entrants:
-        if not entrant.fault:
-            entries.add(entrant)
-    if len(entries.numbers) > levels.MOST_LEVELS:
+    files, numbers = entries_of(entrants, found)
+    if len(numbers) > levels.MOST_LEVELS:
         raise texts.Stop(f"the page would have more than {levels.MOST_LEVELS} answers")
-    entrants = ", ".join(entrant.name for entrant in contest.entrants)
-    names = ["answers to " + texts.shown(name), entrants, "report"]
-    made, _ = page.written(entries.files(), names)
-    part = _table("Solutions", HEAD, rows(contest, len(found)), entries.numbers)
-    part += _table("Standings", STANDINGS_HEAD, standings(contest), {})
-    before, body, after = made.partition(b"<body>\n")
-    return before + body + page.part("contest.html").replace("@TABLES@\n", part).encode() + after
+    listed = ", ".join(entrant.name for entrant in entrants)
+    names = ["answers to " + texts.shown(name), listed, "report"]
+    tables = _table("Solutions", HEAD, solutions, numbers)
+    tables += _table("Standings", STANDINGS_HEAD, places, {})
+    above = page.part("contest.html").replace("@TABLES@\n", tables)
+    return page.written(files, names, above)[0]
 
 
-class Entries:
-    """The answers of all entrants as a collection: a level for each answer. `numbers` has the
-    number of that level by the number of the real level and the entrant."""
-
-    def __init__(self, found: Sequence[levels.Level]) -> None:
-        self.found = found
-        self.numbers: Dict[Tuple[str, str], int] = {}
-        self._levels: List[bytes] = []
-        self._records: List[bytes] = []
-        self._lines: List[report.Line] = []
-
-    def add(self, entrant: Entrant) -> None:
-        """Adds the answers of an entrant."""
-        for record in answers.read(texts.read(entrant.file), len(self.found)).records:
-            level, line = self.found[record.level - 1], entrant.lines[record.level - 1]
-            number = len(self.numbers) + 1
-            self.numbers[str(level.number), entrant.name] = number
+def entries_of(entrants: Sequence[Entrant], found: Sequence[levels.Level]
+               ) -> Tuple[List[bytes], Dict[Tuple[str, str], int]]:
+    """Returns the levels, the answers and the report of a collection with a level for each answer,
+    and the number of that level by the number of the real level and the entrant."""
+    numbers: Dict[Tuple[str, str], int] = {}
+    drawn: List[bytes] = []
+    records: List[bytes] = []
+    said: List[str] = []
+    count: Dict[str, int] = Counter()
+    written = 1  # the lines of the answers so far
+    for entrant in (it for it in entrants if not it.fault):
+        for record in answers.read(texts.read(entrant.file), len(found)).records:
+            level, line = found[record.level - 1], entrant.lines[record.level - 1]
+            number = numbers[str(level.number), entrant.name] = len(numbers) + 1
             title = f"Title: {entrant.name}, level {level.number}, {level.title}".rstrip(" ,")
-            self._levels += [*level.rows, title.encode(), b""]
-            first = 2 + sum(text.count(b"\n") for text in self._records) + len(record.above)
-            said = " ".join(self._moved(line.words, first - record.line))
-            self._lines.append(report.Line(number, line.status, said.split(), ""))
-            self._records.append(record.numbered(number).text)
-
-    @staticmethod
-    def _moved(words: Sequence[str], by: int) -> List[str]:
-        """Returns the words of a report line after its record moved in the answers file."""
-        return ["line", str(int(words[1]) + by), *words[2:]] if words[:1] == ["line"] else [*words]
-
-    def files(self) -> List[bytes]:
-        """Returns the levels, the answers and the report of this collection."""
-        count = Counter(line.status for line in self._lines)
-        total = "".join(f" {status} {count[status]}"
-                        for status in ("solved", "unsolvable", "refused", "missing"))
-        lines = [f"level {line.level} {line.said}" for line in self._lines]
-        return [b"".join(line + b"\n" for line in self._levels), answers.text(self._records, 2),
-                "".join(line + "\n" for line in [*lines, f"total {len(lines)}{total}"]).encode()]
+            drawn += [*level.rows, title.encode(), b""]
+            words, first = [*line.words], written + 1 + len(record.answer.above)
+            if words[:1] == ["line"]:
+                words[1] = str(int(words[1]) + first - record.line)
+            said.append(" ".join([f"level {number}", line.status, *words]))
+            count[line.status] += 1
+            records.append(record.answer.record(number))
+            written += records[-1].count(b"\n")
+    total = "".join(f" {status} {count[status]}" for status in STATUSES)
+    return [answers.spelled(drawn), answers.text(records, 2),
+            "".join(f"{line}\n" for line in [*said, f"total {len(said)}{total}"]).encode()], numbers
 
 
 def _table(caption: str, head: Sequence[str], body: Sequence[Sequence[str]],

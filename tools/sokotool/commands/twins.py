@@ -1,6 +1,7 @@
 """Prints each level that has the same board as an earlier one, also if it is turned, mirrored,
 moved or framed. The tab-separated fields of a line are the level, where it begins, the first level
-with this board, where that begins, and how the first is turned into the later.
+with this board, where that begins, how the first is turned into the later, and the titles and the
+authors of the two. With several files it shows which levels of a collection are in another one.
 
 The status is 1 if something is printed."""
 import argparse
@@ -24,6 +25,7 @@ def run(options: argparse.Namespace) -> int:
         found += [(texts.shown(name), level) for level in several]
     twins = boards.twins_of(boards.forms_of(level for _, level in found))
     for later, first, turn in twins:
-        print(*(f"level {level.number}\t{name}:{level.line}"
-                for name, level in (found[later], found[first])), turn.words, sep="\t")
+        both = [found[later], found[first]]
+        print(*(f"level {level.number}\t{name}:{level.line}" for name, level in both), turn.words,
+              *(level.title for _, level in both), *(level.author for _, level in both), sep="\t")
     return int(bool(twins))

@@ -3,6 +3,7 @@
 That is a file without a level, a line that looks like a row but isn't one, a row in a comment, and
 a level that doesn't have exactly one player or isn't closed by walls, as when an empty line tore
 it."""
+import argparse
 import re
 from typing import Iterator, List, Sequence, Tuple
 
@@ -17,13 +18,13 @@ _STRANGE = re.compile(b"%b|(?<=%b)%b(?=%b)" % tuple(
 Warning = Tuple[int, str]
 
 
-def arguments(parser):
+def arguments(parser: argparse.ArgumentParser) -> None:
     """Adds the arguments of the command."""
     parser.add_argument("levels", metavar="LEVELS", nargs="+",
                         help="a levels file; - is standard input")
 
 
-def run(options) -> int:
+def run(options: argparse.Namespace) -> int:
     """Prints the warnings of all files."""
     texts.check_names(options.levels)
     return int(sum([_warn_of(name) for name in options.levels]) > 0)

@@ -9,7 +9,7 @@ import re
 from typing import Dict, List, NamedTuple, Optional, Sequence, Tuple
 
 from .. import answers, boards, carrying, game, levels, texts
-from ..collection import Attempt, Collection, another, best_of
+from ..collection import Attempt, Collection, Try
 from . import headings
 from .entries import DRESS, Entry, entries, key_of, names
 
@@ -37,35 +37,19 @@ class Export(NamedTuple):
     end: int
 
 
-class Answered(NamedTuple):
-    """A file of answers: its name, the forms of the levels that it counts, and its records."""
-
-    file: str
-    forms: Sequence[boards.Form]
-    records: Sequence[answers.Record]
-
-
-class Found(NamedTuple):
-    """A solution that a list has for a level: where it is, its replay, and comments on it."""
-
-    file: str
-    line: int
-    attempt: Attempt
-    notes: List[str]
-
-
 class Lists:
     """The lists of a conversion. They are read after all levels."""
 
     def __init__(self, collection: Collection) -> None:
         self.collection = collection
         self._lists: List[Tuple[str, Sequence[str], str]] = []
-        self._answers: List[Answered] = []
+        # files of answers, with the forms of the levels that they count
+        self._answers: List[Tuple[str, Sequence[boards.Form], Sequence[answers.Record]]] = []
         self._certificates: Dict[Tuple[int, int], bytes] = {}
         self._exports: List[Export] = []
         self._targets: List[Target] = []
         self._by_title: Dict[str, List[Target]] = {}
-        self._found: Dict[Tuple[int, int], List[Found]] = {}
+        self._found: Dict[Tuple[int, int], List[Try]] = {}
         self._reported = 0
 
     def add(self, file: str, lines: Sequence[str], idle: str = "") -> None:
@@ -75,7 +59,7 @@ class Lists:
     def add_answers(self, file: str, its_levels: Sequence[levels.Level], found: answers.Answers
                     ) -> None:
         """Adds answers to the levels of an export."""
-        self._answers.append(Answered(file, boards.forms_of(its_levels), found.records))
+        self._answers.append((file, boards.forms_of(its_levels), found.records))
 
     def add_export(self, file: str, first: int, end: int) -> None:
         """Adds an export, whose levels are those from `first` up to `end`, counted from 0."""
@@ -90,7 +74,7 @@ class Lists:
                                          answers.text(self.collection.records))]
         self._index([text for text, _ in parts])
         for answered in self._answers:
-            self._place_answers(answered)
+            self._place_answers(*answered)
         for file, lines, idle in self._lists:
             self._read(file, lines, idle)
         for part, (text, written) in enumerate(parts):
@@ -103,43 +87,41 @@ class Lists:
     def _index(self, parts: Sequence[bytes]) -> None:
         for part, text in enumerate(parts):
             for level in levels.read(text):
-                target = Target(part, level.number, game.Board(level), level)
+                target = Target(part, level.number, game.board_of(level), level)
                 self._targets.append(target)
                 for name in {key_of(level.title), key_of(level.title.strip(DRESS))} - {""}:
                     self._by_title.setdefault(name, []).append(target)
 
     # ---- answers
 
-    def _place_answers(self, answered: "Answered") -> None:
+    def _place_answers(self, file: str, forms: Sequence[boards.Form],
+                       records: Sequence[answers.Record]) -> None:
         """Gives answers to the levels that have the boards of theirs. One that doesn't hold is
         reported once, although several levels may have its board."""
         whys: Dict[int, str] = {}
         for part in sorted({target.part for target in self._targets}):
             targets = [it for it in self._targets if it.part == part]
-            carried = carrying.carried(answered.records, answered.forms,
-                                       boards.forms_of(it.level for it in targets))
+            carried = carrying.carried(records, forms, boards.forms_of(it.level for it in targets))
             for number, several in sorted(carried.items()):
-                for one in several:
-                    why = self._place_answer(answered.file, targets[number - 1], one)
-                    whys.setdefault(one.record.line, why)
-        for record in answered.records:
+                for at, answer in several:
+                    line = records[at].line
+                    why = self._place_answer(file, line, targets[number - 1], answer)
+                    whys.setdefault(line, why)
+        for record in records:
             why = whys.get(record.line, "no level has the board of this record")
             if why:
-                self._fault(answered.file, record.line, why)
+                self._fault(file, record.line, why)
 
-    def _place_answer(self, file: str, target: Target, one: carrying.Carried) -> str:
+    def _place_answer(self, file: str, line: int, target: Target, answer: answers.Answer) -> str:
         """Gives an answer to a level. Returns in words why it doesn't hold, or ""."""
-        record = answers.read(answers.text([one.text])).records[0]
-        if record.kind != "solution":
-            self._certificates.setdefault(target[:2], one.text)
+        if answer.kind != "solution":
+            self._certificates.setdefault(target[:2], answer.record(target.number))
             return ""
-        attempt = self.collection.attempt_on(target.board, record.letters.decode("latin-1"))
+        attempt = self.collection.attempt_on(target.board, answer.letters.decode("latin-1"))
         if attempt.why:
             return f"the solution of level {target.number} {attempt.why}"
-        notes = [texts.decoded(line) for line in record.above + record.raw
-                 if line.startswith(b";")]
-        self._found.setdefault(target[:2], []).append(
-            Found(file, one.record.line, attempt, notes))
+        notes = [texts.decoded(it) for it in answer.comments]
+        self._found.setdefault(target[:2], []).append(Try(file, line, attempt, notes))
         return ""
 
     # ---- entries
@@ -149,7 +131,7 @@ class Lists:
         within = self._within(file)
         groups: List[List[Target]] = []
         rest: List[str] = []
-        last: Optional[Found] = None
+        last: Optional[Try] = None
         for entry in entries(lines, self._by_title):
             # Letters without a name of their own are for the level of the entry before.
             groups = self._named(within, entry) or (groups if entry.goes_on else [])
@@ -160,7 +142,7 @@ class Lists:
         if last:
             last.notes.extend(rest)
         elif idle and not self._reported:
-            self.collection.idle.append(idle)
+            self.collection.idle.setdefault("", []).append(idle)
         else:
             if sum(map(len, lines)) <= MOST_KEPT:
                 self.collection.add_comment([texts.shown(line) for line in lines if line.strip()])
@@ -199,7 +181,7 @@ class Lists:
         return [self._targets[at]] if export.first <= at < export.end else []
 
     def _placed(self, file: str, entry: Entry, groups: Sequence[Sequence[Target]]
-                ) -> Optional[Found]:
+                ) -> Optional[Try]:
         """Gives an entry to its level, or reports it."""
         failed: Optional[Tuple[Target, Attempt]] = None
         for group in groups:
@@ -214,7 +196,7 @@ class Lists:
                 others = [it for other in groups for it in other if other is not group]
                 solved = [it for it in solved if it[0] in others] or solved
             if len(solved) == 1:
-                found = Found(file, entry.line, solved[0][1], [])
+                found = Try(file, entry.line, solved[0][1], [])
                 self._found.setdefault(solved[0][0][:2], []).append(found)
                 return found
             if solved:
@@ -248,11 +230,10 @@ class Lists:
 
     def _joined(self, part: int, records: Sequence[answers.Record]) -> List[bytes]:
         """Returns the records of a collection with the solutions of the lists."""
-        texts_of = {record.level: b"".join(line + b"\n" for line in record.above + record.raw)
-                    for record in records}
+        texts_of = {record.level: record.text for record in records}
         own = {record.level: record.letters for record in records}
         others = {record.level: record.letters for record in answers.read(
-            answers.text(self.collection.others.values()), rising=False).records}
+            answers.text(list(self.collection.others.values())), rising=False).records}
         for target in self._targets:
             several = self._found.get(target[:2], [])
             if target.part != part:
@@ -261,31 +242,19 @@ class Lists:
                 texts_of.setdefault(target.number, self._certificates[target[:2]])
             if not several:
                 continue
-            before = [Found("", 0, self.collection.attempt_on(target.board, it.decode()), [])
+            before = [Try("", 0, self.collection.attempt_on(target.board, it.decode()), [])
                       for it in [own.get(target.number), others.get(target.number)] if it]
-            kept = self._best(target.number, [it for it in before if not it.attempt.why] + several)
+            kept, other = self.collection.choose(
+                target.number, [it for it in before if not it.attempt.why] + several)
+            self.collection.others.pop(target.number, None)
+            if other:
+                self.collection.others[target.number] = _record(target.number, other)
             self.collection.solutions += not before
             if kept.line:
                 texts_of[target.number] = _record(target.number, kept)
         return [text for _, text in sorted(texts_of.items())]
 
-    def _best(self, number: int, several: Sequence[Found]) -> Found:
-        """Returns the best solution, or the first one, with a report of the others."""
-        if self.collection.best:
-            kept, other = best_of(several, self.collection.best)
-            self.collection.others.pop(number, None)
-            if other:
-                self.collection.others[number] = _record(number, other)
-            return kept  # type: ignore[no-any-return]
-        seen = {several[0].attempt.letters}
-        for it in several[1:]:
-            if it.attempt.letters not in seen:
-                seen.add(it.attempt.letters)
-                said = another(number, it.attempt, several[0].attempt)
-                self._fault(it.file, it.line, said)
-        return several[0]
 
-
-def _record(number: int, found: Found) -> bytes:
+def _record(number: int, found: Try) -> bytes:
     notes = "".join(f"; {texts.shown(note).strip(' ;')}\n" for note in found.notes)
     return notes.encode("utf-8", "replace") + answers.solution(number, found.attempt.letters)

@@ -218,7 +218,7 @@ def _drop_inner_marks(found: Rows, first: int, end: int) -> None:
 def _are_outside_room(run: Sequence[Row]) -> bool:
     """Returns whether the player can reach no mark, wherever the boxes are."""
     drawn = [text for row in run for text in row.rows]
-    if not 0 < len(drawn) <= game.LARGEST_SIDE:
+    if not 0 < len(drawn) <= levels.LARGEST_SIDE:
         return False
     board = game.Board(levels.Level(1, [rows.without_marks(text).encode() for text in drawn], 1))
     if board.player is None or board.fault in ("size", "open"):

@@ -15,11 +15,11 @@ import html
 import re
 from typing import NamedTuple, Optional, Tuple
 
-from .. import game, texts
+from .. import levels, texts
 from ..alphabet import BOXES, GOALS, LETTERS, PLAYERS, ROW
 from . import coding, maze
 
-WIDEST = game.LARGEST_SIDE
+WIDEST = levels.LARGEST_SIDE
 OUTER = "~x^\u00a0"
 MARK = "\ufeff"
 _NOT_PLAIN = re.compile(f"[^{ROW}]")

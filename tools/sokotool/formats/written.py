@@ -10,7 +10,7 @@ from itertools import groupby
 from typing import Callable, Container, Dict, Iterator, List, NamedTuple, Sequence, Tuple
 from xml.sax.saxutils import escape, quoteattr
 
-from .. import auditor, game, levels, texts
+from .. import auditor, levels, texts
 from ..alphabet import FLOOR, WALL
 from . import letters
 
@@ -153,7 +153,7 @@ def _cut(text: str) -> List[str]:
 def _coded(entry: Entry) -> List[str]:
     """Returns a board in one line, or as it is if it is none between walls."""
     if not all(row.strip().startswith(WALL) and row.endswith(WALL) for row in entry.rows) or (
-            max(map(len, entry.rows)) > game.LARGEST_SIDE):
+            max(map(len, entry.rows)) > levels.LARGEST_SIDE):
         return entry.rows
     return ["|".join("".join(f"{len(run) if len(run) > 1 else ''}{run[0]}" for run in (
         "".join(same) for _, same in groupby(row.replace(" ", "-")))) for row in entry.rows)]

@@ -50,20 +50,22 @@ class Lost:
         others = boxes & direction[pushed.bit_length() - 1]
         if others:
             return self._pattern(pushed | others & -others, player)
-        return self._of_several(boxes, player)
+        found = self._of_several(boxes, player)
+        assert found
+        return found
 
-    def _of_several(self, boxes, player):
+    def _of_several(self, boxes: int, player: int) -> Optional[Pattern]:
         """Returns a pattern of the play's boxes, or of frozen boxes, or None."""
         if self.seen.get(boxes, 0) & player:
             return self._pattern(boxes, player)
         frozen = self._few_frozen(self.known.frozen(boxes))
         return (frozen, self.room.cells ^ frozen) if frozen else None
 
-    def _pattern(self, boxes, player):
+    def _pattern(self, boxes: int, player: int) -> Pattern:
         """Returns the pattern of these boxes, with the cells that the player reaches among them."""
         return boxes, self.room.flood(player, self.room.cells & ~boxes)
 
-    def _few_frozen(self, frozen):
+    def _few_frozen(self, frozen: int) -> int:
         """Returns a least set of these frozen boxes that is frozen and not all on goals, or no
         cell."""
         off_goals = ~self.room.goals

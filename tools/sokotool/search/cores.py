@@ -5,7 +5,7 @@ of that play joins the set, and so on. If they can't, each box of the set is lef
 stays out if the others still can't.
 """
 from itertools import combinations
-from typing import Dict, Iterator, List, Optional, Tuple
+from typing import Dict, Iterator, List, Optional, Sequence, Tuple
 
 from .budget import Budget
 from .deadlocks import Known
@@ -48,7 +48,7 @@ class Cores:
             for box in bits(self.room.boxes):
                 yield most, self._grow(box, most, False)
 
-    def _triples(self):
+    def _triples(self) -> Iterator[int]:
         """Yields each box with two others near it."""
         for box in bits(self.room.boxes):
             near = box
@@ -126,7 +126,7 @@ class Cores:
             reached = self.room.flood(reached | layers[-1], free | reached | layers[-1])
         return layers
 
-    def _on_path(self, target, layers, boxes):
+    def _on_path(self, target: int, layers: Sequence[int], boxes: int) -> int:
         """Returns a box of the first layer on a path to the target through one box of each layer.
         """
         free = self.room.cells & ~boxes
@@ -136,7 +136,7 @@ class Cores:
                 target &= -target
         return target
 
-    def _nearest(self, chosen):
+    def _nearest(self, chosen: int) -> int:
         """Returns the box that is the fewest steps from some boxes if all others are ignored."""
         others = self.room.boxes ^ chosen
         around = chosen

@@ -12,6 +12,8 @@ from .budget import Budget
 from .rooms import Room, bits, mask_of
 
 MOST_PAIRS = 200_000
+# two boxes and a part of the room, as masks
+Pair = Tuple[int, int, int]
 
 
 class Direction(Dict[int, int]):
@@ -69,7 +71,7 @@ class Known:
         can walk from one to the other around the box."""
         return box, self.block[max(box, player, key=self.order.__getitem__)]
 
-    def _find_live(self):
+    def _find_live(self) -> None:
         """Finds the sides of boxes that aren't lost alone, by pulls from the goals: a breadth-first
         search."""
         goals = [at for at in self.room.places if self.room.goals >> at & 1]
@@ -125,12 +127,12 @@ class Known:
                 return
         self.paired = mask_of(list(self.distances))
 
-    def _note_pair(self, box, other, part):
+    def _note_pair(self, box: int, other: int, part: int) -> None:
         """Notes that two boxes aren't lost if the player is in a part of the room."""
         one, two = box.bit_length() - 1, other.bit_length() - 1
         self.pairs[one][two] = self.pairs[two][one] = self.pairs[one].get(two, 0) | part
 
-    def _pull(self, box, other, part, todo):
+    def _pull(self, box: int, other: int, part: int, todo: List[Pair]) -> None:
         """Notes the positions of two boxes from which one push of the first leads to this one."""
         known = self.pairs[other.bit_length() - 1]
         for direction in self.directions.values():
@@ -143,7 +145,7 @@ class Known:
                 self._note_pair(before, other, region)
                 todo.append((before, other, region))
 
-    def _part_of_pair(self, box, other, player):
+    def _part_of_pair(self, box: int, other: int, player: int) -> int:
         """Returns the cells that the player reaches with two boxes in the room."""
         room = self.room
         free = room.cells ^ (box | other)
@@ -209,10 +211,10 @@ def blocks_of(beside: Dict[int, List[int]], first: int) -> Tuple[Dict[int, int],
     return block, order
 
 
-def walk(beside, first):
+def walk(beside: Dict[int, List[int]], first: int) -> Tuple[Dict[int, int], Dict[int, int]]:
     """Walks depth first. Returns the number of each place in the order of the walk, and the place
-    from which it was entered."""
-    order, before = {first: 0}, {first: None}
+    from which it was entered, -1 for the first one."""
+    order, before = {first: 0}, {first: -1}
     path = [(first, iter(beside[first]))]
     while path:
         at, rest = path[-1]

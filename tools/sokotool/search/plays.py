@@ -3,7 +3,7 @@ aren't known to be lost."""
 from typing import Dict, List, NamedTuple, Optional, Tuple
 
 from .budget import Budget
-from .deadlocks import Known
+from .deadlocks import Direction, Known
 from .rooms import bits
 
 SOLVED, LOST, STOPPED = "solved", "lost", "stopped"
@@ -58,7 +58,7 @@ class Play:
             self._expand(self.buckets[self.lowest].pop())
         return SOLVED if self.solved else STOPPED
 
-    def _add(self, position):
+    def _add(self, position: Position) -> None:
         """Puts a position into its bucket, and notes one that has every box on a goal."""
         if not position.boxes & self.off_goals:
             self.solved = position
@@ -70,7 +70,7 @@ class Play:
         if estimate < self.lowest:
             self.lowest = estimate
 
-    def _expand(self, position):
+    def _expand(self, position: Position) -> None:
         """Makes each push of a position."""
         boxes, region = position.boxes, position.region
         empty = ~boxes
@@ -80,7 +80,7 @@ class Play:
             for box in bits(boxes & region >> shift & (back.live & empty) << shift):
                 self._push(position, box, box >> shift, back)
 
-    def _push(self, position, box, to, direction):
+    def _push(self, position: Position, box: int, to: int, direction: Direction) -> None:
         """Adds the result of a push if it is new and not known to be lost."""
         boxes = position.boxes ^ box ^ to
         seen = self.seen.get(boxes, 0)
@@ -97,7 +97,7 @@ class Play:
             estimate -= PENALTY
         self._add(Position(boxes, region, estimate, position, box, to))
 
-    def _is_frozen(self, boxes, to):
+    def _is_frozen(self, boxes: int, to: int) -> bool:
         """Returns whether some boxes are frozen and not all on goals; only those are found that the
         pushed box is one of."""
         for pair in self.known.push_axes(to):
@@ -105,7 +105,7 @@ class Play:
                 return False
         return bool(self.known.frozen(boxes) & self.off_goals)
 
-    def _region(self, before, boxes, box, to):
+    def _region(self, before: int, boxes: int, box: int, to: int) -> int:
         """Returns the cells that the player reaches after a push. Most pushes neither open nor
         close a way, and need no flood."""
         room = self.room

@@ -3,6 +3,7 @@ from typing import Iterator, List, NamedTuple, Optional, Tuple
 
 from ..game import Board
 from ..levels import Level
+from ..outcomes import FOUND, FULL, ILLEGAL, LATE, LONG, SOLVABLE
 from .budget import Budget
 from .closed import MOST_PATTERNS, Lost, Patterns, list_of
 from .cores import Cores
@@ -14,9 +15,6 @@ from .shorten import shorten
 Cell = Tuple[int, int]
 Spelled = Tuple[List[Cell], Optional[List[Cell]]]  # the boxes and the seeds of a pattern
 
-FOUND, SOLVABLE, LONG, ILLEGAL = "found", "solvable", "long", "illegal"
-# The time was over, or the search reached a limit of its own.
-LATE, FULL = "late", "full"
 SHARE_TO_SHORTEN = 0.2
 OVERTIME = 0.3  # the seconds after the time limit in which a list may still be shortened
 

@@ -33,7 +33,7 @@ class Cover:
                     return few
         return boxes if patterns.get(boxes, 0) & player else 0
 
-    def _sizes_below(self, most):
+    def _sizes_below(self, most: int) -> List[int]:
         """Returns the numbers of boxes that patterns have, from 2 to below `most`, for which few
         subsets have to be looked up."""
         sizes = self.tried.get(most)

@@ -6,18 +6,21 @@ const LEGEND = "Shaded: where the player may be. Faint: the other boxes, where t
 
 class PatternsView {
     constructor(view) {
-        Object.assign(this, view);
+        Object.assign(this, view, { work: new Parts(), startWork: new Parts(), lines: [] });
+        this.work.run(patternsIn(this.record.body), lines => this.begin(lines));
+    }
+    begin(lines) {
+        this.lines = lines;
         const { status, words: [what, number, why, at, dir] } = this.verdict;
         const refused = status === "refused" && what === "line" ? Number(number) : -1;
         this.certificate = new Certificate(this.board, this.lines);
         this.refused = this.lines.findIndex(({ line }) => line === refused);
         this.push = this.refused >= 0 && why === "push" ? { at, dir } : null;
-        this.work = new Parts();
-        this.startWork = new Parts();
         this.build();
         this.go(Number(this.at) || this.refused + 1 || 1);
     }
     get keys() {
+        if (!this.lines.length) return {};
         const on = () => this.step(1), back = () => this.step(-1);
         return { ArrowRight: on, ArrowDown: on, ArrowLeft: back, ArrowUp: back,
             PageDown: () => this.step(10), PageUp: () => this.step(-10),
@@ -126,8 +129,7 @@ function othersOf(board, boxes) {
     return others;
 }
 
-function zoneView({ board, verdict: { status, words }, lines, pane, side }) {
-    const [{ zone, line }] = lines;
+function zoneView({ board, verdict: { status, words }, first: { zone, line }, pane, side }) {
     const cells = new Set(zone.map(cell => board.place(cell)).filter(place => place >= 0));
     const isLeak = status === "refused" && words[2] === "leak";
     const leak = isLeak ? leakOf(board, cells, words.slice(3)) : null;

@@ -3,8 +3,10 @@
 const SVG = "http://www.w3.org/2000/svg";
 // the limit of cells in the name of a picture
 const MOST_NAMED = 60;
+// how many cells are filled between two pauses
+const FILLED_AT_ONCE = 2000;
 // how many milliseconds a part of long work takes
-const LONGEST_PART = 50;
+const LONGEST_PART = 20;
 
 function svg(name, attributes, parent) {
     const element = document.createElementNS(SVG, name);
@@ -129,29 +131,34 @@ function drawArrow(board, { from, dir, kind, title, act, length = 1.8 }, picture
     if (act) group.addEventListener("click", act);
 }
 
-// a small board on a canvas, in the colours of the page
-function sketch(canvas, board, colours) {
+// Draws a small board on a canvas, in the colours of the page. Pauses often, since a board may be large.
+function* sketch(canvas, board, colours) {
     const scale = window.devicePixelRatio || 1;
-    const width = canvas.clientWidth, height = canvas.clientHeight;
+    // one that isn't in the page yet has no size
+    const width = canvas.clientWidth || CARD.width - 18, height = canvas.clientHeight || 104;
     const cell = Math.min(width / board.width, height / board.height, 14) * scale;
     canvas.width = width * scale;
     canvas.height = height * scale;
     const pen = canvas.getContext("2d");
     pen.translate((canvas.width - cell * board.width) / 2,
         (canvas.height - cell * board.height) / 2);
-    const fill = (places, colour, inset) => {
+    const fill = function* (places, colour, inset) {
         const side = cell * (1 - 2 * inset) + (inset ? 0 : .6);
-        pen.fillStyle = colour;
+        let left = FILLED_AT_ONCE;
         for (const place of places) {
             const x = place % board.width, y = Math.floor(place / board.width);
+            pen.fillStyle = colour(place);
             pen.fillRect((x + inset) * cell, (y + inset) * cell, side, side);
+            if (left-- === 0) {
+                left = FILLED_AT_ONCE;
+                yield;
+            }
         }
     };
-    fill(board.room, colours.floor, 0);
-    fill(board.walls, colours.wall, 0);
-    fill(board.goals, colours.goal, .3);
-    fill([...board.boxes].filter(box => !board.goals.has(box)), colours.box, .14);
-    fill([...board.boxes].filter(box => board.goals.has(box)), colours.home, .14);
+    yield* fill(board.room, () => colours.floor, 0);
+    yield* fill(board.walls, () => colours.wall, 0);
+    yield* fill(board.goals, () => colours.goal, .3);
+    yield* fill(board.boxes, box => board.goals.has(box) ? colours.home : colours.box, .14);
     pen.fillStyle = colours.player;
     for (const place of board.players) {
         const [x, y] = middle(board, place);

@@ -3,19 +3,23 @@
 const STEPS = { l: [-1, 0], u: [0, -1], r: [1, 0], d: [0, 1] };
 const BACK = { l: "r", u: "d", r: "l", d: "u" };
 const NAMES = { l: "left", u: "up", r: "right", d: "down" };
+// how many letters are read at once, after how many a state is kept, and after how many the work pauses
+const MOST_AT_ONCE = 1 << 18, KEPT_EVERY = 1 << 16, PAUSE_EVERY = 1 << 9;
 
 class Board {
     constructor(rows) {
         this.height = rows.length;
         this.width = rows.reduce((most, row) => Math.max(most, row.length), 0);
         Object.assign(this, { walls: new Set(), goals: new Set(), boxes: new Set(), players: [] });
+        // the walls once more, to look them up
+        this.solid = new Uint8Array(this.width * this.height);
         rows.forEach((row, y) => {
-            for (const { index, 0: character } of row.matchAll(/[^-_ ]/g)) {
-                const place = y * this.width + index;
-                if (character === "#") this.walls.add(place);
-                if (".*+".includes(character)) this.goals.add(place);
-                if ("$*".includes(character)) this.boxes.add(place);
-                if ("@+".includes(character)) this.players.push(place);
+            for (let x = 0; x < row.length; x++) {
+                const place = y * this.width + x, character = row[x];
+                if (character === "#") this.walls.add(place), this.solid[place] = 1;
+                if (character === "." || character === "*" || character === "+") this.goals.add(place);
+                if (character === "$" || character === "*") this.boxes.add(place);
+                if (character === "@" || character === "+") this.players.push(place);
             }
         });
         this.room = this.region(this.players.slice(0, 1), new Set());
@@ -36,54 +40,70 @@ class Board {
         return x < 0 || y < 0 || x >= this.width || y >= this.height ? -1 : y * this.width + x;
     }
     isWall(place) {
-        return place < 0 || this.walls.has(place);
+        return place < 0 || this.solid[place] === 1;
     }
     // the places that are connected to a seed without walls and boxes
     region(seeds, boxes) {
-        const { width, height } = this, most = width * height;
-        const free = place => !this.isWall(place) && !boxes.has(place);
-        const found = new Set(seeds.filter(free)), work = [...found];
-        while (work.length) {
-            const place = work.pop(), x = place % width;
-            const around = [x ? place - 1 : -1, place - width, x < width - 1 ? place + 1 : -1,
-                place + width];
-            for (const near of around) {
-                if (near < most && !found.has(near) && free(near)) {
-                    found.add(near);
-                    work.push(near);
-                }
-            }
+        const { width, height } = this, most = width * height, seen = this.solid.slice(), work = [];
+        for (const box of boxes) seen[box] = 1;
+        const visit = place => {
+            if (place < 0 || place >= most || seen[place]) return;
+            seen[place] = 1;
+            work.push(place);
+        };
+        seeds.forEach(visit);
+        // the places that are found stay in the list, in the order in which they are looked at
+        for (let at = 0; at < work.length; at++) {
+            const place = work[at], x = place % width;
+            if (x) visit(place - 1);
+            if (x < width - 1) visit(place + 1);
+            visit(place - width);
+            visit(place + width);
         }
-        return found;
+        return new Set(work);
     }
 }
 
-// A solution while it plays: the state after some letters, which steps forward and back. Stops
-// before the first letter that is refused.
+// The letters in a record's body without blanks. Pauses often, since they may be millions.
+function* lettersIn(body) {
+    const parts = [];
+    for (const [, line] of body) {
+        for (let at = 0; at < line.length; at += MOST_AT_ONCE) {
+            parts.push(line.slice(at, at + MOST_AT_ONCE).replace(/[ \t\r\n]+/g, ""));
+            yield;
+        }
+    }
+    return parts.join("");
+}
+
+// A solution while it plays: the state after some letters. Stops before the first letter that is refused. Going back starts from the last
+// state that was kept, and plays on from there.
 class Play {
-    constructor(board, text) {
-        this.board = board;
-        this.letters = text.replace(/[ \t\r\n]+/g, "");
-        this.boxes = new Set(board.boxes);
-        this.player = board.players[0] ?? -1;
-        this.at = this.moves = this.pushes = this.changes = 0;
-        this.done = [];
+    constructor(board, letters) {
+        Object.assign(this, { board, letters, boxes: new Set(board.boxes), player: board.players[0] ?? -1 });
+        this.at = this.pushes = this.changes = 0;
         this.lastBox = -1;
+        this.kept = [this.state()];
+    }
+    get moves() {
+        return this.at;
+    }
+    state() {
+        return { at: this.at, boxes: [...this.boxes], player: this.player, pushes: this.pushes, changes: this.changes, lastBox: this.lastBox };
     }
     // why the next letter is refused, or ""
     fault() {
         const letter = this.letters[this.at], dir = letter?.toLowerCase();
         if (!(dir in STEPS)) return "letter";
-        const next = this.board.next(this.player, dir), beyond = this.board.next(next, dir);
-        if (this.board.isWall(next)) return "wall";
-        const pushes = this.boxes.has(next);
-        if (pushes && (this.board.isWall(beyond) || this.boxes.has(beyond))) return "blocked";
+        const { board, boxes } = this, next = board.next(this.player, dir);
+        if (board.isWall(next)) return "wall";
+        const pushes = boxes.has(next), beyond = pushes ? board.next(next, dir) : next;
+        if (pushes && (board.isWall(beyond) || boxes.has(beyond))) return "blocked";
         return pushes === (letter === dir) ? "case" : "";
     }
     next() {
         if (this.at >= this.letters.length || this.fault()) return false;
         const dir = this.letters[this.at].toLowerCase(), from = this.board.next(this.player, dir);
-        this.done.push({ player: this.player, lastBox: this.lastBox, changes: this.changes });
         if (this.boxes.has(from)) {
             const to = this.board.next(from, dir);
             this.boxes.delete(from);
@@ -93,29 +113,17 @@ class Play {
             this.lastBox = to;
         }
         this.player = from;
-        this.moves++;
         this.at++;
+        if (this.at === this.kept.length * KEPT_EVERY) this.kept.push(this.state());
         return true;
     }
-    back() {
-        const before = this.done.pop();
-        if (!before) return false;
-        this.at--;
-        this.moves--;
-        const letter = this.letters[this.at], from = this.player;
-        if (letter !== letter.toLowerCase()) {
-            this.boxes.delete(this.board.next(from, letter.toLowerCase()));
-            this.boxes.add(from);
-            this.pushes--;
+    // Plays to the state after some letters. Pauses often.
+    *seek(to) {
+        if (to < this.at) {
+            const state = this.kept[Math.floor(to / KEPT_EVERY)];
+            Object.assign(this, state, { boxes: new Set(state.boxes) });
         }
-        this.player = before.player;
-        this.lastBox = before.lastBox;
-        this.changes = before.changes;
-        return true;
-    }
-    seek(at) {
-        while (this.at > at && this.back());
-        while (this.at < at && this.next());
+        while (this.at < to && this.next()) if (this.at % PAUSE_EVERY === 0) yield;
     }
     isSolved() {
         return [...this.boxes].every(box => this.board.goals.has(box));
@@ -130,6 +138,17 @@ function certificateLine([line, text]) {
     if (pattern) return { line, text, boxes: pattern[1], seeds: pattern[2] };
     const zone = /^zone ([0-9, ]+)$/.exec(text);
     return zone ? { line, text, zone: cellsOf(zone[1]) } : { line, text };
+}
+
+// The lines of a record's body that are patterns. Pauses often, since a list may be long.
+function* patternsIn(body) {
+    const lines = [];
+    for (const it of body) {
+        const line = certificateLine(it);
+        if (line.boxes) lines.push(line);
+        yield;
+    }
+    return lines;
 }
 
 // A pattern on a board, whose words are read when they are asked for.

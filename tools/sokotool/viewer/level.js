@@ -7,18 +7,28 @@ const many = (number, one, more = `${one}s`) => `${number} ${number === 1 ? one 
 const field = (name, value) =>
     html("span", { class: "count", "data-name": name }, `${name} `, html("b", {}, String(value)));
 
+// the links, the heading and the report line of a level
+const headOf = level => [linksOf(level),
+    html("h2", { id: "heading", tabindex: -1 }, `Level ${level.number}`, level.title ? html("span", { class: "title" }, ` ${level.title}`) : "",
+        html("small", {}, ` line ${level.line} of ${level.file ?? DATA.names[0]}${cameFrom(level)}`)),
+    html("p", { class: `verdict ${level.verdict.status}` }, `${STATUSES[level.verdict.status] ?? ""} ${level.verdict.line}`),
+    html("p", { class: "why" }, whyOf(level)), ...leftOut(level)];
+
+// the export of a level, and what was left out of it
+const sourceOf = ({ number }) => DATA.sources?.[number];
+const cameFrom = level => {
+    const source = sourceOf(level);
+    return source ? `, from line ${source.line} of ${source.file}` : "";
+};
+const leftOut = level => (sourceOf(level)?.left ?? []).map(words =>
+    html("p", { class: "left" }, `${sourceOf(level).file} ${words}`));
+
 // draws the page of a level, and returns the view of its answer: its keys, and how it stops
 function levelPage(level, at) {
-    const board = boardOf(level), record = DATA.records[level.number];
-    const { verdict, verdict: { status, line } } = level;
+    const board = boardOf(level), record = DATA.records[level.number], { verdict } = level;
     const pane = html("section", { class: "pane" }), side = html("section", { class: "side" });
     const view = { board, record, verdict, at, pane, side };
-    $("level").replaceChildren(linksOf(level),
-        html("h2", { id: "heading", tabindex: -1 }, `Level ${level.number}`,
-            level.title ? html("span", { class: "title" }, ` ${level.title}`) : "",
-            html("small", {}, ` line ${level.line} of ${DATA.names[0]}`)),
-        html("p", { class: `verdict ${status}` }, `${STATUSES[status] ?? ""} ${line}`),
-        refusedLine(view), html("div", { class: "two" }, pane, side));
+    $("level").replaceChildren(...headOf(level), refusedLine(view), html("div", { class: "two" }, pane, side));
     return answerOf(view);
 }
 
@@ -42,18 +52,19 @@ function refusedLine({ record, verdict: { status, words } }) {
 }
 
 function answerOf(view) {
-    const { record, verdict: { status, words } } = view;
-    const lines = record?.kind === "unsolvable" ? record.body.map(certificateLine) : [];
-    if (status === "refused" && words[0] === "board") {
-        return still(view, "The level is refused, so no answer is checked.");
-    }
-    if (record?.kind === "solution") return new SolutionView(view);
-    if (lines[0]?.zone) return zoneView({ ...view, lines });
-    const list = lines.filter(line => line.boxes);
-    if (list.length) return new PatternsView({ ...view, lines: list });
-    return still(view, record ? "The record has nothing to draw."
-        : "No record has this level's number.");
+    const { record, board, verdict: { status, words } } = view;
+    if (status === "refused" && words[0] === "board") return still(view, `The level is refused, so no answer is checked. ${sizeOf(board, words[1])}`);
+    if (!record) return still(view, "There is no answer for this level.");
+    if (record.kind === "solution") return new SolutionView(view);
+    const first = record.body.length ? certificateLine(record.body[0]) : {};
+    if (first.zone) return zoneView({ ...view, first });
+    if (record.body.some(line => certificateLine(line).boxes)) return new PatternsView(view);
+    return still(view, "The record has nothing to draw.");
 }
+
+// what a refused level has
+const sizeOf = ({ players, boxes, goals }, why) => why === "size" ? "Its first rows and columns are drawn."
+    : `It has ${many(players.length, "player")}, ${many(boxes.size, "box", "boxes")} and ${many(goals.size, "goal")}.`;
 
 function still({ board, pane, side }, why) {
     pane.append(draw(board, { boxes: board.boxes, players: board.players }));

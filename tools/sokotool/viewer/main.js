@@ -61,7 +61,14 @@ function go(number) {
     route();
 }
 
+// puts the cards that came into view into the page
+function seen() {
+    if (!shownLevel) overview();
+}
+
 function showKeys() {
+    const [top] = inView();
+    $("keys").style.marginTop = top > 0 ? `${top + 30}px` : "";
     $("keys").showModal();
 }
 
@@ -100,8 +107,10 @@ function start() {
     $("words").addEventListener("keydown", ({ key }) => key === "Enter" && focusCard(0));
     addEventListener("keydown", press);
     addEventListener("hashchange", route);
-    addEventListener("scroll", () => shownLevel || overview(), { passive: true });
+    addEventListener("scroll", seen, { passive: true });
     addEventListener("resize", redraw);
+    addEventListener("beforeprint", () => shownLevel || $("overview").append(html("div", { id: "printed" }, ...allCards())));
+    addEventListener("afterprint", () => $("printed")?.remove());
     matchMedia("(prefers-color-scheme: dark)").addEventListener("change", redraw);
     $("names").append(html("b", {}, DATA.names[0]), ` with ${DATA.names[1]}`);
     $("fault").hidden = !DATA.fault;

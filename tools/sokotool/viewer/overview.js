@@ -5,11 +5,12 @@ const LEVELS = DATA.levels;
 const STATUSES = { solved: "\u2713", unsolvable: "\u2715", refused: "!", missing: "?" };
 const CARD = { width: 142, height: 200, gap: 8 };
 const $ = id => document.getElementById(id);
-for (const level of LEVELS) {
-    level.verdict = DATA.verdicts[level.number]
-        ?? { line: "not in the report", status: "missing", words: [] };
-    level.words = `${level.number} ${level.title} ${level.verdict.line}`.toLowerCase();
-}
+const NO_VERDICT = { line: "not in the report", status: "missing", words: [] };
+for (const level of LEVELS) level.verdict = DATA.verdicts[level.number] ?? NO_VERDICT;
+// what a level is found by
+const wordsOf = level => level.words ??= `${level.number} ${level.title} ${level.verdict.line}`.toLowerCase();
+// a sentence on why a level or its answer is refused, or ""
+const whyOf = ({ verdict: { status, words } }) => status === "refused" ? refusalWords(words) : "";
 const boardOf = level => level.board ??= new Board(level.rows);
 
 // the levels that the overview shows, the status that it is limited to, and the level chosen last
@@ -27,7 +28,21 @@ function makeCard(level) {
     html("canvas", { "aria-hidden": "true" }),
     html("b", {}, `${STATUSES[status] ?? ""} ${level.number}`),
     html("span", { class: "title", title: level.title }, level.title),
-    html("span", { class: "line" }, line.replace(/^level \d+ /, "")));
+    html("span", { class: "line", title: whyOf(level) || undefined }, shortLine(line)));
+}
+
+// a report line as a card has room for it
+const shortLine = line => line.replace(/^level \d+ /, "")
+    .replace(/^solved moves (\d+) pushes (\d+) .*/, (_, moves, pushes) =>
+        `${many(Number(moves), "move")}, ${many(Number(pushes), "push", "pushes")}`);
+
+// all cards that are shown, drawn, for paper
+function allCards() {
+    return found.map(level => {
+        const card = makeCard(level), work = sketch(card.querySelector("canvas"), boardOf(level), colours());
+        while (!work.next().done);
+        return card;
+    });
 }
 
 function colours() {
@@ -43,11 +58,14 @@ function grid() {
     return { columns, width: width / columns, height: CARD.height + CARD.gap };
 }
 
+// what is in view of this window, which may be a frame as high as its content: from and to
+let inView = () => [0, innerHeight];
+
 // the places of the cards in view and around the chosen one, in order
 function placesInView({ columns, height }) {
-    const top = $("overview").getBoundingClientRect().top, at = found.indexOf(chosen);
-    const first = (Math.floor(-top / height) - 1) * columns;
-    const last = (Math.ceil((innerHeight - top) / height) + 1) * columns;
+    const { top } = $("overview").getBoundingClientRect(), at = found.indexOf(chosen), [from, to] = inView();
+    const first = (Math.floor((from - top) / height) - 1) * columns;
+    const last = (Math.ceil((to - top) / height) + 1) * columns;
     return found.map((_, i) => i)
         .filter(i => i >= first && i < last || at >= 0 && Math.abs(i - at) <= columns);
 }
@@ -81,14 +99,17 @@ function overview(all = false) {
 // draws the cards that aren't drawn yet, the ones in view first
 function* sketches(levels) {
     const palette = colours();
+    const [from, to] = inView();
     const isInView = ({ card }) => {
         const { top, bottom } = card.getBoundingClientRect();
-        return bottom > 0 && top < innerHeight;
+        return bottom > from && top < to;
     };
     const waiting = levels.filter(level => undrawn.has(level));
     const first = new Set(waiting.filter(isInView));
     for (const level of new Set([...first, ...waiting])) {
-        sketch(level.card.querySelector("canvas"), boardOf(level), palette);
+        const board = boardOf(level);
+        yield;
+        yield* sketch(level.card.querySelector("canvas"), board, palette);
         undrawn.delete(level);
         yield;
     }
@@ -111,7 +132,7 @@ function showLevels(status) {
     wanted = status;
     const words = $("words").value.toLowerCase().split(/\s+/).filter(word => word);
     found = LEVELS.filter(level => (!wanted || level.verdict.status === wanted)
-        && words.every(word => level.words.includes(word)));
+        && words.every(word => wordsOf(level).includes(word)));
     $("nothing").hidden = found.length > 0;
     for (const chip of $("totals").children) {
         chip.setAttribute("aria-pressed", String(chip.dataset.status === wanted));

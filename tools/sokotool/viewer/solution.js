@@ -1,22 +1,24 @@
 // The view of a solution: the board, the counts, a slider, buttons and the letters.
 
-const MOST_LETTERS = 400;
+const MOST_LETTERS = 400, MOST_TO_COPY = 1 << 20;
 let pace = 6;
 
 class SolutionView {
     constructor(view) {
-        Object.assign(this, view);
-        this.text = this.record.body.map(([, text]) => text).join("\n");
-        this.play = new Play(this.board, this.text);
-        this.end = this.play.letters.length;
+        Object.assign(this, view, { ticking: 0, work: new Parts(), play: null });
+        this.work.run(lettersIn(this.record.body), letters => this.begin(letters));
+    }
+    // shows the start, or the letter that the address names or the report refuses
+    begin(letters) {
+        this.play = new Play(this.board, letters);
+        this.end = letters.length;
         const { status, words } = this.verdict, isRefused = status === "refused";
         this.refusedAt = isRefused && words[0] === "move" ? Number(words[1]) - 1 : -1;
-        this.ticking = 0;
         this.build();
         const isOpen = !this.at && words[0] === "unsolved";
-        this.play.seek(this.at === "end" || isOpen ? this.end
-            : this.at ? Number(this.at) || 0 : Math.max(0, this.refusedAt));
+        const at = this.at === "end" || isOpen ? this.end : this.at ? Number(this.at) || 0 : Math.max(0, this.refusedAt);
         this.render();
+        this.work.run(this.play.seek(at), () => this.render());
     }
     build() {
         this.counts = html("p", { class: "counts" });
@@ -34,9 +36,10 @@ class SolutionView {
             button("previous", "previous letter", "arrow left", () => this.step(-1)), this.run,
             button("next", "next letter", "arrow right", () => this.step(1)),
             button("end", "end", "End", () => this.seek(this.end)),
-            html("label", {}, "speed ", this.speed)), this.note, this.letters, wholeOf(this.text));
+            html("label", {}, "speed ", this.speed)), this.note, this.letters, wholeOf(this.record.body));
     }
     get keys() {
+        if (!this.play) return {};
         return { ArrowRight: () => this.step(1), ArrowLeft: () => this.step(-1),
             PageDown: () => this.step(10), PageUp: () => this.step(-10),
             Home: () => this.seek(0), End: () => this.seek(this.end), " ": () => this.toggle(),
@@ -83,8 +86,7 @@ class SolutionView {
     }
     seek(to) {
         this.stop();
-        this.play.seek(Math.max(0, to));
-        this.shown();
+        this.work.run(this.play.seek(Math.max(0, to)), () => this.shown());
     }
     step(by) {
         this.seek(this.play.at + by);
@@ -95,9 +97,8 @@ class SolutionView {
     }
     toggle() {
         if (this.ticking) return this.stop();
-        if (this.play.at >= this.end) this.play.seek(0);
         this.run.textContent = "stop";
-        this.tick();
+        this.work.run(this.play.seek(this.play.at >= this.end ? 0 : this.play.at), () => this.tick());
     }
     tick() {
         if (!this.play.next()) return this.stop();
@@ -105,23 +106,26 @@ class SolutionView {
         this.ticking = setTimeout(() => this.tick(), 1000 / pace);
     }
     stop() {
+        this.work.stop();
         clearTimeout(this.ticking);
         this.ticking = 0;
-        this.run.textContent = "play";
+        if (this.play) this.run.textContent = "play";
     }
     faster(by) {
         this.speed.value = pace = Math.max(1, Math.min(60, pace + by));
     }
 }
 
-// all letters of a solution, to be looked at and copied
-function wholeOf(text) {
+// all letters of a solution, to be looked at and copied; of millions the first ones
+function wholeOf(body) {
     const area = html("textarea", { readonly: "", rows: 4, "aria-label": "all letters" });
-    area.value = text;
     const copy = html("button", { id: "copy", onclick() {
         area.select();
         copy.textContent = document.execCommand("copy") ? "copied" : "press Ctrl+C";
     } }, "copy");
-    return html("details", { class: "whole" }, html("summary", {}, "all letters, to copy"),
-        area, copy);
+    let length = 0;
+    const some = body.filter(([, line]) => (length += line.length + 1) - line.length <= MOST_TO_COPY);
+    const words = length > MOST_TO_COPY ? "the first letters, to copy" : "all letters, to copy";
+    return html("details", { class: "whole", ontoggle: () => area.value ||= some.map(([, line]) => line).join("\n").slice(0, MOST_TO_COPY) },
+        html("summary", {}, words), area, copy);
 }

@@ -1,68 +1,130 @@
-//! A relay: a cell through which many boxes can be pushed to goals.
+//! Relays: cells through which many boxes can be pushed to goals.
 //!
 //! A flood by pulls finds the cells from which a box can be pushed to the relay. A flood by pushes finds the cells to which a box can
 //! be pushed from there. So a box on one of the former cells has an augmenting path to any free goal on one of the latter, and needs
 //! no search. Nor does a box that can be pushed to the goal of a box on one of the former cells.
 //!
-//! A relay serves most boxes among cells between which boxes can be pushed to and fro. So after a box that it can't serve it moves to a
-//! cell between this box and its goal, and picks one in a row with many such cells.
+//! A relay serves most boxes among cells between which boxes can be pushed to and fro. So after a box that no relay serves, one moves to a
+//! cell between this box and its goal, in a row with many such cells. There are two, because boxes of two corridors may take turns. If more
+//! corridors take turns, moves don't pay: the more there were, the more boxes take a flood each before the next one.
 ghost use Rattle.std.specs.Prelude.{◌≡◌, ◌↔◌, Some, None, true, IfOk, IfSome, IsTrue, MatchBool, MatchOption, slice_index_or};
-ghost use Rattle.cellset.specs.SortedList.{index};
 ghost use Rattle.std.specs.FinSet as set;
-ghost use Rattle.cellset.specs.Cell.{IsOn};
-ghost use Rattle.cellset.specs.CellSet.{Cells, Has};
-ghost use Rattle.cellset.specs.declared.cell.Cell.{Cell as GridCell};
-ghost use Rattle.reach.specs.Reached.{Reached, PushesTo};
-ghost use Rattle.board.specs.Game.{IsFloor};
-ghost use Rattle.maker.specs.Search.{HasEntries, IsFreeGoal, MatchesOneMore, Pairs};
-ghost use Rattle.maker.specs.Matching.{InReach};
-ghost use Rattle.maker.specs.Relay.{IsRelay, IsSameRelay, HasFreeGoal, IsReachOf, IsGivenGoal};
+ghost use Rattle.cellset.specs.{Cell.IsOn, CellSet.Cells, CellSet.Has, SortedList.index, declared.cell.Cell.Cell as GridCell};
+ghost use Rattle.reach.specs.Reached.{Reached};
+ghost use Rattle.board.specs.Game.{Level, IsFloor};
+ghost use Rattle.maker.specs.{Matching.InReach, Search.HasEntries, Search.IsFreeGoal, Search.MatchesOneMore, Search.Pairs, Relay.AreRelays, Relay.IsRelay, Relay.HasFreeGoal, Relay.IsReachOf, Relay.IsGivenGoal, Zones.SomeZoneRefutes};
 
 use board::Board;
-use cellset::{Cell, CellSet, Shape};
+use cellset::{Cell, CellSet, MembersOf, Shape};
 use reach::Rows;
 use reach::step::{ByPull, ByPush, Step};
 use std::alloc::{AllocError, Global};
+use std::mem::swap;
 
-/// A relay: the cells from which a box can be pushed to it (`sources`), the cells to which a box can be pushed from it (`targets`), and a
-/// free goal among the targets. It moves to the next box when no target is a free goal, and between a box and its goal when the box is no
-/// source.
+// The number of boxes, at most, that take a flood each before a relay moves. A move takes three floods.
+const PATIENCE: u8 = 16;
+
+/// Two relays: the last one used, and the other. A relay moves to the next box if no target is a free goal, and between a box and its goal
+/// if the box is no source.
 #[derive(Drop)]
-pub struct Relay<'r> {
+pub struct Relays<'r> {
     room: &'r Rows,
+    // The reach of the last box that was flooded.
+    reach: Rows,
+    last: Relay,
+    other: Relay,
+    // The number of moves between a box and its goal, up to `PATIENCE`, and the number of boxes still to be matched before the next.
+    moves: u8,
+    patience: u8,
+}
+
+/// A relay: the cells from which a box can be pushed to it, the cells to which one can be pushed from it, and a free goal among these.
+#[derive(Drop)]
+pub struct Relay {
     sources: Rows,
     targets: Rows,
     free: Option<Cell>,
-    // The reach of the last box that was flooded, until `spread` uses it as a scratch buffer.
-    reach: Rows,
-    // The goal that a source gave up last, since the relay moved. The next one is looked for from there on.
+    // The last goal that a source gave up since the relay moved. The next one is looked for from there on.
     given: Option<Cell>,
 }
 
-impl<'r> Relay<'r> {
-    /// Returns a relay without sources and targets.
-    pub fn new<S: CellSet>(
-        alloc: Global,
-        board: &'r Board<S>,
-        scratch: Rows,
-    ) -> Result<Relay<'r>, AllocError>
-        requires { scratch.extent ≡ board.now.shape }
-        ensures { IfOk result (IsRelay board.now) }
+impl Relay {
+    // Returns a relay without sources and targets.
+    fn new(alloc: Global, shape: Shape) -> Result<Relay, AllocError>
+        ensures { IfOk result (λ relay. (level : Level) → level.shape ≡ shape → IsRelay level relay) }
     {
-        let shape = board.shape();
         let sources = Rows::new(alloc, shape)?;
         let targets = Rows::new(alloc, shape)?;
         Ok(Relay {
-            room: board.rows(),
             sources,
             targets,
             free: None,
-            reach: scratch,
             given: None,
         })
     }
 
-    /// Returns the free goal of the relay, if a box can be pushed to it from a cell, as if there were no other boxes. If not, `store_reach`
+    /// Returns a relay at the first box. The cells of the rows don't matter.
+    pub fn at_first_box<S: CellSet>(board: &Board<S>, sources: Rows, targets: Rows) -> Relay
+        requires { (sources.extent ≡ board.now.shape) × (targets.extent ≡ board.now.shape) }
+        ensures { IsRelay board.now result }
+    {
+        let shape = board.shape();
+        let room = board.room_rows();
+        let mut relay = Relay {
+            sources,
+            targets,
+            // The first free goal is looked for from the first cell on.
+            free: shape.cell(1, 1),
+            given: None,
+        };
+        let Some(cell) = first_of(board.boxes()) else {
+            relay.sources.clear();
+            return relay;
+        };
+        flood::<ByPush>(&mut relay.targets, room, cell);
+        flood::<ByPull>(&mut relay.sources, room, cell);
+        relay
+    }
+
+    /// Returns true only if each box can be pushed to the relay and on to each goal, and there are enough goals.
+    pub fn serves_all<S: CellSet>(&self, board: &Board<S>) -> bool
+        requires { IsRelay board.now self.now }
+        ensures { IsTrue result → SomeZoneRefutes board.now → ⊥ }
+    {
+        if board.boxes().len() > board.goals().len() {
+            return false;
+        }
+        if !have_all(&self.targets, board.goals()) {
+            return false;
+        }
+        have_all(&self.sources, board.boxes())
+    }
+}
+
+impl<'r> Relays<'r> {
+    /// Returns a relay and another one without sources and targets.
+    pub fn new<S: CellSet>(
+        alloc: Global,
+        board: &'r Board<S>,
+        last: Relay,
+    ) -> Result<Relays<'r>, AllocError>
+        requires { IsRelay board.now last }
+        ensures { IfOk result (AreRelays board.now) }
+    {
+        let shape = board.shape();
+        let reach = Rows::new(alloc, shape)?;
+        let other = Relay::new(alloc, shape)?;
+        Ok(Relays {
+            room: board.room_rows(),
+            reach,
+            last,
+            other,
+            moves: 0,
+            patience: 0,
+        })
+    }
+
+    /// Returns the free goal of a relay, if a box can be pushed to it from a cell, as if there were no other boxes. If not, `copy_reach`
     /// knows every cell to which it can be pushed.
     pub fn goal_in_reach<S: CellSet>(
         &mut self,
@@ -70,126 +132,169 @@ impl<'r> Relay<'r> {
         matching: &[Option<Cell>],
         cell: Cell,
     ) -> Option<Cell>
-        requires relay { IsRelay board.now self.old }
+        requires relays { AreRelays board.now self.old }
         requires entries { HasEntries board.now.shape matching.now }
         requires floor { IsFloor board.now cell }
-        ensures relay { IsRelay board.now self.new }
+        ensures relays { AreRelays board.now self.new }
         ensures free { HasFreeGoal board.now matching.now self.new }
         ensures exact { MatchOption result (IsReachOf board.now cell self.new.reach.members)
             (λ goal. IsFreeGoal board.now matching.now goal × InReach board.now cell goal) }
     {
         // For the proof: the board is well formed.
         let _shape = board.shape();
-        let Some(goal) = next_free(board, matching, &self.targets, self.free) else {
+        self.turn_to(cell);
+        let from = unless_matched(board.shape(), matching, self.last.free);
+        let Some(goal) = next_free(board, matching, &self.last.targets, from) else {
             self.move_to(board, matching, cell);
             if let Some(goal) = self.goal_for(cell) {
                 return Some(goal);
             }
             // The relay has moved to the cell, so the targets are the cell's reach. Another flood would take `make` up to 2 % more.
-            self.reach.copy_from(&self.targets);
+            self.reach.copy_from(&self.last.targets);
             return None;
         };
-        self.free = Some(goal);
-        if self.sources.has(cell) {
+        self.last.free = Some(goal);
+        if self.last.sources.has(cell) {
             return Some(goal);
         }
         flood::<ByPush>(&mut self.reach, self.room, cell);
         if !self.reach.has(goal) {
             return None;
         }
-        self.move_toward(board, matching, goal);
+        self.follow(board, matching, goal);
         Some(goal)
     }
 
-    /// Returns the first free goal in the reach of the last box, and moves toward it.
+    // Turns to the other relay if a box can be pushed from the cell to it alone.
+    fn turn_to(&mut self, cell: Cell)
+        ensures relays { (level : Level) → AreRelays level self.old → AreRelays level self.new }
+    {
+        if !self.last.sources.has(cell) && self.other.sources.has(cell) {
+            self.turn();
+        }
+    }
+
+    // Turns to the other relay.
+    fn turn(&mut self)
+        ensures relays { (level : Level) → AreRelays level self.old → AreRelays level self.new }
+    {
+        swap(&mut self.last, &mut self.other);
+    }
+
+    /// Returns the first free goal in the reach of the last box. A relay may move toward it.
     pub fn other_goal<S: CellSet>(
         &mut self,
         board: &Board<S>,
         matching: &[Option<Cell>],
     ) -> Option<Cell>
-        requires relay { IsRelay board.now self.old }
+        requires relays { AreRelays board.now self.old }
         requires entries { HasEntries board.now.shape matching.now }
-        ensures relay { IsRelay board.now self.new }
+        ensures relays { AreRelays board.now self.new }
         ensures exact { MatchOption result (self.new ≡ self.old)
             (λ goal. Has self.old.reach.members goal × IsFreeGoal board.now matching.now goal) }
     {
         let goal = next_free(board, matching, &self.reach, board.shape().cell(1, 1))?;
-        self.move_toward(board, matching, goal);
+        self.follow(board, matching, goal);
         Some(goal)
+    }
+
+    // Moves a relay toward the goal of a box that isn't a source, unless there were too many moves.
+    fn follow<S: CellSet>(&mut self, board: &Board<S>, matching: &[Option<Cell>], goal: Cell)
+        requires relays { AreRelays board.now self.old }
+        requires entries { HasEntries board.now.shape matching.now }
+        requires on { IsOn board.now.shape goal }
+        ensures relays { AreRelays board.now self.new }
+        ensures free { HasFreeGoal board.now matching.now self.old → HasFreeGoal board.now matching.now self.new }
+    {
+        if self.patience > 0 {
+            self.patience -= 1;
+            return;
+        }
+        if self.moves < PATIENCE {
+            self.moves += 1;
+        }
+        self.patience = self.moves;
+        self.move_toward(board, matching, goal);
     }
 
     // Moves the relay to a cell, and finds the first free goal among the targets.
     fn move_to<S: CellSet>(&mut self, board: &Board<S>, matching: &[Option<Cell>], cell: Cell)
-        requires relay { IsRelay board.now self.old }
+        requires relays { AreRelays board.now self.old }
         requires entries { HasEntries board.now.shape matching.now }
         requires on { IsOn board.now.shape cell }
-        ensures relay { IsRelay board.now self.new }
+        ensures relays { AreRelays board.now self.new }
         ensures free { HasFreeGoal board.now matching.now self.new }
-        ensures reach { IsReachOf board.now cell self.new.targets.members }
+        ensures reach { IsReachOf board.now cell self.new.last.targets.members }
     {
-        flood::<ByPush>(&mut self.targets, self.room, cell);
-        self.free = next_free(board, matching, &self.targets, board.shape().cell(1, 1));
-        self.given = None;
-        if self.free.is_some() {
-            flood::<ByPull>(&mut self.sources, self.room, cell);
+        flood::<ByPush>(&mut self.last.targets, self.room, cell);
+        self.last.free = next_free(
+            board,
+            matching,
+            &self.last.targets,
+            board.shape().cell(1, 1),
+        );
+        self.last.given = None;
+        if self.last.free.is_some() {
+            flood::<ByPull>(&mut self.last.sources, self.room, cell);
         } else {
             // The relay leads to no goal.
-            self.sources.clear();
+            self.last.sources.clear();
         }
     }
 
-    // Moves to a cell of the reach from which a box can be pushed to the goal, or to the goal if there is none.
+    // Moves the other relay to a cell of the reach from which a box can be pushed to the goal, or to the goal if there is none.
     fn move_toward<S: CellSet>(&mut self, board: &Board<S>, matching: &[Option<Cell>], goal: Cell)
-        requires relay { IsRelay board.now self.old }
+        requires relays { AreRelays board.now self.old }
         requires entries { HasEntries board.now.shape matching.now }
         requires on { IsOn board.now.shape goal }
-        ensures relay { IsRelay board.now self.new }
+        ensures relays { AreRelays board.now self.new }
         ensures free { HasFreeGoal board.now matching.now self.new }
     {
+        self.turn();
         // The targets are a scratch buffer until the relay has moved, so no source may lead to them.
-        self.sources.clear();
-        flood::<ByPull>(&mut self.targets, self.room, goal);
-        let between = common_cell(&self.reach, &self.targets).unwrap_or(goal);
+        self.last.sources.clear();
+        flood::<ByPull>(&mut self.last.targets, self.room, goal);
+        let between = common_cell(&self.reach, &self.last.targets).unwrap_or(goal);
         self.move_to(board, matching, between);
     }
 
-    /// Moves to a cell that a search visited on its way to a goal.
+    /// Moves a relay to a cell that a search visited on its way to a goal.
     pub fn move_after<S: CellSet>(
         &mut self,
         board: &Board<S>,
         matching: &[Option<Cell>],
-        visited: &S,
+        visited: &Rows,
         goal: Cell,
     )
-        requires relay { IsRelay board.now self.old }
+        requires relays { AreRelays board.now self.old }
         requires entries { HasEntries board.now.shape matching.now }
-        requires visited { S.extent visited.now ≡ board.now.shape }
+        requires visited { visited.now.extent ≡ board.now.shape }
         requires on { IsOn board.now.shape goal }
-        ensures relay { IsRelay board.now self.new }
+        ensures relays { AreRelays board.now self.new }
     {
-        self.reach.load(visited);
+        self.reach.copy_from(visited);
         self.move_toward(board, matching, goal);
     }
 
-    /// Matches a box whose reach the relay has to the goal of a source, and the source to the free goal. Returns false and changes nothing if
-    /// there is no free goal, or no goal of a source from the last such one on.
+    /// Matches a box whose reach the relays have to the goal of a source, and the source to the free goal. Returns false and changes nothing
+    /// if there is no free goal, or no goal of a source from the last such one on.
     pub fn pass_on<S: CellSet>(
         &mut self,
         board: &Board<S>,
         matching: &mut [Option<Cell>],
         start: Cell,
     ) -> bool
-        requires relay { IsRelay board.now self.old }
+        requires relays { AreRelays board.now self.old }
         requires entries { HasEntries board.now.shape matching.old }
         requires free { HasFreeGoal board.now matching.old self.old }
         requires reach { IsReachOf board.now start self.old.reach.members }
-        ensures relay { IsRelay board.now self.new }
+        ensures relays { AreRelays board.now self.new }
         ensures entries { HasEntries board.now.shape matching.new }
         ensures exact { MatchBool result (MatchesOneMore board.now matching.old start matching.new)
             ((self.new ≡ self.old) × (matching.new ≡ matching.old)) }
     {
         let shape = board.shape();
-        let Some(free) = self.free else {
+        let Some(free) = self.last.free else {
             return false;
         };
         let Some(goal) = self.goal_to_give(board, matching) else {
@@ -197,18 +302,18 @@ impl<'r> Relay<'r> {
         };
         matching[shape.index_of(free)] = matching[shape.index_of(goal)];
         matching[shape.index_of(goal)] = Some(start);
-        self.given = Some(goal);
+        self.last.given = Some(goal);
         true
     }
 
     // Returns the first goal, from the last given one on, that is in the reach of the last box and matched to a source.
     fn goal_to_give<S: CellSet>(&self, board: &Board<S>, matching: &[Option<Cell>]) -> Option<Cell>
-        requires relay { IsRelay board.now self.now }
+        requires relays { AreRelays board.now self.now }
         requires entries { HasEntries board.now.shape matching.now }
         ensures { IfSome result (λ goal. IsGivenGoal board.now matching.now self.now goal) }
     {
         let shape = board.shape();
-        let mut from = match self.given {
+        let mut from = match self.last.given {
             Some(goal) => Some(goal),
             None => shape.cell(1, 1),
         };
@@ -227,7 +332,7 @@ impl<'r> Relay<'r> {
         requires entries { HasEntries shape matching.now }
         requires on { IsOn shape goal }
         ensures { IsTrue result → Has self.now.reach.members goal
-            × ((b : GridCell) × Pairs shape matching.now goal b × Has self.now.sources.members b) }
+            × ((b : GridCell) × Pairs shape matching.now goal b × Has self.now.last.sources.members b) }
     {
         if !self.reach.has(goal) {
             return false;
@@ -235,43 +340,35 @@ impl<'r> Relay<'r> {
         let Some(matched_box) = matching[shape.index_of(goal)] else {
             return false;
         };
-        self.sources.has(matched_box)
+        self.last.sources.has(matched_box)
     }
 
     /// Returns the free goal, if there is one and a box can be pushed from the cell to the relay.
     pub fn goal_for(&self, cell: Cell) -> Option<Cell>
-        ensures { IfSome result (λ goal. (self.now.free ≡ Some goal) × Has self.now.sources.members cell) }
+        ensures { IfSome result (λ goal. (self.now.last.free ≡ Some goal) × Has self.now.last.sources.members cell) }
     {
-        let goal = self.free?;
-        if self.sources.has(cell) {
+        let goal = self.last.free?;
+        if self.last.sources.has(cell) {
             Some(goal)
         } else {
             None
         }
     }
 
-    /// Replaces the members of a set by the reach of the last box for which `goal_in_reach` found no goal.
-    pub fn store_reach<S: CellSet>(&self, cells: &mut S)
-        requires { self.now.reach.extent ≡ S.extent cells.old }
-        ensures extent { S.extent cells.new ≡ S.extent cells.old }
-        ensures members { (c : GridCell) → Has (S.members cells.new) c ↔ Has self.now.reach.members c }
+    /// Returns whether a cell is in the reach of the last box for which `goal_in_reach` found no goal.
+    pub fn reaches(&self, cell: Cell) -> bool
+        ensures { IsTrue result ↔ Has self.now.reach.members cell }
     {
-        cells.clear();
-        self.reach.store(cells);
+        self.reach.has(cell)
     }
 
-    /// Adds to a set every cell to which a box can be pushed from one of its cells, if there are no other boxes.
-    pub fn spread<S: CellSet>(&mut self, cells: &mut S)
-        requires scratch { self.old.reach.extent ≡ S.extent cells.old }
-        requires room { self.old.room.now.extent ≡ S.extent cells.old }
-        ensures same { IsSameRelay self.old self.new }
-        ensures extent { S.extent cells.new ≡ S.extent cells.old }
-        ensures exact { (c : GridCell) → Has (S.members cells.new) c
-            ↔ Reached (PushesTo (Has self.old.room.now.members)) (Has (S.members cells.old)) c }
+    /// Replaces the members of rows by the reach of the last box for which `goal_in_reach` found no goal.
+    pub fn copy_reach(&self, cells: &mut Rows)
+        requires { cells.old.extent ≡ self.now.reach.extent }
+        ensures extent { cells.new.extent ≡ cells.old.extent }
+        ensures members { cells.new.members ≡ self.now.reach.members }
     {
-        self.reach.load(cells);
-        self.reach.grow::<ByPush>(self.room);
-        self.reach.store(cells);
+        cells.copy_from(&self.reach);
     }
 }
 
@@ -306,6 +403,38 @@ fn common_cell(cells: &Rows, others: &Rows) -> Option<Cell>
         }
     }
     found
+}
+
+// Returns the first cell of a set, in reading order.
+fn first_of<S: CellSet>(cells: &S) -> Option<Cell>
+    ensures { IfSome result (IsOn (S.extent cells.now)) }
+{
+    cells.next_from(cells.shape().cell(1, 1)?)
+}
+
+// Returns true only if the rows have every cell of a set.
+fn have_all<S: CellSet>(rows: &Rows, cells: &S) -> bool
+    ensures { IsTrue result → (c : GridCell) → Has (S.members cells.now) c → Has rows.now.members c }
+{
+    for cell in MembersOf::new(cells) {
+        if !rows.has(cell) {
+            return false;
+        }
+    }
+    true
+}
+
+// Returns a goal, or the cell after it if it is matched to a box.
+fn unless_matched(shape: Shape, matching: &[Option<Cell>], goal: Option<Cell>) -> Option<Cell>
+    requires entries { HasEntries shape matching.now }
+    requires on { IfSome goal (IsOn shape) }
+    ensures { IfSome result (IsOn shape) }
+{
+    let goal = goal?;
+    if matching[shape.index_of(goal)].is_some() {
+        return shape.next(goal);
+    }
+    Some(goal)
 }
 
 // Returns the first goal, in reading order from a cell on, that is in the rows and matched to no box.

@@ -17,4 +17,4 @@ pub returns-clause-unsolvable : goal.returns-clause-unsolvable
 returns-clause-unsolvable g c =
     let zone = cells_of (said_zone c.args.zone.now).cells in
     where_ok (λ accepted. accepted.cells ≡ len zone) c.check_by_counts.result
-    (refuting_unsolvable c.args.board.now zone c.shape-shape.ensures.formed) c.check_by_counts.ensures.ok
+    (refuting_unsolvable c.args.board.now zone c.check_by_counts.ensures.formed) c.check_by_counts.ensures.ok

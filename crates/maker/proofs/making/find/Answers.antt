@@ -36,7 +36,7 @@ returns-then-meets-clause-lawful g c =
 
 pub find_other-requires : goal.find_other-requires
 find_other-requires g c = record {
-  extent = c.in_ok-dead.ensures.extent;
+  extents = (c.in_ok-dead.ensures.extent, c.in_ok-dead.ensures.live);
   exact = c.in_ok-dead.ensures.exact;
   apart = rw c.boxes.ensures.members at c.if-meets.ensures;
 }

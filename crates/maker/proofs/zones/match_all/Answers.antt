@@ -15,7 +15,7 @@ loop-cell-init g c =
       all = rw c.into_iter-cell-iterator.ensures.into_iter_gives (rw (c.boxes.ensures.members, c.boxes.ensures.extent) at c.new-cell-items.ensures);
       ready = c.requires.ready;
       entries = c.requires.entries;
-      relay = c.requires.relay;
+      relays = c.requires.relays;
       so_far = matched_none level c.args.matching.now (pairs_none level.shape c.args.matching.now c.requires.unmatched);
     }
 
@@ -29,7 +29,7 @@ match_box-requires g c =
       entries = inv.entries;
       valid = (inv.so_far.matched, inv.so_far.valid);
       start = (next_has c.loop-cell.yielded c.next.new.self c.in-Some.cell whole).0;
-      relay = inv.relay;
+      relays = inv.relays;
     }
 
 pub returns-then-not-match_box-clause-exact : goal.returns-then-not-match_box-clause-exact
@@ -37,7 +37,7 @@ returns-then-not-match_box-clause-exact g c =
     let level = c.args.board.now in
     let whole = rw c.in-Some.ensures.steps at c.loop-cell.invariant.all in
     violator_here level c.loop-cell.yielded c.next.new.self c.in-Some.cell c.loop-cell.matching whole c.loop-cell.invariant.so_far
-    (g.S.CellSet.members c.match_box.new.search.visited) c.if-not-match_box.ensures.exact
+    c.match_box.new.search.visited.members c.if-not-match_box.ensures.exact
 
 pub loop-cell-preserved : goal.loop-cell-preserved
 loop-cell-preserved g c =
@@ -49,7 +49,7 @@ loop-cell-preserved g c =
       all = next_came c.loop-cell.yielded c.next.new.self c.in-Some.cell whole;
       ready = c.match_box.ensures.ready;
       entries = c.match_box.ensures.entries;
-      relay = c.match_box.ensures.relay;
+      relays = c.match_box.ensures.relays;
       so_far = matched_more level c.loop-cell.yielded c.next.new.self c.in-Some.cell c.loop-cell.matching whole c.loop-cell.invariant.so_far
           c.match_box.new.matching c.if-not-match_box.ensures.exact;
     }

@@ -1,13 +1,13 @@
 -- There are five ways out. A free goal in the reach of the box can be matched to it at once, whether it is the relay's or another one.
--- `pass_on` may match the box. If it doesn't, it changes nothing. If `find_path` finds no path, its Hall violator is passed on. Otherwise
--- `flip` matches one box more. The relay stays sound, because `find_path` changes only the reach of the last box.
+-- `pass_on` may match the box. If it doesn't, it changes nothing. If the search finds no path, its Hall violator is passed on. Otherwise
+-- `flip` matches one box more.
 use Rattle.std.proofs.Common.{◌≡◌, ◌∙◌, ap}
 use Rattle.std.proofs.lemmas.List.{length-set}
 use Rattle.cellset.specs.Shape.{Extent}
 use Rattle.cellset.specs.SortedList.{index}
 use Rattle.cellset.specs.CellSet.{Has}
-use Rattle.maker.proofs.Violators.{free_matched}
-use Rattle.maker.proofs.Relays.{pushed_reach, relay_kept}
+use Rattle.maker.proofs.Flipping.{free_matched}
+use Rattle.maker.proofs.Relays.{pushed_reach}
 use Rattle.maker.proofs.zones.match_box.Goals as goal
 
 pub returns-in-Some : goal.returns-in-Some
@@ -19,7 +19,7 @@ returns-in-Some g c =
     record {
       ready = c.requires.ready;
       entries = length-set c.args.matching.now c.index_of.result _ ∙ c.requires.entries;
-      relay = c.goal_in_reach.ensures.relay;
+      relays = c.goal_in_reach.ensures.relays;
       exact = rw at (free_matched level c.args.matching.now c.args.start c.in-Some.goal c.requires.entries free near);
     }
 
@@ -36,38 +36,47 @@ returns-in-Some-other_goal-clause-exact g c =
     ((reach.exact to).0 (rw relay at has)) in
     rw (at, matching) (free_matched level c.args.matching.now c.args.start to c.requires.entries (rw matching at free) near)
 
-pub find_path-requires : goal.find_path-requires
-find_path-requires g c =
+pub begin-requires : goal.begin-requires
+begin-requires g c =
     let (relay, matching) = c.if-pass_on.ensures.exact in
     let other = c.in_default-other_goal.ensures.exact in
     record {
       ready = c.requires.ready;
-      entries = rw matching c.requires.entries;
-      valid = rw matching c.requires.valid;
       start = c.requires.start;
-      relay = c.other_goal.ensures.relay;
-      free = rw (other, relay, matching) c.goal_in_reach.ensures.free;
+      extent = c.other_goal.ensures.relays.reach_on;
       reach = rw (other, relay) c.in_default.ensures.exact;
     }
 
-pub returns-in_default-find_path : goal.returns-in_default-find_path
-returns-in_default-find_path g c =
+pub find_free_goal-requires : goal.find_free_goal-requires
+find_free_goal-requires g c =
+    let (relay, matching) = c.if-pass_on.ensures.exact in
+    let other = c.in_default-other_goal.ensures.exact in
+    record {
+      ready = c.begin.ensures.ready;
+      entries = rw matching c.requires.entries;
+      valid = rw matching c.requires.valid;
+      search = (c.args.start, c.begin.ensures.search _);
+      free = rw (other, relay, matching) c.goal_in_reach.ensures.free;
+    }
+
+pub returns-in_default-find_free_goal : goal.returns-in_default-find_free_goal
+returns-in_default-find_free_goal g c =
     let (_, matching) = c.if-pass_on.ensures.exact in
     record {
-      ready = c.find_path.ensures.ready;
+      ready = c.find_free_goal.ensures.ready;
       entries = rw matching c.requires.entries;
-      relay = relay_kept c.args.board.now c.other_goal.new.self _ c.find_path.ensures.same c.other_goal.ensures.relay;
-      exact = rw matching at c.in_default-find_path.ensures.exact;
+      relays = c.other_goal.ensures.relays;
+      exact = rw matching at (c.in_default-find_free_goal.ensures.exact c.args.start (c.begin.ensures.search _));
     }
 
 pub move_after-requires : goal.move_after-requires
 move_after-requires g c =
     let (_, matching) = c.if-pass_on.ensures.exact in
     record {
-      relay = relay_kept c.args.board.now c.other_goal.new.self _ c.find_path.ensures.same c.other_goal.ensures.relay;
+      relays = c.other_goal.ensures.relays;
       entries = rw matching c.requires.entries;
-      visited = c.find_path.ensures.ready.grid;
-      on = c.in-Some-find_path.ensures.exact.free.on;
+      visited = c.find_free_goal.ensures.ready.grid;
+      on = (c.in-Some-find_free_goal.ensures.exact c.args.start (c.begin.ensures.search _)).free.on;
     }
 
 pub flip-requires : goal.flip-requires
@@ -75,15 +84,18 @@ flip-requires g c =
     let (_, matching) = c.if-pass_on.ensures.exact in
     record {
       entries = rw matching c.requires.entries;
-      found = (g.S.CellSet.members c.find_path.new.search.visited, rw c.deref.ensures.value c.in-Some-find_path.ensures.exact);
+      found = (
+        c.find_free_goal.new.self.visited.members,
+        rw c.deref.ensures.value (c.in-Some-find_free_goal.ensures.exact c.args.start (c.begin.ensures.search _)),
+      );
     }
 
 pub returns : goal.returns
 returns g c =
     let (_, matching) = c.if-pass_on.ensures.exact in
     record {
-      ready = c.find_path.ensures.ready;
+      ready = c.find_free_goal.ensures.ready;
       entries = c.flip.ensures.entries;
-      relay = c.move_after.ensures.relay;
+      relays = c.move_after.ensures.relays;
       exact = rw matching at c.flip.ensures.valid;
     }

@@ -14,7 +14,7 @@ match_all-are_matched-requires-clause-unmatched g c = λ k.
 
 pub match_all-are_matched-requires-clause-ready : goal.match_all-are_matched-requires-clause-ready
 match_all-are_matched-requires-clause-ready g c = record {
-  grid = c.in_ok-visited.ensures.extent ∙ c.shape-shape.ensures.value;
+  grid = c.in_ok-visited.ensures.0 ∙ c.shape-shape.ensures.value;
   room = rw (← c.shape-shape.ensures.value, ← c.width.ensures.value, ← c.height.ensures.value) c.in_ok-queue.ensures.capacity;
 }
 

@@ -41,11 +41,11 @@ take_out-requires g c =
     let lt = rw (c.len-group-end.ensures ∙ groups.spans.ok.0) at c.loop-group-test.true in
     let to = sym c.loop-group.invariant.free_on in
     record {
-      room = c.rows-room.ensures.extent ∙ to;
+      room = c.room_rows-room.ensures.extent ∙ to;
       on = λ q has. either has
-          (λ in_room. rw to at (formed.room q (rw c.rows-room.ensures.members at in_room)).0)
+          (λ in_room. rw to at (formed.room q (rw c.room_rows-room.ensures.members at in_room)).0)
           (λ box. rw to at (boxes_on c.args.board.now groups c.requires.lawful c.requires.groups c.loop-group.group lt _ c.boxes-boxes.ensures q box));
-      whole = rw c.rows-room.ensures.members (room_is_one c.args.board.now formed);
+      whole = rw c.room_rows-room.ensures.members (room_is_one c.args.board.now formed);
     }
 
 pub find_region-whole-requires : goal.find_region-whole-requires
@@ -82,7 +82,7 @@ loop-group-preserved g c =
     let free = c.take_out.new.self.free.members in
     let region = c.found-region.result.now.members in
     let is_free : (q : Cell) → Has free q ↔ (Has level.room q × Lacks (cells_in (boxes_of groups n)) q) = λ q.
-    rw (← c.boxes-boxes.ensures, ← c.rows-room.ensures.members) (c.take_out.ensures.free q) in
+    rw (← c.boxes-boxes.ensures, ← c.room_rows-room.ensures.members) (c.take_out.ensures.free q) in
     let chosen = rw found.same.0 at c.found-region.ensures.members in
     let exact : IsFlooded groups n free region = chosen_has (IsFlooded groups n free) c.find_region-whole.result _ _ region chosen found.exact in
     let position : (q : Cell) → Has region q ↔ InPatternRegion level (position_at level groups n) q = λ q.

@@ -7,7 +7,7 @@ use Rattle.cellset.{specs.CellSet.Has, specs.declared.cell.Cell.Cell, proofs.Mem
 use Rattle.board.specs.Game.{moved}
 use Rattle.patterns.{specs.Sides.cell_no, specs.Sides.cells_in, proofs.CellLists.each_of, proofs.CellLists.in_list, proofs.CellLists.no_cell}
 use Rattle.patterns.proofs.pushes.number_after.Goals as goal
-use Rattle.patterns.proofs.pushes.number_after.Goals.{then-number-pushed+in_ok-number_of, else-number-pushed+else-not-is_same}
+use Rattle.patterns.proofs.pushes.number_after.Goals.{then-number-pushed+in_ok-passed, else-number-pushed+else-not-is_same}
 
 pub loop-number-preserved-then-is_same : goal.loop-number-preserved-then-is_same
 loop-number-preserved-then-is_same c =
@@ -26,7 +26,7 @@ loop-number-preserved c =
     let push = c.args.push in
     let at = get_or c.args.after.now c.loop-number.number no_cell in
     let box : (n : ℕ) × (n < length list) × (cell_no list n ≡ at) = elim c.if-number-pushed.branch [
-      | then-number-pushed+in_ok-number_of w ↦ (w.in_ok-number_of.field-0, w.in_ok-number_of.ensures.0, w.in_ok-number_of.ensures.1)
+      | then-number-pushed+in_ok-passed w ↦ (_, w.in_ok-passed.ensures.0, w.in_ok-passed.ensures.1)
       | else-number-pushed+else-not-is_same w ↦ (c.loop-number.number, w.if-number-pushed.false, w.if-not-is_same.ensures)
     ] in
     record {

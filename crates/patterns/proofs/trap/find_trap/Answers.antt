@@ -14,7 +14,7 @@ pub returns-then-is_closed-clause-trap : goal.returns-then-is_closed-clause-trap
 returns-then-is_closed-clause-trap g c = record {
   extent = c.add_singles-all_single.ensures.extent ∙ c.requires.extent;
   singles = c.add_singles-all_single.ensures.singles;
-  closed = rw c.rows.ensures.members at (c.in_ok-is_closed.ensures.0 c.if-is_closed.true);
+  closed = rw c.room_rows.ensures.members at (c.in_ok-is_closed.ensures.0 c.if-is_closed.true);
 }
 
 pub returns-clause-trap : goal.returns-clause-trap

@@ -12,6 +12,4 @@ pub build-requires-clause-trap : goal.build-requires-clause-trap
 build-requires-clause-trap g c = no_trap _ _ _ (c.in_ok-trap.ensures.0 ∙ c.shape-2.ensures.value) c.in_ok-trap.ensures.1
 
 pub returns-clause-exact : goal.returns-clause-exact
-returns-clause-exact g c =
-    rw (c.in_ok-filled.ensures.level, c.in_ok-filled.ensures.same, c.in_ok-tables.ensures.level, c.in_ok-tables.ensures.same, c.in_ok-arena.ensures)
-    (λ s. (λ h. h, λ h. h))
+returns-clause-exact g c = rw (c.in_ok-tables.ensures.level, c.in_ok-tables.ensures.same, c.in_ok-arena.ensures) (λ s. (λ h. h, λ h. h))

@@ -32,5 +32,5 @@ returns g c =
           (fault_not_closed level lines) (one_pattern_fault level lines) (λ accepted. accepted.patterns ≡ length lines) result
           (rw (rw c.in_default.is at is).0 at c.check_lines.ensures.ok) (rw (rw c.in_default.is at is).0 at c.check_lines.ensures.exact) fault;
       unsolvable = λ lines is. where_ok (λ accepted. accepted.patterns ≡ length lines) result
-          (closed_unsolvable level (patterns_of lines) c.shape-shape.ensures.formed) (rw (rw c.in_default.is at is).0 at c.check_lines.ensures.ok);
+          (closed_unsolvable level (patterns_of lines) c.check_lines.ensures.formed) (rw (rw c.in_default.is at is).0 at c.check_lines.ensures.ok);
     }

@@ -13,4 +13,4 @@ pub returns-in-None-clause-exact : goal.returns-in-None-clause-exact
 returns-in-None-clause-exact g c = λ q.
     let level = c.args.board.now in
     let boxes = cells_in c.args.pattern.boxes.now in
-    rw (c.take_out.ensures.members, c.copy_from.ensures.members, c.room.ensures.members, c.in-None.is) (room_region level c.shape-shape.ensures.formed boxes q)
+    rw (c.take_out.ensures.members, c.copy_from.ensures.members, c.room.ensures.members, c.in-None.is) (room_region level c.room.ensures.formed boxes q)

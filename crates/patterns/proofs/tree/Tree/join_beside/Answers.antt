@@ -4,8 +4,8 @@
 -- and there is one node more. In each the neighbour isn't left afterwards, if it is in the room.
 use Rattle.std.proofs.{Common.set, Common.refl, Common.sym, Common.◌∙◌, Common.ap, Common.subst, Common.arith, lemmas.List.get_or_read}
 use Rattle.std.specs.Vec.{with_item}
-use Rattle.cellset.{specs.Cell.neighbor, proofs.Members.remove_absent}
-use Rattle.patterns.specs.{CellIndex.index_of, SpanningTree.IsGrowing, declared.tree.Node.Node, declared.tree.Tree.Tree}
+use Rattle.cellset.{specs.Cell.neighbor, specs.SortedList.index, proofs.Members.remove_absent}
+use Rattle.patterns.specs.{SpanningTree.IsGrowing, declared.tree.Node.Node, declared.tree.Tree.Tree}
 use Rattle.patterns.proofs.{Counts.len-remove_member, Spanning.lacks_remove, Spanning.laid_more, Lists.length_more}
 use Rattle.patterns.proofs.Sets.{removed_lacks}
 use Rattle.patterns.proofs.tree.Tree.join_beside.Goals as goal
@@ -22,11 +22,23 @@ returns-then-not-remove-clause-kept g c = grind (arith, lacks_remove)
 pub returns-then-not-remove-clause-beside : goal.returns-then-not-remove-clause-beside
 returns-then-not-remove-clause-beside g c = grind (arith, get_or_read, removed_lacks)
 
+pub returns-in_err-parent-clause-kept : goal.returns-in_err-parent-clause-kept
+returns-in_err-parent-clause-kept g c = grind (arith, lacks_remove)
+
+pub returns-in_err-parent-clause-beside : goal.returns-in_err-parent-clause-beside
+returns-in_err-parent-clause-beside g c = grind (arith, get_or_read, removed_lacks)
+
 pub returns-in_err-push-clause-kept : goal.returns-in_err-push-clause-kept
 returns-in_err-push-clause-kept g c = grind (arith, lacks_remove)
 
 pub returns-in_err-push-clause-beside : goal.returns-in_err-push-clause-beside
 returns-in_err-push-clause-beside g c = grind (arith, get_or_read, removed_lacks)
+
+pub returns-in_err-number-clause-kept : goal.returns-in_err-number-clause-kept
+returns-in_err-number-clause-kept g c = grind (arith, lacks_remove)
+
+pub returns-in_err-number-clause-beside : goal.returns-in_err-number-clause-beside
+returns-in_err-number-clause-beside g c = grind (arith, get_or_read, removed_lacks)
 
 pub returns-clause-growing : goal.returns-clause-growing
 returns-clause-growing g c =
@@ -34,13 +46,13 @@ returns-clause-growing g c =
     let left = g.S.CellSet.members c.args.left.now in
     let to_cell = λ (s : Node). ap (λ x. neighbor x.cell c.args.dir)
     (sym (get_or_read old.nodes.items c.args.from c.index.result.now c.requires.from c.index.ensures s)) ∙ sym c.in-Some.ensures.1 in
-    let s : Node = record { cell = c.in-Some.cell; dir = c.opposite.result; parent = c.args.from } in
-    let new : Tree = record { numbers = with_item old.numbers c.index_of.result c.len.result; nodes = c.push.new.self } in
+    let s : Node = record { cell = c.in-Some.cell; dir = c.opposite.result; parent = c.in_ok-parent.parent } in
+    let new : Tree = record { numbers = with_item old.numbers c.index_of-at.result c.in_ok-number.number; nodes = c.push.new.self } in
     subst (λ t. IsGrowing c.args.board.now t new) (sym c.remove.ensures.members)
     (laid_more c.args.board.now c.shape.ensures.formed left old c.requires.growing c.args.from c.in-Some.cell c.args.dir s c.requires.from
-    (sym c.if-not-remove.ensures.was_there) to_cell refl c.opposite.ensures refl new
-    (ap (λ p. set old.numbers.items p c.len.result) c.index_of.ensures ∙ ap (set old.numbers.items (index_of c.in-Some.cell)) (c.len.ensures ∙
-    old.nodes.ok.0))
+    (sym c.if-not-remove.ensures.was_there) to_cell refl c.opposite.ensures c.in_ok-parent.ensures.value new
+    (ap (λ p. set old.numbers.items p c.in_ok-number.number) (c.index_of-at.ensures.value ∙ ap (λ e. index e c.in-Some.cell) c.shape-2.ensures.value) ∙ ap (set old.numbers.items (index c.args.board.now.shape c.in-Some.cell)) (c.in_ok-number.ensures.value ∙ (c.len.ensures ∙
+    old.nodes.ok.0)))
     c.in_ok-push.ensures.items)
 
 pub returns-clause-sum : goal.returns-clause-sum

@@ -11,7 +11,7 @@ returns-in-Some-clause-traced g c = λ start is_search.
     let is = read_visit c.args.self.now.queue.items c.args.at c.index-here.result.now c.requires.at c.index-here.ensures in
     traced_last c.args.board.now c.args.matching.now start _ c.args.self.now.queue.items c.args.at c.index-here.result.now c.in-Some.goal is_search
     c.requires.at is
-    ((goal_of c.args.board.now c.args.matching.now c.args.relay.now _ c.in-Some.ensures.0 c.requires.free).1 c.index-here.result.now.cell c.in-Some.ensures.1)
+    ((goal_of c.args.board.now c.args.matching.now c.args.relays.now _ c.in-Some.ensures.0 c.requires.free).1 c.index-here.result.now.cell c.in-Some.ensures.1)
 
 pub returns-then-enqueue_matched-clause-traced : goal.returns-then-enqueue_matched-clause-traced
 returns-then-enqueue_matched-clause-traced g c = λ start is_search.

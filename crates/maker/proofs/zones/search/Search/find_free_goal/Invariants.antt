@@ -5,13 +5,12 @@ use Rattle.maker.proofs.zones.search.Search.find_free_goal.Given as goal
 
 abbrev pub invariant-loop-at : goal.invariant-loop-at
 invariant-loop-at g l =
-    let members = g.S.CellSet.members in
     record {
-      ready : IsReady l.board.shape (g.S.CellSet.extent l.self.visited) (vec_capacity l.self.queue);
-      search : (start : Cell) → IsSearch l.board l.matching start (members l.fn.self.visited) l.fn.self.queue.items
-          → IsSearch l.board l.matching start (members l.self.visited) l.self.queue.items;
+      ready : IsReady l.board.shape l.self.visited.extent (vec_capacity l.self.queue);
+      search : (start : Cell) → IsSearch l.board l.matching start l.fn.self.visited.members l.fn.self.queue.items
+          → IsSearch l.board l.matching start l.self.visited.members l.self.queue.items;
       expanded : (i : ℕ) → i < l.at → i < length l.self.queue.items
-          → IsExpanded l.board l.matching (members l.self.visited) (cell_visited l.self.queue.items i);
+          → IsExpanded l.board l.matching l.self.visited.members (cell_visited l.self.queue.items i);
     }
 
 abbrev pub decreases-loop-at : goal.decreases-loop-at

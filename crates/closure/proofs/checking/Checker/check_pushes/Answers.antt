@@ -1,0 +1,156 @@
+-- The invariant says that the list covers the pushes out of each line so far. If it covers those out of a group, because its note says so, or a
+-- box is on the trap, or no push is left, it covers those out of its lines (`pattern_of_group` in `GroupPushes.antt`). For any other line
+-- `first_left` decides. If it returns a push, that is the line's first one whose result isn't covered, and the lines before it are fine, so it is
+-- the first fault of the list (`FirstLines.antt`).
+use Rattle.std.proofs.Common.{◌≡◌, ℕ, true, false, ◌<◌, List, length, refl, sym, ◌∙◌, ap, arith}
+use Rattle.std.{specs.Prelude.slice_index, proofs.lemmas.Bool.eqb-true, proofs.lemmas.List.get_or-map, proofs.lemmas.List.length-map}
+use Rattle.cellset.proofs.Truth.{either}
+use Rattle.reach.specs.declared.pushes.Push.{Push as PushOut}
+use Rattle.board.specs.Game.{Level}
+use Rattle.answers.specs.Body.{PatternLine}
+use Rattle.patterns.specs.{Arena.line_at, Arena.line_in, Arena.lines_in, Arena.pattern_at, Pattern.CoversPushesOf, Pattern.Pattern, Groups.list_of, Groups.position_at}
+use Rattle.patterns.specs.{Lookups.IsRest, declared.groups.Groups.Groups}
+use Rattle.closure.specs.FirstFault.{HasFirstUncovered}
+use Rattle.patterns.proofs.{Arenas.list_long, CellLists.at_any, GroupPushes.noted_more, GroupPushes.pattern_of_group, GroupPushes.trapped_pushes}
+use Rattle.patterns.proofs.Numbered.{each_pattern, one_more}
+use Rattle.closure.proofs.FirstLines.{first_line}
+use Rattle.closure.proofs.checking.Checker.check_pushes.Goals.{After-index}
+use Rattle.closure.proofs.checking.Checker.check_pushes.Goals as goal
+
+-- If no push is left, the list covers those out of the group.
+none_rest : (level : Level) (groups : Groups) (g : ℕ) (left : List PushOut) → length left ≡ 0 → IsRest level groups g left →
+    CoversPushesOf level (list_of groups) (position_at level groups g)
+none_rest level groups g left none rest push out = either (rest.all push out) (λ listed. let low = listed.1 in absurd (omega arith)) (λ covered. covered)
+
+-- ---- the line and its group
+is_line : (g : _) (c : After-index g) → c.loop-line.line < length c.args.tables.now.groups.arena.lines.items
+is_line g c =
+    let test = c.loop-line-test.true in
+    let len = c.len-line-end.ensures in
+    omega arith
+
+of_line : (g : _) (c : After-index g) → c.index.result.now ≡ slice_index c.args.tables.now.groups.of.items c.loop-line.line
+of_line g c =
+    let groups = c.args.tables.now.groups in
+    let long = c.requires.tables.grouped.all.long in
+    let lt = is_line g c in
+    c.index.ensures ∙ at_any groups.of.items c.loop-line.line c.index.result.now 0 (omega arith)
+
+is_group : (g : _) (c : After-index g) → c.index.result.now < length c.args.tables.now.groups.spans.items
+is_group g c = rw (of_line g c) (c.requires.tables.grouped.all.into c.loop-line.line (is_line g c))
+
+pub boxes-requires-clause-group : goal.boxes-requires-clause-group
+boxes-requires-clause-group g c = is_group g (goal.at.boxes-requires-clause-group g c).After-index
+
+pub settle-requires-clause-group : goal.settle-requires-clause-group
+settle-requires-clause-group g c = is_group g (goal.at.settle-requires-clause-group g c).After-index
+
+pub index_mut-requires : goal.index_mut-requires
+index_mut-requires g c =
+    let low = is_group g (goal.at.index_mut-requires g c).After-index in
+    let long = c.loop-line.invariant.noted.long in
+    omega arith
+
+-- ---- each way on
+pub loop-line-preserved-then-index : goal.loop-line-preserved-then-index
+loop-line-preserved-then-index g c =
+    let at = (goal.at.loop-line-preserved-then-index g c).After-index in
+    let level = c.args.tables.now.board.now in
+    let groups = c.args.tables.now.groups in
+    let patterns = list_of groups in
+    let inv = c.loop-line.invariant in
+    let group = c.index.result.now in
+    let notes = c.loop-line.covered.items in
+    let within = is_group g at in
+    let long = inv.noted.long in
+    let low : group < length notes = omega arith in
+    let read = c.index-in-loop-line.result.now in
+    record {
+      checker = inv.checker;
+      noted = inv.noted;
+      covered = one_more (λ (j : ℕ). CoversPushesOf level patterns (pattern_at patterns j)) c.loop-line.line inv.covered
+          (pattern_of_group level groups c.requires.tables.grouped c.loop-line.line (is_line g at)
+          (rw (of_line g at) at (inv.noted.covers group low (sym (at_any notes group read false low) ∙ (sym c.index-in-loop-line.ensures ∙ c.if-index.true)))));
+    }
+
+pub loop-line-preserved-then-is_trapped : goal.loop-line-preserved-then-is_trapped
+loop-line-preserved-then-is_trapped g c =
+    let at = (goal.at.loop-line-preserved-then-is_trapped g c).After-index in
+    let level = c.args.tables.now.board.now in
+    let groups = c.args.tables.now.groups in
+    let patterns = list_of groups in
+    let inv = c.loop-line.invariant in
+    let on = c.if-is_trapped.ensures in
+    record {
+      checker = inv.checker;
+      noted = inv.noted;
+      covered = one_more (λ (j : ℕ). CoversPushesOf level patterns (pattern_at patterns j)) c.loop-line.line inv.covered
+          (pattern_of_group level groups c.requires.tables.grouped c.loop-line.line (is_line g at)
+          (rw (of_line g at) at (trapped_pushes c.args.tables.now c.requires.tables c.index.result.now (is_group g at) on.0 (rw c.boxes.ensures at on.1) on.2)));
+    }
+
+pub loop-line-preserved-then-is_empty : goal.loop-line-preserved-then-is_empty
+loop-line-preserved-then-is_empty g c =
+    let at = (goal.at.loop-line-preserved-then-is_empty g c).After-index in
+    let level = c.args.tables.now.board.now in
+    let groups = c.args.tables.now.groups in
+    let patterns = list_of groups in
+    let inv = c.loop-line.invariant in
+    let group = c.index.result.now in
+    let checker = c.in_ok-settle.ensures.checker in
+    let left = c.settle.new.self.lookups.left in
+    let none = sym left.ok.0 ∙ eqb-true left.len 0 (sym c.if-is_empty.ensures) in
+    let covers = none_rest level groups group left.items none (checker.rest group c.in_ok-settle.ensures.settled) in
+    record {
+      checker = checker;
+      noted = noted_more level groups c.loop-line.covered.items inv.noted group true (is_group g at) (λ _. covers);
+      covered = one_more (λ (j : ℕ). CoversPushesOf level patterns (pattern_at patterns j)) c.loop-line.line inv.covered
+          (pattern_of_group level groups c.requires.tables.grouped c.loop-line.line (is_line g at) (rw (of_line g at) at covers));
+    }
+
+pub loop-line-preserved : goal.loop-line-preserved
+loop-line-preserved g c =
+    let level = c.args.tables.now.board.now in
+    let patterns = list_of c.args.tables.now.groups in
+    let inv = c.loop-line.invariant in
+    let checker = c.in_ok-settle.ensures.checker in
+    let tried = c.in_default.ensures in
+    record {
+      checker = record { are = tried.are; free = λ h is. rw tried.free (checker.free h is); rest = λ h is. rw tried.left (checker.rest h is) };
+      noted = inv.noted;
+      covered = one_more (λ (j : ℕ). CoversPushesOf level patterns (pattern_at patterns j)) c.loop-line.line inv.covered tried.exact;
+    }
+
+pub returns-in-Some-clause-exact : goal.returns-in-Some-clause-exact
+returns-in-Some-clause-exact g c = λ _.
+    let level = c.args.tables.now.board.now in
+    let arena = c.args.tables.now.groups.arena in
+    let patterns = list_of c.args.tables.now.groups in
+    let push = c.in-Some.push in
+    let line = c.loop-line.line in
+    let here = line_in arena.boxes.items arena.seeds.items in
+    let Faulty = λ (p : Pattern). HasFirstUncovered level patterns p push.player push.dir in
+    let read : PatternLine = here (line_at arena line) in
+    let test = c.loop-line-test.true in
+    let len = c.len-line-end.ensures in
+    let within : line < length arena.lines.items = omega arith in
+    let number = ap (λ l. l.line) (get_or-map here arena.lines.items line c.index-in-Some.result.now read within)
+    ∙ ap (λ l. l.number) (sym c.index-in-Some.ensures) in
+    let low : line < length (lines_in arena) = rw (length-map arena.lines.items here) within in (
+      c.requires.tables.lawful,
+      c.requires.start,
+      rw number at (first_line (CoversPushesOf level patterns) Faulty (lines_in arena) line _ read low c.loop-line.invariant.covered
+          (push, refl, refl, c.in-Some.ensures.exact)),
+    )
+
+pub returns-clause-ok : goal.returns-clause-ok
+returns-clause-ok g c =
+    let patterns = list_of c.args.tables.now.groups in
+    let long = list_long c.args.tables.now.groups.arena in
+    let end = c.loop-line-test.false in
+    let len = c.len-line-end.ensures in
+    record {
+      lawful = c.requires.tables.lawful;
+      start = c.requires.start;
+      pushes = each_pattern (CoversPushesOf c.args.tables.now.board.now patterns) patterns c.loop-line.line _ (omega arith) c.loop-line.invariant.covered;
+    }

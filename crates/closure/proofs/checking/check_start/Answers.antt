@@ -1,0 +1,26 @@
+use Rattle.std.proofs.{Common.refl, lemmas.Bool.false≢true, lemmas.Option.none-some}
+use Rattle.patterns.proofs.GroupPushes.{covers_all}
+use Rattle.closure.proofs.checking.check_start.Goals as goal
+
+pub returns-then-not-is_start_covered-clause-exact : goal.returns-then-not-is_start_covered-clause-exact
+returns-then-not-is_start_covered-clause-exact g c = λ _. (c.requires.tables.lawful, λ covered. false≢true (c.if-not-is_start_covered.ensures.1 covered))
+
+pub returns-then-are_all-clause-ok : goal.returns-then-are_all-clause-ok
+returns-then-are_all-clause-ok g c = record {
+  lawful = c.requires.tables.lawful;
+  start = c.if-not-is_start_covered.ensures.0 refl;
+  pushes = covers_all c.args.tables.now.board.now c.args.tables.now.groups c.note_hinted.new.covered.items c.note_hinted.ensures c.requires.tables.grouped
+      (rw c.deref.ensures.value at (c.if-are_all.ensures refl));
+}
+
+pub check_pushes-checked-requires : goal.check_pushes-checked-requires
+check_pushes-checked-requires g c = record {
+  tables = c.requires.tables;
+  start = c.if-not-is_start_covered.ensures.0 refl;
+  covered = c.note_hinted.ensures;
+  checker = record {
+    are = c.in_ok-lookups.ensures;
+    free = λ h is. absurd (none-some h is);
+    rest = λ h is. absurd (none-some h is);
+  };
+}

@@ -1,0 +1,70 @@
+-- A group whose boxes are all there at the start covers it exactly if its region has the root, which is the player's cell.
+use Rattle.std.proofs.{Common.◌<◌, Common.length, Common.refl, Common.arith, lemmas.Bool.false≢true}
+use Rattle.board.specs.Game.{start}
+use Rattle.cellset.{proofs.Members.not_both}
+use Rattle.patterns.{specs.Groups.list_of, specs.Tables.GroupCovers}
+use Rattle.patterns.proofs.{Grouped.boxes_on, Grouped.covered_of_group, InBuckets.no_group_covers, Numbered.one_more, Traps.start_trapped}
+use Rattle.closure.proofs.checking.is_start_covered.Goals.{After-boxes-boxes}
+use Rattle.closure.proofs.checking.is_start_covered.Goals as goal
+
+within : (g : _) (c : After-boxes-boxes g) → c.loop-group.group < length c.args.tables.now.groups.spans.items
+within g c =
+    let test = c.loop-group-test.true in
+    let count = c.len-group-end.ensures in
+    omega arith
+
+pub returns-then-meets : goal.returns-then-meets
+returns-then-meets g c = (
+  λ _.
+      let met = c.if-meets.ensures in
+      start_trapped c.args.tables.now.board.now c.requires.formed (list_of c.args.tables.now.groups) c.args.tables.now.trap c.requires.trap met.0 met.2
+      (rw c.boxes-start.ensures.members at met.1),
+  λ _. refl,
+)
+
+pub are_in-requires : goal.are_in-requires
+are_in-requires g c = λ q has.
+    rw c.boxes-start.ensures.extent (boxes_on c.args.tables.now.board.now c.args.tables.now.groups c.requires.lawful c.requires.grouped
+    c.loop-group.group (within g (goal.at.are_in-requires g c).After-boxes-boxes) c.boxes-boxes.result.now c.boxes-boxes.ensures q has)
+
+pub loop-group-preserved-then-not-are_in : goal.loop-group-preserved-then-not-are_in
+loop-group-preserved-then-not-are_in g c =
+    let level = c.args.tables.now.board.now in
+    let missing = rw (c.boxes-start.ensures.members, c.boxes-boxes.ensures) at c.if-not-are_in.ensures in
+    record {
+      none = one_more (λ k. GroupCovers level c.args.tables.now.groups k (start level) → ⊥) c.loop-group.group c.loop-group.invariant.none
+          (λ covers. not_both level.boxes missing.0 (covers.1.boxes missing.0 missing.1) missing.2);
+    }
+
+pub has_root-requires-clause-off : goal.has_root-requires-clause-off
+has_root-requires-clause-off g c = λ q has. c.if-meets.ensures q (c.if-not-are_in.ensures q (rw c.boxes-boxes.ensures has))
+
+pub loop-group-preserved : goal.loop-group-preserved
+loop-group-preserved g c =
+    let level = c.args.tables.now.board.now in
+    record {
+      none = one_more (λ k. GroupCovers level c.args.tables.now.groups k (start level) → ⊥) c.loop-group.group c.loop-group.invariant.none
+          (λ covers. false≢true (c.if-has_root.ensures.1 covers.1.player));
+    }
+
+pub returns-then-has_root : goal.returns-then-has_root
+returns-then-has_root g c = (
+  λ _.
+      let level = c.args.tables.now.board.now in
+      let groups = c.args.tables.now.groups in
+      covered_of_group level groups c.requires.grouped (start level) c.loop-group.group
+      (record { boxes = rw (c.boxes-start.ensures.members, c.boxes-boxes.ensures) at c.if-not-are_in.ensures; player = c.if-has_root.ensures.0 refl }),
+  λ _. refl,
+)
+
+pub returns : goal.returns
+returns g c = (
+  λ h. absurd (false≢true h),
+  λ covered. absurd (no_group_covers c.args.tables.now c.requires (start c.args.tables.now.board.now)
+      (λ k covers.
+      let low = covers.0 in
+      let end = c.loop-group-test.false in
+      let count = c.len-group-end.ensures in
+      c.loop-group.invariant.none k (omega arith) covers)
+      covered),
+)

@@ -1,0 +1,45 @@
+-- The invariant says that each group so far is in the bucket of one of its boxes. `rarest_box` returns the index of a box, and which
+-- box that is doesn't matter to any proof. A group has a box (`listed_some` in `InBuckets.antt`), and its boxes lie on the grid, so their
+-- indexes are within the table (`key_within`). After the loop every group has a key below the length of the table, so the groups can be
+-- chained by their keys.
+use Rattle.std.proofs.Common.{◌<◌, length, slice_index, ap, arith}
+use Rattle.patterns.proofs.{Grouped.boxes_on, Lists.length_more, InBuckets.bucket_more, InBuckets.key_within, InBuckets.listed_some}
+use Rattle.patterns.proofs.buckets.fill_buckets.Goals as goal
+
+pub rarest_box-requires-clause-some : goal.rarest_box-requires-clause-some
+rarest_box-requires-clause-some g c =
+    let test = c.loop-group-test.true in
+    let count = c.len-group-end.ensures in
+    rw c.boxes.ensures (listed_some c.args.board.now c.args.groups.now c.requires.lawful c.requires.groups c.loop-group.group (omega arith))
+
+pub rarest_box-requires-clause-on : goal.rarest_box-requires-clause-on
+rarest_box-requires-clause-on g c = λ q has.
+    let test = c.loop-group-test.true in
+    let count = c.len-group-end.ensures in
+    rw c.shape-shape.ensures.value (boxes_on c.args.board.now c.args.groups.now c.requires.lawful c.requires.groups c.loop-group.group (omega arith) _ c.boxes.ensures q has)
+
+pub loop-group-preserved : goal.loop-group-preserved
+loop-group-preserved g c = grind (arith, length_more, bucket_more)
+
+pub chain-requires : goal.chain-requires
+chain-requires g c = λ j lt.
+    let inv = c.loop-group.invariant in
+    let test = c.loop-group-test.false in
+    let count = c.len-group-end.ensures in
+    let keys = c.deref-2.ensures.value in
+    let long = inv.long in
+    let end = c.loop-group.auto.group-end in
+    let keys_long = ap (λ l. length l) keys in
+    let low : j < c.loop-group.group = omega arith in
+    let within = key_within c.args.board.now c.args.groups.now c.requires.lawful c.requires.groups j (omega arith) c.loop-group.keys.items (inv.each j low) in
+    let key = ap (λ l. slice_index l j) keys in
+    grind arith
+
+pub returns : goal.returns
+returns g c = grind arith
+
+pub loop-group-init : goal.loop-group-init
+loop-group-init g c = grind arith
+
+pub push_reserved-requires : goal.push_reserved-requires
+push_reserved-requires g c = grind arith

@@ -1,0 +1,7 @@
+use Rattle.std.proofs.Common.{◌≡◌}
+use Rattle.cellset.specs.{CellSet.Has, SortedList.index, declared.cell.Cell.Cell}
+use Rattle.patterns.specs.Sides.{cells_in}
+use Rattle.patterns.proofs.buckets.rarest_box.Given as goal
+
+abbrev pub invariant-loop-cell : goal.invariant-loop-cell
+invariant-loop-cell l = (c : Cell) × Has (cells_in l.boxes) c × (l.rarest ≡ index l.shape c)

@@ -1,0 +1,61 @@
+-- The invariant says that each push out of the group is settled, or still to be entered, or left and not settled.
+use Rattle.std.proofs.Common.{refl, ◌∙◌, inl, inr, arith}
+use Rattle.std.proofs.lemmas.List.Elements.{Contains-append_cases, Contains-append_left, Contains-append_right}
+use Rattle.cellset.proofs.Truth.{either}
+use Rattle.patterns.proofs.Asked.{asked_less, settling_on}
+use Rattle.patterns.proofs.lookups.Lookups.settle.Goals as goal
+
+pub loop-self-init : goal.loop-self-init
+loop-self-init g c =
+    let begun = c.in_ok-begin.ensures in
+    let asked = c.ask_hints.ensures in
+    record {
+      settling = asked.settling;
+      asked = asked_less c.args.task.now c.begin.new.self c.ask_hints.new.self asked.buckets asked.search (λ push h. inl (asked.away.only push h))
+          (λ push h. inr (asked.here.only push h)) begun.asked;
+      only = λ push h. let there = rw (asked.left, begun.left) at h in let lt = there.1 in absurd (omega arith);
+      all = λ push out. either (begun.all push out)
+          (λ away. either (asked.away.kept push away) (λ still. inr (inl still)) (λ settled. inr (inr settled)))
+          (λ settled. inr (inr settled));
+    }
+
+pub loop-self-preserved : goal.loop-self-preserved
+loop-self-preserved g c =
+    let inv = c.loop-self.invariant in
+    let entered = c.in_ok-enter.ensures in
+    let here = c.in_ok-settle_here.ensures.onward in
+    let add = rw c.deref.ensures.value at c.in_ok-extend_from_slice.ensures.items in
+    let same = here.left ∙ entered.left in
+    record {
+      settling = settling_on c.args.task.now c.settle_here.new.self _ refl refl here.settling refl here.settling.are.place refl (λ push h. h) (λ push h. h);
+      asked = here.asked;
+      only = λ push h. either (Contains-append_cases c.loop-self.self.left.items c.settle_here.new.self.unsettled.here.items push (rw (add, same) at h))
+          (inv.only push)
+          (λ new. ((here.settling.here push new).0, c.in_ok-settle_here.ensures.rest push new));
+      all = λ push out. either (inv.all push out)
+          (λ left. inl (rw (add, same) (Contains-append_left _ c.settle_here.new.self.unsettled.here.items push left)))
+          (λ rest. either rest
+          (λ away. either (entered.kept c.if-branch.true push away)
+          (λ still. either (here.away.kept push still) (λ open_still. inr (inl open_still)) (λ settled. inr (inr settled)))
+          (λ came. either (here.here.kept push came) (λ stays. inl (rw (add, same) (Contains-append_right c.loop-self.self.left.items _ push stays))) (λ settled. inr (inr settled))))
+          (λ settled. inr (inr settled)));
+    }
+
+pub loop-self-smaller : goal.loop-self-smaller
+loop-self-smaller g c =
+    let less = rw c.if-branch.true at c.in_ok-enter.ensures.fewer in
+    let kept = c.in_ok-settle_here.ensures.onward.away.fewer in
+    omega arith
+
+pub returns-clause-rest : goal.returns-clause-rest
+returns-clause-rest g c =
+    let inv = c.loop-self.invariant in
+    let entered = c.in_ok-enter.ensures in
+    let over = rw c.if-branch.false at entered.fewer in
+    let boxes = c.requires.task.boxes in
+    record {
+      only = λ push h. let known = inv.only push (rw entered.left at h) in (known.0, λ covered. known.1 (rw boxes covered));
+      all = λ push out. either (inv.all push out)
+          (λ left. inl (rw entered.left left))
+          (λ rest. either rest (λ away. absurd (over push away)) (λ settled. inr (rw boxes at settled)));
+    }

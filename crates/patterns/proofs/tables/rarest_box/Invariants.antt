@@ -1,7 +1,0 @@
-use Rattle.std.proofs.Common.{◌≡◌}
-use Rattle.cellset.specs.{CellSet.Has, declared.cell.Cell.Cell}
-use Rattle.patterns.specs.{CellIndex.index_of, Sides.cells_in}
-use Rattle.patterns.proofs.tables.rarest_box.Given as goal
-
-abbrev pub invariant-loop-cell : goal.invariant-loop-cell
-invariant-loop-cell l = (c : Cell) × Has (cells_in l.boxes) c × (l.rarest ≡ index_of c)

@@ -1,0 +1,40 @@
+-- Each push out of the group moves one of its boxes, in one of the four directions.
+use Rattle.std.proofs.Common.{◌≡◌, ◌⊎◌, sym, ◌∙◌, ap, subst, inl, inr, arith}
+use Rattle.std.specs.List.{Contains}
+use Rattle.cellset.{specs.CellSet.Has, proofs.Truth.either}
+use Rattle.reach.specs.declared.pushes.Push.{Push}
+use Rattle.patterns.specs.{Sides.cell_no, Sides.cells_in, Settling.IsPushOut, Settling.IsSettled}
+use Rattle.patterns.proofs.{CellLists.at_any, CellLists.no_cell, CellLists.of_list, Numbered.one_more, OpenPushes.each_dir}
+use Rattle.patterns.proofs.unsettled.Unsettled.begin.Goals as goal
+
+pub loop-number-preserved : goal.loop-number-preserved
+loop-number-preserved g c =
+    let task = c.args.task.now in
+    let inv = c.loop-number.invariant in
+    let l = c.open_toward.ensures in
+    let u = c.open_toward-in-loop-number.ensures in
+    let r = c.open_toward-in-loop-number-2.ensures in
+    let d = c.open_toward-in-loop-number-3.ensures in
+    let new = c.open_toward-in-loop-number-3.new.self.away.items in
+    let Opened : Push → Type 0 = λ push. Contains new push ⊎ IsSettled task push in
+    record {
+      away = c.in_ok-open_toward-4.ensures.away;
+      here = ap (λ v. v.items) (d.here ∙ (r.here ∙ (u.here ∙ l.here))) ∙ inv.here;
+      all = one_more (λ i. (push : Push) → IsPushOut task push → push.from ≡ cell_no task.boxes.now i → Opened push) c.loop-number.number
+          (λ i lt push out from. either (inv.all i lt push out from) (λ h. inl (d.kept push (r.kept push (u.kept push (l.kept push h))))) inr)
+          (λ push out from. each_dir (Opened push) push.dir
+          (λ e. either (c.in_ok-open_toward.ensures.all push out from e) (λ h. inl (d.kept push (r.kept push (u.kept push h)))) inr)
+          (λ e. either (c.in_ok-open_toward-2.ensures.all push out from e) (λ h. inl (d.kept push (r.kept push h))) inr)
+          (λ e. either (c.in_ok-open_toward-3.ensures.all push out from e) (λ h. inl (d.kept push h)) inr)
+          (λ e. c.in_ok-open_toward-4.ensures.all push out from e));
+    }
+
+pub returns-clause-all : goal.returns-clause-all
+returns-clause-all g c =
+    let task = c.args.task.now in
+    let past = c.loop-number-test.false in
+    λ push out.
+    let box = subst (λ b. Has (cells_in b) push.from) (sym c.requires.task.boxes) out.box in
+    let found = of_list task.boxes.now push.from box in
+    let lt = found.1 in
+    c.loop-number.invariant.all found.0 (omega arith) push out (sym found.2 ∙ at_any task.boxes.now found.0 push.from no_cell found.1)

@@ -1,0 +1,171 @@
+//! The memory for lookups, and whether a group covers a state.
+ghost use Rattle.std.specs.Prelude.{◌≡◌, ◌<◌, ◌↔◌, ℕ, IfOk, IsTrue, MatchBool, OnOk, length, slice_index};
+ghost use Rattle.std.specs.FinSet as finset;
+ghost use Rattle.cellset.specs.{Cell.IsOn, SortedList.index};
+ghost use Rattle.patterns.specs.{Pattern.Covers, Pattern.IsCovered, Groups.list_of, Groups.position_at};
+ghost use Rattle.patterns.specs.Lookups.{AreLookups};
+ghost use Rattle.patterns.specs.{Tables.AreTables, Tables.GroupCovers};
+
+use crate::buckets::{Buckets, fill_buckets};
+use crate::cells::{are_in, is_among};
+use crate::group_regions::Flood;
+use crate::place::Place;
+use crate::search::Search;
+use crate::tables::Tables;
+use crate::tree::{Tree, grow_tree};
+use crate::unsettled::Unsettled;
+use cellset::{Cell, CellSet, MembersOf};
+use reach::{Push, Rows};
+use std::alloc::{AllocError, Global};
+
+/// The groups by one of their boxes, the tree of the room, and memory for the pushes of one group after another.
+#[derive(Debug, Drop)]
+pub struct Lookups {
+    pub buckets: Buckets,
+    /// The tree of the room, without nodes until it is needed.
+    pub tree: Tree,
+    pub flood: Flood,
+    pub place: Place,
+    pub unsettled: Unsettled,
+    pub search: Search,
+    /// The pushes whose results no group covers.
+    pub left: Vec<Push>,
+    /// The last group noted as covered that settled a piece. It is asked first.
+    pub last: usize,
+}
+
+impl Lookups {
+    /// Returns what lookups in these tables need, but the tree.
+    pub fn new<S: CellSet>(alloc: Global, tables: &Tables<S>) -> Result<Lookups, AllocError>
+        requires { AreTables tables.now }
+        ensures { IfOk result (AreLookups tables.now) }
+    {
+        let board = tables.board;
+        let place = Place {
+            boxes: Rows::new(alloc, board.shape())?,
+            player: board.player(),
+            walked: true,
+            hits: Vec::new(alloc),
+        };
+        let flood = Flood::new(alloc, board.shape())?;
+        let buckets = fill_buckets(alloc, board, &tables.groups)?;
+        Ok(Lookups {
+            buckets,
+            tree: Tree::new(alloc),
+            flood,
+            place,
+            unsettled: Unsettled {
+                away: Vec::new(alloc),
+                here: Vec::new(alloc),
+            },
+            search: Search {
+                cells: Vec::new(alloc),
+                begun: 0,
+                link: 0,
+                inside: Vec::new(alloc),
+            },
+            left: Vec::new(alloc),
+            last: 0,
+        })
+    }
+
+    /// Grows the tree, unless it is there. Then no path is longer than the memory for hits.
+    pub fn grow<S: CellSet>(&mut self, alloc: Global, tables: &Tables<S>) -> Result<(), AllocError>
+        requires are { AreLookups tables.now self.old }
+        ensures are { OnOk result (AreLookups tables.now self.new) }
+        ensures grown { OnOk result (0 < length self.new.tree.nodes.items) }
+        ensures same { (self.new.buckets ≡ self.old.buckets) × (self.new.flood ≡ self.old.flood) × (self.new.place.boxes ≡ self.old.place.boxes)
+            × (self.new.place.player ≡ self.old.place.player) × (self.new.place.walked ≡ self.old.place.walked)
+            × (self.new.unsettled ≡ self.old.unsettled) × (self.new.search ≡ self.old.search) × (self.new.left ≡ self.old.left) }
+    {
+        if self.tree.nodes.is_empty() {
+            self.tree = grow_tree(alloc, tables.board)?;
+            self.place.hits.reserve(self.tree.nodes.len())?;
+        }
+        Ok(())
+    }
+
+    /// Returns whether some group covers the state. Allocates nothing.
+    pub fn covers<S: CellSet>(&mut self, tables: &Tables<S>, player: Cell, boxes: &S) -> bool
+        requires tables { AreTables tables.now }
+        requires off { tables.now.trap.members ≡ finset.empty }
+        requires are { AreLookups tables.now self.old }
+        requires grown { 0 < length self.old.tree.nodes.items }
+        requires player { IsOn tables.now.board.now.shape player }
+        requires boxes { S.extent boxes.now ≡ tables.now.board.now.shape }
+        ensures are { AreLookups tables.now self.new }
+        ensures grown { 0 < length self.new.tree.nodes.items }
+        ensures exact { IsTrue result ↔ IsCovered tables.now.board.now (list_of tables.now.groups)
+            (record { player = player; boxes = S.members boxes.now }) }
+    {
+        if !tables.board.room().contains(player) {
+            return false;
+        }
+        self.place.boxes.load(boxes);
+        self.place.player = player;
+        self.place.walked = false;
+        for cell in MembersOf::new(boxes) {
+            if self.is_covered_in_bucket(tables, boxes, cell) {
+                return true;
+            }
+        }
+        false
+    }
+
+    // Returns whether a group in the bucket of a cell covers the player and the boxes at hand.
+    fn is_covered_in_bucket<S: CellSet>(
+        &mut self,
+        tables: &Tables<S>,
+        boxes: &S,
+        cell: Cell,
+    ) -> bool
+        requires tables { AreTables tables.now }
+        requires off { tables.now.trap.members ≡ finset.empty }
+        requires are { AreLookups tables.now self.old }
+        requires boxes { S.extent boxes.now ≡ tables.now.board.now.shape }
+        requires there { self.old.place.boxes.members ≡ S.members boxes.now }
+        requires cell { IsOn tables.now.board.now.shape cell }
+        ensures are { AreLookups tables.now self.new }
+        ensures same { (self.new.tree ≡ self.old.tree) × (self.new.buckets ≡ self.old.buckets)
+            × (self.new.place.boxes ≡ self.old.place.boxes) × (self.new.place.player ≡ self.old.place.player) }
+        ensures found { MatchBool result
+            (IsCovered tables.now.board.now (list_of tables.now.groups) (record { player = self.old.place.player; boxes = self.old.place.boxes.members }))
+            ((g : ℕ) → slice_index self.old.buckets.keys.items g ≡ index tables.now.board.now.shape cell
+            → GroupCovers tables.now.board.now tables.now.groups g (record { player = self.old.place.player; boxes = self.old.place.boxes.members }) → ⊥) }
+    {
+        let shape = tables.board.shape();
+        let mut at = self.buckets.chains.first[shape.index_of(cell)] as usize;
+        while at > 0 {
+            let group = at - 1;
+            if self.is_covering(tables, boxes, group) {
+                return true;
+            }
+            at = self.buckets.chains.next[group] as usize;
+        }
+        false
+    }
+
+    // Returns whether a group covers the player and the boxes at hand.
+    fn is_covering<S: CellSet>(&mut self, tables: &Tables<S>, boxes: &S, group: usize) -> bool
+        requires tables { AreTables tables.now }
+        requires off { tables.now.trap.members ≡ finset.empty }
+        requires are { AreLookups tables.now self.old }
+        requires boxes { S.extent boxes.now ≡ tables.now.board.now.shape }
+        requires there { self.old.place.boxes.members ≡ S.members boxes.now }
+        requires group { group < length tables.now.groups.spans.items }
+        ensures are { AreLookups tables.now self.new }
+        ensures same { (self.new.tree ≡ self.old.tree) × (self.new.buckets ≡ self.old.buckets)
+            × (self.new.place.boxes ≡ self.old.place.boxes) × (self.new.place.player ≡ self.old.place.player) }
+        ensures exact { IsTrue result ↔ Covers tables.now.board.now (position_at tables.now.board.now tables.now.groups group)
+            (record { player = self.old.place.player; boxes = self.old.place.boxes.members }) }
+    {
+        let kept = tables.groups.boxes(group);
+        if !are_in(kept, boxes) {
+            return false;
+        }
+        if is_among(kept, boxes, self.place.player) {
+            return false;
+        }
+        self.place.is_inside(tables, &self.tree, group)
+    }
+}

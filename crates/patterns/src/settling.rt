@@ -1,0 +1,330 @@
+//! Which pushes out of a group no group covers.
+ghost use Rattle.std.specs.Prelude.{◌≡◌, ◌⊎◌, ◌<◌, ◌↔◌, ℕ, [], IfOk, IsTrue, MatchBool, MatchOption, OnOk, Some, length, slice_index};
+ghost use Rattle.std.specs.List.{Contains};
+ghost use Rattle.cellset.specs.{Cell.IsOn, CellSet.Has, declared.cell.Cell.Cell as GridCell};
+ghost use Rattle.reach.specs.{Pushes.PushBefore, Pushes.dir_rank, declared.pushes.Push.Push as OutPush};
+ghost use Rattle.patterns.specs.{Arena.pattern_at, Pattern.CoversPushesOf, Pattern.IsFirstUncovered, Groups.boxes_of, Groups.list_of};
+ghost use Rattle.patterns.specs.Lookups.{AreAsked, AreLookups, HasAsked, IsOnward, IsRest, IsSearched, IsSettling};
+ghost use Rattle.patterns.specs.{Hits.AreHits, Piece.AreInPiece, Piece.IsFreeOf, Search.searches_left, Place.IsSubset, Sides.cells_in, Tables.AreTables};
+ghost use Rattle.patterns.specs.Settling.{CoversNone, IsPushOut, IsSettled, IsTask};
+
+use crate::hints::{TRIES, hash_of, hash_with, hash_without};
+use crate::lookups::Lookups;
+use crate::tables::Tables;
+use crate::task::Task;
+use cellset::{Cell, CellSet, Dir};
+use reach::{Push, Rows};
+use std::alloc::{AllocError, Global};
+
+impl Lookups {
+    /// Finds the pushes out of a group whose results no group covers, piece by piece of the room less its boxes.
+    pub fn settle<S: CellSet>(&mut self, alloc: Global, task: &Task<S>) -> Result<(), AllocError>
+        requires task { IsTask task.now }
+        requires are { AreLookups task.now.tables.now self.old }
+        ensures are { OnOk result (AreLookups task.now.tables.now self.new) }
+        ensures free { OnOk result (IsFreeOf task.now.tables.now.board.now (cells_in task.now.boxes.now) self.new.flood.free) }
+        ensures rest { OnOk result (IsRest task.now.tables.now.board.now task.now.tables.now.groups task.now.group self.new.left.items) }
+    {
+        self.begin(task)?;
+        self.ask_hints(task);
+        while self.enter(alloc, task)? {
+            self.settle_here(task)?;
+            self.left.extend_from_slice(&self.unsettled.here)?;
+        }
+        Ok(())
+    }
+
+    // Opens the pushes out of a group.
+    fn begin<S: CellSet>(&mut self, task: &Task<S>) -> Result<(), AllocError>
+        requires task { IsTask task.now }
+        requires are { AreLookups task.now.tables.now self.old }
+        ensures settling { OnOk result (IsSettling task.now self.new) }
+        ensures asked { OnOk result (AreAsked task.now self.new) }
+        ensures left { self.new.left.items ≡ [] }
+        ensures all { OnOk result ((push : OutPush) → IsPushOut task.now push → Contains self.new.unsettled.away.items push ⊎ IsSettled task.now push) }
+    {
+        self.left.clear();
+        self.place.player = task.tables.board.player();
+        self.place.hits.clear();
+        self.place.walked = true;
+        load_rows(task.boxes, &mut self.place.boxes);
+        self.flood
+            .take_out(task.tables.board.room_rows(), task.boxes);
+        self.unsettled.begin(task, &self.flood.free)?;
+        self.search.begin(task, &self.unsettled.away)?;
+        Ok(())
+    }
+
+    // Asks for each open push the groups that hints name for its result.
+    fn ask_hints<S: CellSet>(&mut self, task: &Task<S>)
+        requires task { IsTask task.now }
+        requires settling { IsSettling task.now self.old }
+        ensures { HasAsked task.now self.old self.new }
+    {
+        let hash = hash_of(task.boxes);
+        let mut at = self.unsettled.away.len();
+        while at > 0 {
+            at -= 1;
+            if let Some(push) = self.unsettled.away.get(at) {
+                let after = hash_with(hash_without(hash, push.from), push.to);
+                self.ask_hinted(task, after);
+            }
+        }
+    }
+
+    // Asks the groups that hints name for a hash.
+    fn ask_hinted<S: CellSet>(&mut self, task: &Task<S>, hash: usize)
+        requires task { IsTask task.now }
+        requires settling { IsSettling task.now self.old }
+        ensures { HasAsked task.now self.old self.new }
+    {
+        for turn in 0..TRIES {
+            let Some(slot) = task.tables.groups.hints.slot(hash, turn) else {
+                return;
+            };
+            let Some(group) = slot.group_for(hash) else {
+                continue;
+            };
+            let _inside = self.ask(task, group);
+        }
+    }
+
+    // Returns whether the boxes of a group are all there. If just one isn't there, settles the pushes that lead there and that the group covers.
+    fn ask<S: CellSet>(&mut self, task: &Task<S>, group: usize) -> bool
+        requires task { IsTask task.now }
+        requires settling { IsSettling task.now self.old }
+        ensures asked { HasAsked task.now self.old self.new }
+        ensures place { self.new.place ≡ self.old.place }
+        ensures found { MatchBool result (IsSubset task.now.tables.now.groups (cells_in task.now.boxes.now) group)
+            (group < length task.now.tables.now.groups.spans.items
+            → CoversNone task.now group self.new.unsettled.away.items × CoversNone task.now group self.new.unsettled.here.items) }
+    {
+        group < task.tables.groups.spans.len() && self.unsettled.ask(task, &self.place.boxes, group)
+    }
+
+    // Enters the piece of the player of an open push. Returns false if none is open.
+    fn enter<S: CellSet>(&mut self, alloc: Global, task: &Task<S>) -> Result<bool, AllocError>
+        requires task { IsTask task.now }
+        requires settling { IsSettling task.now self.old }
+        requires asked { AreAsked task.now self.old }
+        ensures settling { OnOk result (IsSettling task.now self.new) }
+        ensures asked { OnOk result (AreAsked task.now self.new) }
+        ensures left { self.new.left ≡ self.old.left }
+        ensures piece { IfOk result (λ some. IsTrue some
+            → AreInPiece task.now.tables.now.board.now (cells_in task.now.boxes.now) self.new.place.player self.new.unsettled.here.items) }
+        ensures kept { IfOk result (λ some. IsTrue some → (push : OutPush) → Contains self.old.unsettled.away.items push
+            → Contains self.new.unsettled.away.items push ⊎ Contains self.new.unsettled.here.items push) }
+        ensures fewer { IfOk result (λ some. MatchBool some (length self.new.unsettled.away.items < length self.old.unsettled.away.items)
+            ((push : OutPush) → Contains self.old.unsettled.away.items push → ⊥)) }
+    {
+        let Some(first) = self.unsettled.away.pop() else {
+            return Ok(false);
+        };
+        self.flood.find_piece(first.player);
+        self.unsettled.here.clear();
+        self.unsettled.here.push(first)?;
+        self.unsettled.enter(&self.flood)?;
+        let rooted = self.flood.in_piece(task.tables.board.player());
+        self.stand(alloc, task.tables, first.player, rooted)?;
+        Ok(true)
+    }
+
+    // Takes the player for the one at hand. Grows the tree, unless the player's piece has the root.
+    fn stand<S: CellSet>(
+        &mut self,
+        alloc: Global,
+        tables: &Tables<S>,
+        player: Cell,
+        rooted: bool,
+    ) -> Result<(), AllocError>
+        requires are { AreLookups tables.now self.old }
+        requires player { Has tables.now.board.now.room player }
+        requires rooted { IsTrue rooted → AreHits tables.now.board.now self.old.place.boxes.members player tables.now.board.now.player [] }
+        ensures are { OnOk result (AreLookups tables.now self.new) }
+        ensures player { OnOk result (self.new.place.player ≡ player) }
+        ensures same { (self.new.buckets ≡ self.old.buckets) × (self.new.flood ≡ self.old.flood) × (self.new.place.boxes ≡ self.old.place.boxes)
+            × (self.new.unsettled ≡ self.old.unsettled) × (self.new.search ≡ self.old.search) × (self.new.left ≡ self.old.left) }
+    {
+        if rooted {
+            self.place.set_player(player, true);
+            return Ok(());
+        }
+        self.grow(alloc, tables)?;
+        self.place.set_player(player, false);
+        Ok(())
+    }
+
+    // Asks groups until no push from the piece is left or all groups were asked.
+    fn settle_here<S: CellSet>(&mut self, task: &Task<S>) -> Result<(), AllocError>
+        requires task { IsTask task.now }
+        requires settling { IsSettling task.now self.old }
+        requires asked { AreAsked task.now self.old }
+        requires piece { AreInPiece task.now.tables.now.board.now (cells_in task.now.boxes.now) self.old.place.player self.old.unsettled.here.items }
+        ensures onward { OnOk result (IsOnward task.now self.old self.new) }
+        ensures rest { OnOk result ((push : OutPush) → Contains self.new.unsettled.here.items push → IsSettled task.now push → ⊥) }
+    {
+        self.ask_last(task);
+        self.settle_inside(task);
+        while !self.unsettled.here.is_empty() {
+            if !self.ask_next(task)? {
+                return Ok(());
+            }
+        }
+        Ok(())
+    }
+
+    // Asks the group that settled the last piece.
+    fn ask_last<S: CellSet>(&mut self, task: &Task<S>)
+        requires task { IsTask task.now }
+        requires settling { IsSettling task.now self.old }
+        requires asked { AreAsked task.now self.old }
+        requires piece { AreInPiece task.now.tables.now.board.now (cells_in task.now.boxes.now) self.old.place.player self.old.unsettled.here.items }
+        ensures onward { IsOnward task.now self.old self.new }
+    {
+        let last = self.last;
+        if !self.ask(task, last) {
+            return;
+        }
+        self.settle_by(task, last);
+    }
+
+    // Settles pushes by the groups that were found for other pieces.
+    fn settle_inside<S: CellSet>(&mut self, task: &Task<S>)
+        requires task { IsTask task.now }
+        requires settling { IsSettling task.now self.old }
+        requires asked { AreAsked task.now self.old }
+        requires piece { AreInPiece task.now.tables.now.board.now (cells_in task.now.boxes.now) self.old.place.player self.old.unsettled.here.items }
+        ensures onward { IsOnward task.now self.old self.new }
+        ensures none { (g : ℕ) → Contains self.new.search.inside.items g → CoversNone task.now g self.new.unsettled.here.items }
+    {
+        for at in 0..self.search.inside.len() {
+            let group = self.search.inside[at];
+            self.settle_by(task, group);
+        }
+    }
+
+    // Asks the next group in the buckets. Returns false if there is none.
+    fn ask_next<S: CellSet>(&mut self, task: &Task<S>) -> Result<bool, AllocError>
+        requires task { IsTask task.now }
+        requires settling { IsSettling task.now self.old }
+        requires asked { AreAsked task.now self.old }
+        requires piece { AreInPiece task.now.tables.now.board.now (cells_in task.now.boxes.now) self.old.place.player self.old.unsettled.here.items }
+        requires none { (g : ℕ) → Contains self.old.search.inside.items g → CoversNone task.now g self.old.unsettled.here.items }
+        ensures onward { OnOk result (IsOnward task.now self.old self.new) }
+        ensures none { OnOk result ((g : ℕ) → Contains self.new.search.inside.items g → CoversNone task.now g self.new.unsettled.here.items) }
+        ensures fewer { IfOk result (λ some. MatchBool some
+            (searches_left task.now.tables.now.groups self.new.search < searches_left task.now.tables.now.groups self.old.search)
+            (IsSearched task.now self.new)) }
+    {
+        let Some(group) = self.search.next(task, &self.buckets) else {
+            return Ok(false);
+        };
+        if !self.ask(task, group) {
+            return Ok(true);
+        }
+        self.search.inside.push(group)?;
+        self.settle_by(task, group);
+        Ok(true)
+    }
+
+    // Settles the pushes from the piece that a group covers whose boxes are all there.
+    fn settle_by<S: CellSet>(&mut self, task: &Task<S>, group: usize)
+        requires task { IsTask task.now }
+        requires settling { IsSettling task.now self.old }
+        requires group { IsSubset task.now.tables.now.groups (cells_in task.now.boxes.now) group }
+        requires piece { AreInPiece task.now.tables.now.board.now (cells_in task.now.boxes.now) self.old.place.player self.old.unsettled.here.items }
+        ensures asked { HasAsked task.now self.old self.new }
+        ensures piece { AreInPiece task.now.tables.now.board.now (cells_in task.now.boxes.now) self.new.place.player self.new.unsettled.here.items }
+        ensures none { CoversNone task.now group self.new.unsettled.here.items }
+    {
+        if self.unsettled.here.is_empty() {
+            return;
+        }
+        if self
+            .unsettled
+            .settle_piece(task, &mut self.place, &self.tree, group)
+        {
+            self.last = group;
+        }
+    }
+
+    /// Returns the first push out of a line of the group among those that are left.
+    pub fn first_left<S: CellSet>(
+        &mut self,
+        tables: &Tables<S>,
+        group: usize,
+        line: usize,
+    ) -> Option<Push>
+        requires tables { AreTables tables.now }
+        requires are { AreLookups tables.now self.old }
+        requires line { line < length tables.now.groups.arena.lines.items }
+        requires group { slice_index tables.now.groups.of.items line ≡ group }
+        requires free { IsFreeOf tables.now.board.now (cells_in (boxes_of tables.now.groups group)) self.old.flood.free }
+        requires rest { IsRest tables.now.board.now tables.now.groups group self.old.left.items }
+        ensures are { AreLookups tables.now self.new }
+        ensures free { self.new.flood.free ≡ self.old.flood.free }
+        ensures left { self.new.left ≡ self.old.left }
+        ensures exact { MatchOption result
+            (CoversPushesOf tables.now.board.now (list_of tables.now.groups) (pattern_at (list_of tables.now.groups) line))
+            (IsFirstUncovered tables.now.board.now (list_of tables.now.groups) (pattern_at (list_of tables.now.groups) line)) }
+    {
+        let whole = self.flood.find_line(tables.groups.arena.pattern(line));
+        least_of(&self.left, self.flood.found(whole))
+    }
+}
+
+// Makes rows those of these cells.
+fn load_rows(cells: &[Cell], rows: &mut Rows)
+    requires { (c : GridCell) → Has (cells_in cells.now) c → IsOn rows.old.extent c }
+    ensures extent { rows.new.extent ≡ rows.old.extent }
+    ensures members { rows.new.members ≡ cells_in cells.now }
+{
+    rows.clear();
+    for cell in cells {
+        rows.insert(*cell);
+    }
+}
+
+// Returns the first of these pushes by a player in a region.
+fn least_of(pushes: &[Push], region: &Rows) -> Option<Push>
+    ensures only { (first : OutPush) → result ≡ Some first → Contains pushes.now first × Has region.now.members first.player }
+    ensures least { (push : OutPush) → Contains pushes.now push → Has region.now.members push.player
+        → (first : OutPush) × (result ≡ Some first) × (PushBefore push first → ⊥) }
+{
+    let mut first = None;
+    for push in pushes {
+        if !region.has(push.player) {
+            continue;
+        }
+        if !is_least(*push, first) {
+            continue;
+        }
+        first = Some(*push);
+    }
+    first
+}
+
+// Returns whether a push comes before another one, if there is one: by its player, then by its direction.
+fn is_least(push: Push, known: Option<Push>) -> bool
+    ensures { MatchOption known (IsTrue result) (λ first. IsTrue result ↔ PushBefore push first) }
+{
+    match known {
+        None => true,
+        Some(first) => {
+            push.player < first.player
+                || push.player == first.player && rank(push.dir) < rank(first.dir)
+        }
+    }
+}
+
+// Returns the place of a direction in the order left, up, right, down.
+fn rank(dir: Dir) -> u8
+    ensures { result ≡ dir_rank dir }
+{
+    match dir {
+        Dir::L => 0,
+        Dir::U => 1,
+        Dir::R => 2,
+        Dir::D => 3,
+    }
+}

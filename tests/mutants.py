@@ -1,0 +1,222 @@
+"""tests/run mutants PROGRAM [EDIT..]: plants the faults of tests/must-fail, or those named, one at
+a time in a copy of this tree, and runs the part or the test that has to fail there. Ends in 'N
+passed, M failed'.
+
+An edit is a file NAME.edit, named after what the broken code does, with the lines
+
+- file: the file that it changes
+- test: what tests/run is given, with PROGRAM for the program and PAGE for the page made anew
+- needs: commands without which it is skipped; perhaps no such line
+- old: and new: in pairs: a text in one line, which the file has once, and what replaces it
+
+A case fails if the edit can't be applied, if the test passes, or if it doesn't run to its end. One
+more case for each part of the tests: without an edit all that is named passes."""
+import ast
+import base64
+import contextlib
+import glob
+import os
+import re
+import resource
+import shutil
+import signal
+import subprocess
+import tempfile
+import time
+from collections import defaultdict
+from concurrent.futures import ThreadPoolExecutor
+from queue import Queue
+from typing import Dict, Iterable, List, NamedTuple, Tuple
+
+from tests.runner import TOP, Cases, arguments, decode, read, run, write
+
+COUNTS = re.compile(r"(\d+) passed, (\d+) failed(?:, (\d+) skipped)?")
+LIMIT = 1200  # seconds, on a machine that others keep busy too
+# the page is made of these
+PAGE_PARTS = ("tools/page/", "tools/sokotool/viewer/", "packaging/ports/inline")
+MADE_OF = r"Made of the sources <code>(\w+)</code> by <code>(.*?)</code>"
+
+
+class Edit(NamedTuple):
+    """An edit: the file, the words of the test, the commands that it needs, and the pairs."""
+    name: str
+    file: str
+    test: str
+    needs: List[str]
+    pairs: List[Tuple[str, str]]
+
+
+class BadEdit(Exception):
+    """Why an edit can't be applied."""
+
+
+def read_edit(path: str) -> Edit:
+    """Reads the file of an edit."""
+    fields: Dict[str, List[str]] = defaultdict(list)
+    for line in read(path).splitlines():
+        kind, _, text = line.partition(": ")
+        fields[kind.rstrip(":")].append(text)
+    name = os.path.basename(path)
+    if len(fields["file"]) != 1 or len(fields["test"]) != 1 or not fields["old"] or (
+            len(fields["old"]) != len(fields["new"]) or len(fields["needs"]) > 1
+            or not fields.keys() <= {"file", "test", "needs", "old", "new"}):
+        raise BadEdit("its lines are file, test, perhaps needs, and pairs of old and new")
+    return Edit(name, fields["file"][0], fields["test"][0], " ".join(fields["needs"]).split(),
+                [*zip(fields["old"], fields["new"])])
+
+
+def apply(edit: Edit) -> str:
+    """Returns the text of the edited file."""
+    path = f"{TOP}/{edit.file}"
+    if not os.path.isfile(path):
+        raise BadEdit(f"there is no file {edit.file}")
+    text = read(path)
+    for old, new in edit.pairs:
+        if text.count(old) != 1:
+            raise BadEdit(f"{edit.file} has {text.count(old)} times: {old}")
+        text = text.replace(old, new)
+    if edit.file.endswith(".py") or re.match("#!.*python", text):
+        try:
+            ast.parse(text)
+        except SyntaxError as error:
+            raise BadEdit(f"it is no Python any more: {error}") from error
+    return text
+
+
+def copied(folder: str) -> str:
+    """Copies this tree into a folder, without what is built."""
+    names = run(["git", "-C", TOP, "ls-files", "-coz", "--exclude-standard"]).split("\0")[:-1]
+    for name in (it for it in names if os.path.isfile(f"{TOP}/{it}")):
+        os.makedirs(os.path.dirname(f"{folder}/{name}"), exist_ok=True)
+        shutil.copy2(f"{TOP}/{name}", f"{folder}/{name}")
+    run(["git", "-C", folder, "init", "-q"])
+    return folder
+
+
+def make_page(tree: str) -> None:
+    """Makes the page of a copy anew, around the module of this page."""
+    page = read(f"{TOP}/sokoaudit.html")
+    (module,) = re.findall(r'id="wasm">([^<]*)<', page)
+    reference = read(f"{TOP}/reference/sokoaudit")
+    (version,) = re.findall('(?m)^VERSION = "sokoaudit (.*)"', reference)
+    with tempfile.NamedTemporaryFile(suffix=".wasm") as file:
+        file.write(base64.b64decode(module))
+        file.flush()
+        made = subprocess.run([f"{tree}/packaging/ports/inline", file.name, version,
+                               *re.findall(MADE_OF, page)[0]], stdout=subprocess.PIPE, check=True)
+    write(f"{tree}/sokoaudit.html", decode(made.stdout))
+
+
+class Trees:
+    """Copies of this tree, one for each processor, in which tests run."""
+
+    def __init__(self, program: str, room: str):
+        self.program, self.free = program, Queue()  # type: ignore[var-annotated]
+        self.count = len(os.sched_getaffinity(0))
+        for i in range(self.count):
+            self.free.put(copied(f"{room}/{i}"))
+
+    def test(self, words: str, file: str = "", text: str = "") -> Tuple[str, str]:
+        """Runs a test where a file has this text, up to the first case that fails. Returns what it
+        printed, and its last line of numbers or ''."""
+        tree = self.free.get()
+        try:
+            if file:
+                write(f"{tree}/{file}", text)
+            if file.startswith(PAGE_PARTS):
+                make_page(tree)
+            filled = [{"PROGRAM": self.program, "PAGE": f"{tree}/sokoaudit.html"}.get(it, it)
+                      for it in words.split()]
+            return ended(tree, [f"{tree}/tests/run", "--first", *filled])
+        finally:
+            for name in [file, "sokoaudit.html"] if file else []:
+                shutil.copy2(f"{TOP}/{name}", f"{tree}/{name}")
+            self.free.put(tree)
+
+
+def ended(tree: str, words: List[str]) -> Tuple[str, str]:
+    """Runs a test of a copy to its end, with all that it started. Returns what it printed, and its
+    numbers."""
+    with tempfile.TemporaryFile() as file:
+        ran = subprocess.Popen(words, stdin=subprocess.DEVNULL, stdout=file, stderr=file,
+                               cwd=tree, start_new_session=True)
+        try:
+            ran.wait(LIMIT)
+        except subprocess.TimeoutExpired:
+            pass
+        with contextlib.suppress(ProcessLookupError):
+            os.killpg(ran.pid, signal.SIGKILL)
+        ran.wait()
+        file.seek(0)
+        said = decode(file.read())
+    last = said.splitlines()[-1:] or [""]
+    counts = COUNTS.fullmatch(last[0])
+    is_so = counts and ran.returncode == int(counts[2] != "0")
+    return said, last[0] if is_so else ""
+
+
+def together(tests: Iterable[str]) -> List[str]:
+    """The tests of each part in one, with all that they name."""
+    parts: Dict[str, Dict[str, None]] = defaultdict(dict)
+    for words in map(str.split, sorted(tests)):
+        given = [it for at, it in enumerate(words) if not at or it.isupper() or "/" in it]
+        parts[" ".join(given)].update(dict.fromkeys(words[len(given):]))
+    # a test is in its class and in its module too
+    return [" ".join([part, *(it for it in names if not any(it.startswith(f"{whole}.")
+                                                            for whole in names))])
+            for part, names in parts.items()]
+
+
+def judge(cases: Cases, edit: Edit, result: Tuple[str, str]) -> None:
+    """A case: the test fails with the edit."""
+    said, numbers = result
+    found, name = COUNTS.fullmatch(numbers), f"{edit.name}: {edit.test}"
+    if not found:
+        cases.holds(f"{name} runs to its end", False, *said.splitlines()[-20:])
+    elif cases.holds(f"{name} fails", found[2] != "0", numbers):
+        first = re.search("(?m)^(FAIL|ERROR|.*: FAILED): (.*)", said)
+        cases.say(f"{name}: {first[2] if first else numbers}")
+
+
+def judge_whole(cases: Cases, test: str, result: Tuple[str, str]) -> None:
+    """A case: without an edit the test passes."""
+    said, numbers = result
+    found = COUNTS.fullmatch(numbers)
+    cases.holds(f"without an edit: {test}", found and found[1] != "0" and found[2] == "0",
+                *said.splitlines()[-20:])
+
+
+def main() -> None:
+    """Runs the part."""
+    began = time.monotonic()
+    program, *named = arguments("mutants PROGRAM [EDIT..]")
+    cases, edits, texts = Cases("mutants"), [], {}
+    for path in named or sorted(glob.glob(f"{TOP}/tests/must-fail/*")):
+        try:
+            edit = read_edit(path)
+            texts[edit.name] = apply(edit)
+            edits.append(edit)
+        except BadEdit as error:
+            cases.holds(f"{os.path.basename(path)} can be applied", False, str(error))
+    for edit in edits[:]:
+        lacks = [it for it in edit.needs if not shutil.which(it)]
+        if lacks:
+            cases.skip(edit.name, f"there is no command {lacks[0]}")
+            edits.remove(edit)
+    with tempfile.TemporaryDirectory(prefix="mutants-") as room:
+        trees = Trees(program, room)
+        with ThreadPoolExecutor(trees.count) as pool:
+            before = {it: pool.submit(trees.test, it) for it in together(it.test for it in edits)}
+            after = [pool.submit(trees.test, it.test, it.file, texts[it.name]) for it in edits]
+            for test, result in before.items():
+                judge_whole(cases, test, result.result())
+            for edit, result in zip(edits, after):
+                judge(cases, edit, result.result())
+    used = resource.getrusage(resource.RUSAGE_CHILDREN)
+    cases.say(f"{len(edits)} edits in {time.monotonic() - began:.0f} s, with "
+              f"{used.ru_utime + used.ru_stime:.0f} s of the processors")
+    cases.finish()
+
+
+if __name__ == "__main__":
+    main()

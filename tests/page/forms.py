@@ -1,0 +1,199 @@
+"""The forms in which players keep levels and solutions."""
+import gzip
+import io
+import json
+import random
+import re
+import zipfile
+from itertools import groupby
+from typing import Dict, List, Tuple
+
+from sokotool import answers, levels
+
+from tests.page.comparing import HEADER, Comparison
+from tests.page.driving import Tab
+from tests.page.using import ANSWERS, CORNER, LETTERS, LEVEL, LINE
+from tests.runner import TOP, encode, read, run, write
+from tests.tools.exports import ALL
+from tests.tools.test_exports import made_by, plain
+
+
+def zipped(files: Dict[str, bytes]) -> bytes:
+    """A zip with files."""
+    out = io.BytesIO()
+    with zipfile.ZipFile(out, "w", zipfile.ZIP_DEFLATED) as archive:
+        for name, data in files.items():
+            archive.writestr(name, data)
+    return out.getvalue()
+
+
+def forms(check: Comparison, tab: Tab) -> None:
+    """Levels and solutions in the forms that keepers have."""
+    coded = "|".join("".join(f"{count}{cell}" if count > 1 else cell for cell, count in (
+        (cell, len([*run])) for cell, run in groupby(row)))
+        for row in LEVEL.replace(" ", "-").splitlines())
+    rows = "".join(f"<L>{row}</L>" for row in LEVEL.splitlines())
+    slc = (f"<?xml version='1.0'?>\n<SokobanLevels><LevelCollection>\n<Level Id='Fi&amp;rst'>{rows}"
+           f"<Solution>{LETTERS}</Solution></Level></LevelCollection></SokobanLevels>")
+    whole = f"Erster\n{LEVEL}L\u00f6sung: {LETTERS}\n"
+    for name, data in {
+            "rows.slc": slc.encode(), "utf16.slc": slc.encode("utf-16"),
+            "cut.slc": slc[:-40].encode(), "coded.sok": f"{coded}\n{LETTERS}\n".encode(),
+            "cell.csv": f"1,{coded},{LETTERS}".encode(),
+            "quoted.txt": "".join(f"> {row}\n" for row in (LEVEL + LETTERS).splitlines()).encode(),
+            "listed.json": json.dumps([LEVEL.splitlines(), LETTERS]).encode(),
+            "utf16.txt": whole.encode("utf-16"), "nomark.txt": whole.encode("utf-16-be"),
+            "latin.txt": whole.encode("latin-1"), "mac.txt": whole.replace("\n", "\r").encode(),
+            "gb.txt": f"{LEVEL}\u7b54\u6848\uff1a{LETTERS}\n".encode("gb18030"),
+            "html.html": f"<pre>{LEVEL}</pre><p>Solution: <b>{LETTERS}</b>".encode(),
+            "pack.zip": zipped({"x/10.txt": CORNER.encode(), "x/2.txt": LEVEL.encode(),
+                                "x/list.sol": f"Nr 2: {LETTERS}".encode()}),
+            "pack.gz": gzip.compress(whole.encode())}.items():
+        with open(name, "wb") as file:
+            file.write(data)
+        check.same(f"{name}: message", "", tab.give(name))
+        check.same(f"{name}: solved", LINE, tab.text("lines")[:len(LINE)])
+    check.same("an order by numbers", True, tab.give("pack.zip") == "" and
+               "level 2 missing" in tab.text("lines"))
+    tab.give("rows.slc")
+    check.same("the title of SLC", ["Fi&rst", 3], tab.ask(
+        "[shownData.levels[0].title, shownData.levels[0].line]"))
+    check.same("the made levels", LEVEL.splitlines(), [
+        it for it in tab.saved("levels").decode().splitlines() if "#" in it])
+    write("more.xsb", f"{CORNER}\n{LEVEL}")
+    write("sol.txt", f"2) {LETTERS.lower()}\n")
+    tab.ask("clear(); 0")
+    tab.give("more.xsb", "sol.txt")
+    check.same("a list in a second file", "level 2 solved", tab.text("lines").splitlines()[1][:14])
+    write("sol.txt", f"2) {LETTERS.lower()}\n\n3) uuuuuuuuuuuu\n")
+    tab.give("more.xsb", "sol.txt")
+    check.same("a line of it that solves nothing", ["sol.txt line 3"], [
+        it.split(":")[0] for it in tab.told()])
+    write("mark.answers", f"\ufeff{ANSWERS}")
+    write("one.xsb", LEVEL)
+    tab.give("one.xsb", "mark.answers")
+    check.same("a mark before the answers", LINE, tab.text("lines")[:len(LINE)])
+    check.same("nothing is left out", "", tab.text("notes"))
+    left_out = "The solutions beside the levels are left out, since there are answers: "
+    write("both.xsb", f"{LEVEL}Title: dull\n\n{LEVEL}\nSolution\n{LETTERS}\n\n{LETTERS}\n")
+    tab.give("both.xsb", "mark.answers")
+    check.same("solutions beside answers", f"{left_out}lines 18, 21.", tab.text("notes"))
+    for name, data in (("both.zip", zipped({"both.xsb": f"{LEVEL}{LETTERS}\n".encode()})),
+                       ("both.gz", gzip.compress(f"{LEVEL}{LETTERS}\n".encode()))):
+        with open(name, "wb") as file:
+            file.write(data)
+        tab.give(name, "mark.answers")
+        check.same(f"{name} beside answers", f"{left_out}of 1 level.", tab.text("notes"))
+    tab.ask("clear(); 0")
+    tab.paste("levels", f"{LEVEL}Solution\n{LETTERS[:-2]}lrUU\n\nSolution\n{LETTERS}\n")
+    check.same("the best of two", [LINE, 1], [tab.text("lines")[:len(LINE)], sum(
+        "35 moves" in it for it in tab.told())])
+    tab.paste("levels", f"{LEVEL}\n{LEVEL.replace('*', '=')}\nSolution: up\n")
+    check.same("what isn't read is named", ["line 12: l", "line 17: a"], [
+        it[:10] for it in tab.told()])
+    with open("picture.png", "wb") as file:
+        file.write(b"\x89PNG\r\n\x1a\n\0\0\0")
+    check.same("a picture", ["No level is found.", "is a picture, no text"], [
+        tab.give("picture.png"), tab.told()[0].split(": ")[-1]])
+
+
+# Letters of other alphabets, and what the page says of them.
+COMPASS = dict(zip("lurdLURD", "wnesWNES"))
+PAD = dict(zip("lurdLURD", "48624862"))
+KEYS = dict(zip("lurdLURD", "awdsAWDS"))
+
+
+def others(check: Comparison, tab: Tab) -> None:
+    """Other alphabets, entities, other games, and archives that would fill the memory."""
+    for name, alphabet in (("points of the compass", COMPASS), ("the keys of a number pad", PAD),
+                           ("the keys W, A, S and D", KEYS)):
+        letters = "".join(alphabet[it] for it in LETTERS)
+        for heading in ("", "Solution: ", "Solution\n"):
+            tab.paste("levels", f"{LEVEL}{heading}{letters}\n")
+            check.same(f"{name} after {heading!r}", LINE, tab.text("lines")[:len(LINE)])
+            check.same(f"{name} after {heading!r} are told", f"{name} were read as letters",
+                       tab.told()[0].split(": ")[-1])
+    tab.paste("levels", f"{LEVEL}sewn new\n44\n{LETTERS}\n")
+    check.same("words of such letters", [LINE, []], [tab.text("lines")[:len(LINE)], tab.told()])
+    coded = LEVEL.replace("#", "&#35;").replace(" ", "&nbsp;").replace("@", "&#x40;")
+    tab.paste("levels", f"<pre>{coded}</pre>\nSolution: {LETTERS}\n")
+    check.same("entities", LINE, tab.text("lines")[:len(LINE)])
+    tab.paste("levels", f"Type: Hexoban\n{LEVEL}{LETTERS}\n")
+    check.same("another game", True, "names another game, Hexoban" in tab.told()[0])
+    bomb = zipped({"bomb.txt": b"#" * 40000000})
+    for name, data in (("bomb.zip", bomb), ("nested.zip", zipped({"bomb.zip": bomb})),
+                       ("bomb.gz", gzip.compress(b"#" * 40000000)),
+                       ("many.zip", zipped({f"{i}.txt": b"#" * 5000000 for i in range(8)}))):
+        with open(name, "wb") as file:
+            file.write(data)
+        check.same(f"{name}: message", "No level is found.", tab.give(name))
+        check.same(f"{name}: told", True, "it has more than 33554432 bytes" in " ".join(tab.told()))
+    tab.ask("clear(); 0")
+    tab.paste("levels", f"{LEVEL}Solution: 16000000(ud)\n\n{LEVEL}{LETTERS}\n")
+    check.same("one line doesn't spoil all", ["level 1 missing", "level 2 solved"], [
+        line[:15].strip() for line in tab.text("lines").splitlines()[:2]])
+
+
+def found_in(tab: Tab, message: str) -> Tuple[List[str], Dict[int, str], bool]:
+    """The levels and solutions that the page read, and whether it says something."""
+    found, solved = ("", "") if message else tab.ask("[kept.levels, kept.answers].map(textOf)")
+    is_told = bool(message or tab.ask("$('told').childElementCount")
+                   or re.search(r"^level \d+ refused ", tab.text("lines"), re.M))
+    return (*contents(found.encode("latin-1"), solved.encode("latin-1")), is_told)
+
+
+def contents(found: bytes, solved: bytes) -> Tuple[List[str], Dict[int, str]]:
+    """The levels and the solutions in two texts."""
+    rows = [plain(level.rows) for level in levels.read(found)]
+    return rows, {it.level: it.letters.decode()
+                  for it in answers.read(solved or HEADER, len(rows)).records}
+
+
+def exports(check: Comparison, tab: Tab) -> None:
+    """Exports in the forms of many programs are read as they were meant, or something is said."""
+    counts = {"right": 0, "told": 0}
+    for export in ALL:
+        with open(export.file, "wb") as file:
+            file.write(export.text if isinstance(export.text, bytes) else export.text.encode())
+        tab.ask("clear(); 0")
+        found, letters, is_told = found_in(tab, tab.give(export.file))
+        is_right = found == export.levels and letters == export.solutions
+        counts["right" if is_right else "told"] += 1
+        if export.levels and export.name not in UNREAD:
+            check.same(f"export {export.name}: read", [export.levels, export.solutions],
+                       [found, letters])
+        elif export.name not in READ:
+            check.same(f"export {export.name}: told", [True, False], [is_told, is_right])
+    print(f"exports: {len(ALL)} tried, {counts}", flush=True)
+
+
+def both(check: Comparison, tab: Tab) -> None:
+    """The page and `sokotool convert` read the exports in samples/ alike, or the page says
+    something. So it does of random collections like those of convert's tests, or reads them."""
+    for names in ("editor.slc", "forum.txt", "lines.txt", "player.sok", "stairs.sok stairs.sol"):
+        paths = [f"{TOP}/samples/exports/{name}" for name in names.split()]
+        run([f"{TOP}/sokotool", "convert", "out", *paths, "--replace"])
+        tab.ask("clear(); 0")
+        wanted = contents(encode(read("out.xsb")), encode(read("out.answers")))
+        *found, is_told = found_in(tab, tab.give(*paths))
+        check.same(f"{names}: as convert reads it", True, [*wanted] == found or is_told)
+    tab.ask("clear(); 0")
+    chance, counts = random.Random(58), {"right": 0, "told": 0}
+    for number in range(100):
+        text, boards, solutions = made_by(chance)
+        rows, letters, is_told = found_in(tab, tab.paste("levels", text))
+        is_right = letters == solutions
+        counts["right" if is_right else "told"] += 1
+        check.same(f"made export {number}", [boards, True], [rows, is_right or is_told])
+    print(f"made exports: {counts}", flush=True)
+    check.same("most are right", True, counts["right"] > 9 * counts["told"])
+
+
+# exports that sokotool alone reads, and those of which only the page takes the rows: they have two
+# meanings, something more in the line, or the head of another game
+UNREAD = {"dressed by Python's bytes", "dressed by Java", "dressed by Java, one string",
+          "dressed by YAML", "dressed by SokoSolve", "dressed, two"}
+READ = {"heading between", "SLC rows in no L", "dressed, a title in the line",
+        "dressed, letters in the line", "other game: Gnu Robbo", "other game: xsok",
+        "other game: Boulder Dash", "other game: PuzzleScript", "other game: a picture"}
+PARTS = (forms, others, exports, both)

@@ -1,0 +1,146 @@
+"""What comes late, what is judged before it is drawn, and what lies around the levels."""
+from itertools import product
+from typing import Callable, Dict, List, Tuple
+
+from tests.page.comparing import Comparison
+from tests.page.driving import Tab
+from tests.page.using import CORNER, CORRIDOR, LETTERS, LEVEL
+from tests.runner import TOP, write
+
+
+def judging(check: Comparison, tab: Tab) -> None:
+    """What is drawn is judged by itself, and not drawn if the verdict is another."""
+    samples = f"{TOP}/samples/"
+    tab.give(f"{samples}every.xsb", f"{samples}every.answers")
+    count = tab.ask("shownData.levels.length")
+    for number in range(1, count + 1):
+        tab.opened(number)
+        said = "".join(tab.frame(".judged, .misjudged"))
+        is_large = "board size" in tab.frame("#level .verdict")[0]
+        check.same(f"level {number} is judged", "" if is_large else "same verdict.", said[-13:])
+        is_refused = " refused " in tab.frame("#level .verdict")[0]
+        check.same(f"level {number} is explained", is_refused, bool(tab.frame(".why")[0]))
+    for change in ("levels[0], 'rows', { value: shownData.levels[1].rows }",
+                   "levels[0], 'rows', { value: ['no row'] }",
+                   "records[1], 'bytes', { value: bytesOf('level 1\\nsolution\\nL\\nend\\n') }"):
+        tab.give(f"{samples}every.xsb", f"{samples}every.answers")
+        tab.ask(f"Object.defineProperty(shownData.{change}); 0")
+        tab.opened(1)
+        check.same(f"not drawn: {change}", 0, len(tab.frame("#level svg")))
+
+
+# Each read of a file of some length, each message of a thread and each start of one comes late.
+SLOW = """{
+    const parts = $("thread"), Plain = globalThis.Worker;
+    parts.textContent = `{
+        const read = Blob.prototype.arrayBuffer;
+        Blob.prototype.arrayBuffer = async function () {
+            if (this.size > 500) await new Promise(done => setTimeout(done, 250));
+            return read.call(this);
+        };
+    }\n` + parts.textContent;
+    globalThis.Worker = class extends Plain {
+        set onmessage(does) {
+            super.onmessage = event => setTimeout(() => does(event), 40);
+        }
+    };
+} 0"""
+PASTED = f"$('levels').value = {CORNER!r}; $('levels').dispatchEvent(new Event('paste')); 0"
+# What a user does first, and then; and what is shown in the end: the report's first line, the name
+# of the levels, and the message.
+FIRST: Dict[str, Callable[[Tab], object]] = {
+    "a slow file": lambda tab: tab.choose("slow.xsb"),
+    "slow files": lambda tab: tab.choose("slow.xsb", "slower.xsb"),
+    "a slow list": lambda tab: tab.choose("slow.xsb", "slow.txt"),
+    "pasting": lambda tab: tab.ask(PASTED),
+    "make": lambda tab: tab.ask("$('make').click(); 0"),
+    "saving the page": lambda tab: tab.ask("$('save-page').click(); 0"),
+}
+THEN: Dict[str, Tuple[Callable[[Tab], object], List[str]]] = {
+    "pasting": (lambda tab: tab.ask(f"clear(); {PASTED}"), ["level 1 missing", "levels", ""]),
+    "clearing": (lambda tab: tab.ask("$('clear').click(); 0"), ["", "", ""]),
+    "a fast file": (lambda tab: tab.choose("fast.xsb"), ["level 1 solved", "fast.xsb", ""]),
+    "the example": (lambda tab: tab.ask("$('example').click(); 0"),
+                    ["level 1 solved", "levels", ""]),
+    "an empty text": (lambda tab: tab.ask("clear(); $('audit').click(); 0"), [
+        "", "", "There is nothing to audit yet: paste or drop levels."]),
+}
+SHOWN = """[...$('result').hidden ? ['', ''] : [
+    /^level 1 [a-z]+/.exec($('lines').textContent)[0], kept.names[0]],
+    $('message').hidden ? '' : $('message').textContent]"""
+
+
+def late(check: Comparison, tab: Tab) -> None:
+    """Whatever comes late, what is shown in the end is what was asked for last."""
+    for name, text in (("slow.xsb", LEVEL + LETTERS + "\n" * 600),
+                       ("slow.txt", LETTERS + "\n" * 600),
+                       ("slower.xsb", CORNER + "\n" * 600), ("fast.xsb", LEVEL + LETTERS)):
+        write(name, text)
+    for i, ((first, begin), (then, (follow, wanted))) in enumerate(
+            product(FIRST.items(), THEN.items())):
+        pause = i % 3 * 60
+        tab.fresh()
+        tab.ask(f"{SLOW}; HTMLAnchorElement.prototype.click = () => 0")
+        if first in ("make", "saving the page"):
+            tab.paste("levels", f"{LEVEL}{LETTERS}\n\n{CORNER}")
+        begin(tab)
+        tab.ask(f"new Promise(done => setTimeout(done, {pause}))")
+        follow(tab)
+        tab.wait("$('busy').hidden")
+        tab.ask("new Promise(done => setTimeout(done, 400))")
+        check.same(f"late: {first}, then {then} after {pause} ms", wanted, tab.ask(SHOWN))
+
+
+def stopped(check: Comparison, tab: Tab) -> None:
+    """After Cancel the result that is shown stays, and its buttons work."""
+    tab.paste("levels", f"{LEVEL}{LETTERS}\n\n{CORNER}")
+    tab.ask("make(), $('cancel').click(), 0")
+    check.same("cancelled", [True, False, "level 2 missing"], tab.ask(
+        "[$('busy').hidden, $('result').hidden, $('lines').textContent.split('\\n')[1]]"))
+    tab.ask("savePage().then(() => 0)")
+    check.same("a saved page after that", True, len(tab.saved("page")) > 10000)
+    check.same("dead squares after that", True, "x" in tab.ask("deadSquares(2)")["map"])
+    tab.click("#make")
+    tab.wait("$('lines').textContent.includes('level 2 unsolvable')")
+    for name in ("a.xsb", "b.xsb", "c.xsb"):
+        write(name, LEVEL + LETTERS + "\n" * 600)
+    tab.fresh()
+    tab.ask(f"{SLOW}; new MutationObserver(() => globalThis.first ??= document.querySelector("
+            "'#each button')?.disabled).observe($('each'), { childList: true }); 0")
+    tab.choose("a.xsb", "b.xsb", "c.xsb")
+    tab.wait("document.querySelector('#each button')")
+    check.same("no click ends the queue", True, tab.ask("first"))
+    tab.wait("document.querySelectorAll('#each li').length === 3 && $('busy').hidden")
+    check.same("then all can be clicked", 0, tab.ask(
+        "document.querySelectorAll('#each button:disabled').length"))
+
+
+def around(check: Comparison, tab: Tab) -> None:
+    """The frame, the cards, paper, and a window of its own."""
+    corpus = "".join(f"{CORNER}Title: Level gypq {i}\n\n" for i in range(300))
+    write("many.xsb", f"{CORRIDOR}{'lr' * 200}{'R' * 100}\n\n{corpus}")
+    tab.give("many.xsb")
+    check.same("counts of three digits", "500 moves, 100 pushes", tab.frame(".card .line")[0])
+    check.same("no card is cut", True, tab.ask(
+        "[...$('page').contentDocument.querySelectorAll('.card')]"
+        ".every(it => it.scrollHeight <= it.clientHeight)"))
+    check.same("the frame has no scroll bar", True, tab.ask(
+        "$('page').contentDocument.documentElement.scrollHeight <= $('page').clientHeight"))
+    check.same("few cards", True, len(tab.frame(".card")) < 150)
+    tab.ask("scrollTo(0, document.body.scrollHeight); 0")
+    tab.wait("$('page').contentDocument.querySelector('[data-level=\"301\"]')")
+    tab.ask("dispatchEvent(new Event('beforeprint')); 0")
+    check.same("all levels on paper", 301, tab.ask("$('printed').children.length"))
+    tab.ask("dispatchEvent(new Event('afterprint')); 0")
+    tab.ask("""globalThis.opened = null; globalThis.open = () => {
+        opened = document.body.appendChild(document.createElement('iframe'));
+        return opened.contentWindow; }; 0""")
+    tab.ask("$('page').contentDocument.querySelector('[data-level=\"301\"]').dispatchEvent("
+            "new MouseEvent('click', { ctrlKey: true, bubbles: true, cancelable: true })); 0")
+    check.same("Ctrl and a click", [[], "Level 301"], [tab.frame("#heading"), tab.ask(
+        "opened?.contentDocument.querySelector('#heading').firstChild.textContent")])
+    check.same("a sentence for old browsers", True, tab.ask(
+        "$('old').hidden && $('old').textContent.length > 20"))
+
+
+PARTS = (judging, late, stopped, around)

@@ -1,0 +1,67 @@
+"""Archives that can't be read, and what .sokoignore says."""
+import io
+import os
+import unittest.mock
+import zipfile
+from typing import List
+
+from sokotool import exports, report
+from tests.tools.helping import ONE, Case
+
+
+class Archives(Case):
+    def archive(self, *names: str, form: int = zipfile.ZIP_STORED) -> bytes:
+        """The bytes of an archive with a level in each of these files."""
+        data = io.BytesIO()
+        with zipfile.ZipFile(data, "w", form) as archive:
+            for name in names:
+                archive.writestr(name, ONE)
+        return data.getvalue()
+
+    def complaints(self) -> List[str]:
+        """What a run says of the archive a.zip."""
+        return self.tool("convert", "out", "a.zip").err.splitlines()
+
+    def test_too_much_in_it(self) -> None:
+        self.write("a.zip", self.archive("1.txt", "2.txt", "3.txt"))
+        with unittest.mock.patch.object(exports, "MOST_IN_ARCHIVE", 2):
+            self.assertIn("cannot read a.zip: more than 2 files", self.complaints()[0])
+        self.assertFalse(os.path.exists("out.xsb"))
+        with unittest.mock.patch.object(exports, "MOST_UNPACKED", 3 * len(ONE) - 1):
+            self.assertIn("cannot read a.zip: more than", self.complaints()[0])
+        with unittest.mock.patch.object(exports, "MOST_IN_ARCHIVE", 3), \
+                unittest.mock.patch.object(exports, "MOST_UNPACKED", 3 * len(ONE)):
+            self.assertEqual(self.complaints(), ["convert: 3 levels, 0 solutions, 0 left out"])
+        self.assertEqual(self.read("out.xsb").count(b"@"), 3)
+
+    def test_encrypted(self) -> None:
+        data = bytearray(self.archive("1.txt"))
+        for start, place in ((b"PK\3\4", 6), (b"PK\1\2", 8)):
+            data[data.index(start) + place] |= 1
+        self.write("a.zip", bytes(data))
+        self.assertIn("cannot read a.zip/1.txt: File ", self.complaints()[0])
+
+    def test_broken(self) -> None:
+        """Neither the bytes of a file nor its packed form are as they were."""
+        for form in (zipfile.ZIP_STORED, zipfile.ZIP_DEFLATED):
+            data = bytearray(self.archive("1.txt", form=form))
+            at = data.index(b"1.txt") + 5
+            data[at:at + 4] = b"\xff" * 4
+            self.write("a.zip", bytes(data))
+            self.assertIn("cannot read a.zip/1.txt: ", self.complaints()[0])
+
+    def test_comments_of_ignored_names(self) -> None:
+        for name in ("#1.txt", "2.txt", "3.txt"):
+            self.write(name, ONE)
+        self.write(".sokoignore", "#1.txt\n2.txt\n")
+        names = [os.path.basename(it.name) for it in exports.listed(["."])]
+        self.assertEqual(names, ["3.txt", "#1.txt"])
+
+
+class Reports(Case):
+    def test_lines_after_the_total(self) -> None:
+        """A line after the total belongs to no report, but for a comment."""
+        one = b"level 1 missing\ntotal 1 solved 0 unsolvable 0 refused 0 missing 1\n"
+        self.assertIsNone(report.read(one + b"; note\n").fault(1))
+        for more in (b"level 2 missing\n", b"total 1 solved 1 unsolvable 0 refused 0 missing 0\n"):
+            self.assertEqual(report.read(one + more).fault(1), "line 3 isn't a line of a report")

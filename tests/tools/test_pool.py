@@ -1,0 +1,198 @@
+"""Which of several answers is picked, what is said of the others, and how the files of a collection
+become."""
+import os
+import unittest.mock
+from typing import Dict, List
+
+from sokotool import (answers, boards, carrying, changes, kept, memory, own_files, pool, report,
+                      system, texts)
+from sokotool.blocks import Block
+from sokotool.collection import BOTH, MOVES, PUSHES
+from sokotool.game import board_of
+from sokotool.levels import Level
+from sokotool.pool import Pool
+from tests.tools.helping import Case, not_on_windows
+
+# Two steps to the right push the box to the far goal, and walks around it to the near one.
+ROWS = [b"########", b"#      #", b"#@.$ . #", b"#      #", b"########"]
+SHORT, AROUND, LONGER = b"rRR", b"urrrdL", b"udurrrdL"
+
+
+STATE = changes.Snapshot([Level(1, ROWS, 1)], boards.forms_of([Level(1, ROWS, 1)]))
+
+
+def record(letters: bytes, above: bytes = b"") -> bytes:
+    """A record of level 1."""
+    return b"%slevel 1\nsolution\n%s\nend\n" % (above, letters)
+
+
+def read(*records: bytes) -> answers.Answers:
+    """An answers file of these records."""
+    return answers.read(answers.text(records), rising=False)
+
+
+class Picked(Case):
+    def picked(self, best: str, *letters: bytes) -> Pool:
+        """A pool with these solutions."""
+        found = Pool(STATE, best)
+        for it in letters:
+            found.add_computed(1, answers.answer_of(record(it)))
+        return found
+
+    def test_ties(self) -> None:
+        """Of as many pushes the fewest moves are better, in any order."""
+        for given in ((LONGER, AROUND, SHORT), (SHORT, AROUND, LONGER)):
+            for best, wanted in ((PUSHES, AROUND), (MOVES, SHORT), (BOTH, SHORT)):
+                found = self.picked(best, *given)
+                chosen = found._choice(1)
+                assert chosen is not None
+                self.assertEqual(chosen.answer.letters, wanted)
+                other = found._other(chosen)
+                self.assertEqual(other and other.answer.letters, AROUND if best == BOTH else None)
+
+    def test_reason_of_a_refusal(self) -> None:
+        """It names no line of a text that nobody sees."""
+        found = Pool(STATE, MOVES)
+        found.add_file("a.answers", read(b"level 1\nunsolvable\npattern 3,3 @ *\nend\n"), STATE)
+        found.chosen = {1: found._of[1][0]}
+        pool._refuse(report.read(b"level 1 refused line 4 push 3,3 r\n"), found.chosen)
+        self.assertEqual(found.left_out(),
+                         ["a.answers line 2: refused for level 1: push 3,3 r"])
+
+    def test_comments(self) -> None:
+        """A record stands for another one if it has its answer and its comments."""
+        plain, noted = record(SHORT), record(SHORT, b"; mine\n")
+        for chosen, other, wanted in ((noted, plain, True), (plain, noted, False),
+                                      (noted, record(AROUND), False)):
+            one, two = map(answers.answer_of, (chosen, other))
+            self.assertEqual(one.covers(two), wanted)
+
+
+class Placed(Case):
+    """What becomes of the records of the last check."""
+
+    def state(self, *rows: List[bytes]) -> changes.Snapshot:
+        found = [Level(number, it, 1) for number, it in enumerate(rows, 1)]
+        return changes.Snapshot(found, boards.forms_of(found))
+
+    def chosen(self, found: Pool) -> Dict[int, bytes]:
+        """Chooses without an audit, and returns the letters by the numbers of the levels."""
+        found.audited(lambda _: report.Report([], None, []), lambda text: text)
+        return {number: it.answer.letters for number, it in found.chosen.items()}
+
+    def test_twins_have_one_answer(self) -> None:
+        """Each in the direction of its own board, whatever their order is."""
+        mirrored = [row[::-1] for row in ROWS]
+        found = Pool(self.state(mirrored, ROWS), MOVES)
+        found.add_own(read(record(SHORT)), STATE, STATE, set())
+        self.assertEqual(self.chosen(found), {1: b"lLL", 2: SHORT})
+        self.assertEqual(found.left(kept.Kept([], [])), [])
+
+    def test_what_has_no_place_is_kept(self) -> None:
+        """But not what was computed, what the exports have, or what was stored already."""
+        for letters, is_left in ((AROUND, True), (SHORT, False)):
+            for is_computed in (False, True):
+                own = read(record(letters, b"; mine\n"))
+                digest = texts.digest(own.records[0].text)
+                found = Pool(STATE, MOVES)
+                found.add_own(own, STATE, STATE, {digest} if is_computed else set())
+                found.add_exported(read(record(SHORT, b"; mine\n")).records)
+                self.chosen(found)
+                left = found.left(kept.Kept([], []))
+                self.assertEqual(bool(left), is_left and not is_computed)
+                found.add_stored(kept.Kept(left, []))
+                self.assertEqual(found.left(kept.Kept(left, [])), left)
+        gone = Pool(self.state([b"#####", b"#@$.#", b"#####"]), MOVES)
+        gone.add_own(read(record(SHORT)), STATE, STATE, set())
+        self.assertEqual(self.chosen(gone), {})
+        self.assertEqual([(it.head, it.block.rows) for it in gone.left(kept.Kept([], []))],
+                         [(b"; kept from level 1", tuple(ROWS))])
+
+    def test_stored_answers_come_back(self) -> None:
+        own = read(record(SHORT, b"; mine\n")).records[0]
+        entry = kept.Entry(b"; kept", Block((), tuple(ROWS), ()), own)
+        typed = entry._replace(block=entry.block._replace(above=(b"; typed",)))
+        stored = kept.Kept([entry, typed], [])
+        found = Pool(STATE, MOVES)
+        found.add_stored(stored)
+        self.assertEqual(self.chosen(found), {1: SHORT})
+        self.assertEqual(found.left(stored), [typed._replace(record=None)])
+
+    def test_kept_files_are_read_as_they_were_written(self) -> None:
+        own = answers.read(b"sokoban-answers 1\n; a\n\n; b\n" + record(SHORT) + b"; rest\n")
+        first = Block((b"; above",), tuple(ROWS), (b"Title: t",))
+        entries = [kept.Entry(b"; kept from level 3", first, own.records[0]),
+                   kept.Entry(b"; kept from level 4", first._replace(above=()))]
+        text, records = kept.Kept(entries, own.rest).files()
+        assert text is not None and records is not None
+        again = kept.read(text, answers.read(records))
+        self.assertEqual(again.files(), (text, records))
+        for one, other in zip(again.entries, entries):
+            self.assertEqual(one[:2], other[:2])
+            self.assertEqual(one.record and one.record.answer,
+                             other.record and other.record.answer)
+
+    def test_there_and_back(self) -> None:
+        """An answer that was turned for another board and back is what it was."""
+        across = [bytes(column) for column in zip(*(row.ljust(8) for row in ROWS))]
+        for rows in (across, [row[::-1] for row in across], ROWS[::-1], [b"", *ROWS]):
+            one, two = (boards.form_of(Level(1, it, 1)) for it in (ROWS, rows))
+            for body in (b"solution\n; why\n" + AROUND,
+                         b"unsolvable\npattern 3,3 4,3 @ 2,3\npattern 5,2 @ *",
+                         b"unsolvable\nzone 2,2 3,2"):
+                answer = answers.answer_of(b"; a\nlevel 1\n" + body + b"\n\nend\n")
+                there = carrying.turned(answer, one, two)
+                self.assertEqual(carrying.turned(there, two, one), answer)
+                if answer.kind == "solution":
+                    self.assertIsNone(board_of(two.level).replay(there.letters).fault)
+
+
+class Read(Case):
+    def test_lines_above_a_record(self) -> None:
+        """Those right above it are its own, and what an empty line parts from it is loose."""
+        both = answers.read(b"sokoban-answers 1\n; a\n\n; b\n\n; c\n" + record(SHORT))
+        (found,) = both.records
+        self.assertEqual((found.loose, found.answer.above),
+                         ([b"; a", b"", b"; b", b""], (b"; c",)))
+
+    def test_versions(self) -> None:
+        for lines, version in ((b"pattern 3,3 @ *", 1), (b"zone 3,3", 2)):
+            text = answers.text([b"level 1\nunsolvable\n%s\nend\n" % lines])
+            self.assertEqual(text.splitlines()[0], b"sokoban-answers %d" % version)
+
+    def test_damaged_memory(self) -> None:
+        for data in (b"{", b"{}", b"[]", b"5", b'{"levels": 5}',
+                     b'{"levels": [], "ordered": true, "searched": [], "computed": []}'):
+            with self.assertRaisesRegex(texts.Stop, "mine.memory is damaged"):
+                memory.read(data, "mine.memory")
+
+
+class Own(Case):
+    def test_backups_are_of_the_last_run(self) -> None:
+        """They are the files before this run, however often it writes."""
+        self.write("mine.xsb", "before")
+        files = own_files.Files("mine", False)
+        for text in (b"first", b"second"):
+            files.write({own_files.XSB: text})
+        self.assertEqual((self.read("mine.xsb"), self.read("mine.xsb~")), (b"second", b"before"))
+
+    def test_no_backups_where_there_are_some(self) -> None:
+        self.write("mine.xsb", "before")
+        own_files.Files("mine", True).write({own_files.XSB: b"after"})
+        self.assertFalse(os.path.exists("mine.xsb~"))
+
+    @not_on_windows
+    def test_lock_of_a_file_that_is_gone(self) -> None:
+        """Whoever had the lock may have removed the file before it was locked here."""
+        def lock(number: int) -> bool:
+            os.unlink("lock")
+            self.write("lock", "")
+            return real(number)
+
+        real = system.lock
+        with unittest.mock.patch.object(system, "lock", lock):
+            self.assertIsNone(own_files._locked("lock"))
+        file = own_files._locked("lock")
+        self.assertIsNotNone(file)
+        assert file is not None
+        file.close()

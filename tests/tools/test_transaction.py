@@ -1,0 +1,307 @@
+"""Files that are replaced together: all or none, whatever happens at whichever moment."""
+import contextlib
+import itertools
+import json
+import os
+import unittest.mock
+from typing import Any, Callable, Dict, Iterator, List
+
+from sokotool import system, texts, transaction
+
+from .ending import Killed
+from .helping import Case, not_on_windows
+
+OLD = {"a": b"old a\n", "b": b"old b\n", "gone": b"old\n"}
+NEW = {"a": b"new a\n", "b": b"new b\n", "fresh": b"new\n"}
+FILES = [(name, OLD.get(name), NEW.get(name)) for name in ("fresh", "a", "gone", "b")]
+CALLS = "replace", "rename", "link", "unlink"
+real_replace, real_rename = os.replace, os.rename
+
+
+@contextlib.contextmanager
+def at_calls(act: Callable[[int], None]) -> Iterator[List[str]]:
+    """Acts before each call that moves or removes a file, and yields the calls so far."""
+    seen: List[str] = []
+
+    def patched(name: str) -> Any:
+        real = getattr(os, name)
+
+        def called(*words: Any, **named: Any) -> Any:
+            seen.append(name)
+            act(len(seen))
+            return real(*words, **named)
+        return unittest.mock.patch.object(os, name, called)
+    with contextlib.ExitStack() as stack:
+        for name in CALLS:
+            stack.enter_context(patched(name))
+        yield seen
+
+
+def kill_at(moment: int, goes_on: bool) -> Callable[[int], None]:
+    """Returns what ends a run at a call; after a kill nothing more is done."""
+    def kill(now: int) -> None:
+        if now == moment or now > moment and not goes_on:
+            raise Killed
+    return kill
+
+
+def rename_as_windows(made: str, path: str) -> None:
+    if os.path.exists(path):
+        raise FileExistsError
+    real_rename(made, path)
+
+
+class Transactions(Case):
+    def setUp(self) -> None:
+        super().setUp()
+        self.put(unittest.mock.patch.object(os, "fsync"))
+        self.start()
+
+    def put(self, patch: Any) -> None:
+        patch.start()
+        self.addCleanup(patch.stop)
+
+    def start(self) -> None:
+        for name in os.listdir():
+            os.remove(name)
+        for name, data in OLD.items():
+            self.write(name, data)
+
+    def files(self) -> Dict[str, bytes]:
+        return {name: self.read(name) for name in os.listdir()}
+
+    def commit(self) -> bool:
+        """Returns whether the files were replaced."""
+        try:
+            transaction.commit(FILES, "journal")
+            return True
+        except transaction.Changed:
+            return False
+
+    def calls(self) -> List[str]:
+        with at_calls(lambda _: None) as seen:
+            self.assertTrue(self.commit())
+        self.start()
+        return seen
+
+    def moments(self) -> range:
+        return range(1, len(self.calls()) + 1)
+
+    def save(self, name: str, way: str, data: bytes) -> None:
+        """Saves as an editor does: in place, or by a new file that is renamed."""
+        self.write(name if way == "in place" else "editor", data)
+        if way != "in place":
+            real_replace("editor", name)
+
+    # ---- what is there at the end
+
+    def test_all_or_none(self) -> None:
+        self.assertTrue(self.commit())
+        self.assertEqual(self.files(), NEW)
+        for name in (*OLD, "fresh"):
+            self.start()
+            self.write(name, b"typed\n")
+            self.assertFalse(self.commit())
+            self.assertEqual(self.files(), {**OLD, name: b"typed\n"})
+
+    def test_saved_at_any_moment(self) -> None:
+        """What was saved is there, and the others are all old or all new."""
+        for moment, name, way in itertools.product(self.moments(), ("a", "b"),
+                                                   ("in place", "by rename")):
+            self.saves({moment: name}, way)
+
+    def test_saved_over_a_new_file(self) -> None:
+        """An editor that read a file before it was moved, and saves after that, has the last word,
+        and the others are as they were."""
+        journal_goes = len(self.calls()) - 2 * len(FILES)
+        for moment, name in itertools.product(range(1, journal_goes + 1), ("a", "b")):
+            self.assertFalse(self.saves({moment: name}, "in place"), moment)
+
+    def test_saved_again_and_again(self) -> None:
+        """The last save of a file is there, also while an earlier one has the files put back."""
+        last = max(self.moments())
+        for first, second in itertools.combinations(range(1, last + 12), 2):
+            if first <= last:  # a second one may come when files are put back
+                names = ("aa", "bb", "ab", "ba")[(first + second) % 4]
+                self.saves({first: names[0], second: names[1]},
+                           "in place" if second % 3 else "by rename")
+
+    def saves(self, names: Dict[int, str], way: str) -> bool:
+        """Saves files at moments. Returns whether the files were replaced although one was saved.
+        """
+        self.start()
+        typed: Dict[str, bytes] = {}
+
+        def act(now: int) -> None:
+            if now in names:
+                typed[names[now]] = b"typed at %d\n" % now
+                self.save(names[now], way, typed[names[now]])
+        with at_calls(act):
+            is_done = self.commit()
+        found = self.files()
+        self.assertEqual(found, {**(NEW if is_done else OLD), **typed}, f"{names} {way}")
+        return is_done
+
+    def test_written_by_who_has_it_open(self) -> None:
+        """What is written into a file that is moved aside comes back with it."""
+        calls = self.calls()
+        last = max(at for at, call in enumerate(calls, 1) if call in ("link", "rename"))
+        for moment, name in itertools.product(range(1, last + 1), ("a", "b")):
+            self.start()
+            with open(name, "ab") as late:
+                def act(now: int) -> None:
+                    if now == moment:
+                        late.write(b"typed\n")
+                        late.flush()
+                with at_calls(act):
+                    is_done = self.commit()
+            found = self.files()
+            said = f"moment {moment}, {name}: {is_done} {found}"
+            self.assertIn(b"typed", found.pop(name), said)
+            whole = dict(NEW if is_done else OLD)
+            whole.pop(name)
+            self.assertEqual(found, whole, said)
+
+    def test_ended_at_any_moment(self) -> None:
+        """The next run ends it, also if a file was edited in between: that is kept, and the others
+        are all old or all new."""
+        for moment, name, goes_on in itertools.product(
+                self.moments(), ("", "a", "b"), (False, True)):
+            self.start()
+            with at_calls(kill_at(moment, goes_on)):
+                self.assertRaises(Killed, self.commit)
+            there = name and os.path.exists(name)
+            if there:
+                self.write(name, self.read(name) + b"typed\n")
+            transaction.finish("journal")
+            found = {it: data for it, data in self.files().items() if it[0] != "."}
+            said = f"moment {moment}, {name}: {found}"
+            if there:
+                self.assertIn(b"typed", found.pop(name), said)
+            self.assertIn(found, [{it: data for it, data in state.items()
+                                   if it != name or not there} for state in (OLD, NEW)], said)
+
+    def test_taking_back_is_ended_too(self) -> None:
+        """A run is killed while it takes files back, and the next one goes on."""
+        for moment in range(1, 40):
+            self.start()
+
+            def act(now: int) -> None:
+                if now == 1:
+                    self.write("b", b"typed\n")
+                kill_at(moment, goes_on=False)(now)
+            with at_calls(act), contextlib.suppress(Killed):
+                self.assertFalse(self.commit())
+            transaction.finish("journal")
+            found = {it: data for it, data in self.files().items() if it[0] != "."}
+            self.assertEqual(found, {**OLD, "b": b"typed\n"}, f"moment {moment}")
+
+    def test_both_halves_edited(self) -> None:
+        """It stops, and changes nothing."""
+        stopped = 0
+        for moment in self.moments():
+            self.start()
+            with at_calls(kill_at(moment, goes_on=False)):
+                self.assertRaises(Killed, self.commit)
+            for name in ("a", "b"):
+                if os.path.exists(name):
+                    self.write(name, self.read(name) + b"typed\n")
+            before = {name: self.read(name) for name in ("a", "b") if os.path.exists(name)}
+            try:
+                transaction.finish("journal")
+            except texts.Stop as stop:
+                stopped += 1
+                self.assertRegex(str(stop), "/[ab] was changed after a write was cut off")
+            self.assertEqual(before, {name: self.read(name) for name in before})
+        self.assertGreater(stopped, 1)
+
+    # ---- the journal, and the disk
+
+    def test_journal(self) -> None:
+        """One that is cut off itself counts for nothing. If one can't be written, or is there,
+        nothing is."""
+        self.write("journal", b"[[")
+        self.assertEqual(transaction.finish("journal"), "")
+        self.assertEqual(self.files(), OLD)
+        full = OSError(28, "No space left on device")
+        with unittest.mock.patch.object(json, "dump", side_effect=full):
+            self.assertRaisesRegex(texts.Stop, "cannot write journal", self.commit)
+        self.assertEqual(self.files(), OLD)
+        self.write("journal", b"[]")
+        self.assertRaisesRegex(texts.Stop, "cannot write journal", self.commit)
+        self.assertEqual(self.files(), {**OLD, "journal": b"[]"})
+
+    def test_power_cut(self) -> None:
+        """New files, the journal and their names are on the disk before the first move, and the
+        moves are before the journal goes."""
+        done: List[str] = []
+
+        def note(name: str) -> Any:
+            return unittest.mock.patch.object(system, name, lambda it: done.append(
+                f"{name} {os.path.basename(str(getattr(it, 'name', it)))[:9]}"))
+        with note("keep"), note("keep_names"), at_calls(lambda _: done.append("call")) as calls:
+            self.commit()
+        folder = "keep_names " + os.path.basename(self.folder)[:9]
+        self.assertEqual(done[:6], ["keep .sokotool"] * 3 + ["keep journal", folder, "call"])
+        self.assertEqual(done.count(folder), 2)
+        rest = done[::-1].index(folder)
+        self.assertEqual(done[-rest:], ["call"] * rest)
+        # the journal, each new file, and each former one
+        self.assertEqual(calls[-rest:], ["unlink"] * (1 + 2 * len(FILES) - 1))
+
+    # ---- what stays, and other systems
+
+    @not_on_windows
+    def test_modes_and_links(self) -> None:
+        os.chmod("a", 0o640)
+        os.rename("b", "elsewhere")
+        os.symlink("elsewhere", "b")
+        mask = os.umask(0o027)
+        self.addCleanup(os.umask, mask)
+        self.assertTrue(self.commit())
+        self.assertEqual([os.stat(name).st_mode & 0o777 for name in ("a", "fresh")], [0o640] * 2)
+        self.assertEqual((os.readlink("b"), self.read("elsewhere")), ("elsewhere", NEW["b"]))
+
+    @not_on_windows
+    def test_attributes(self) -> None:
+        """Access lists are attributes of a file: user 7 may read, and nobody else."""
+        listed = bytes.fromhex("02000000" "01000600ffffffff" "0200040007000000"
+                               "04000000ffffffff" "10000400ffffffff" "20000000ffffffff")
+        given = {"system.posix_acl_access": listed, "user.tag": b"mine"}
+        for name, value in list(given.items()):
+            try:
+                os.setxattr("a", name, value)
+            except (AttributeError, OSError):
+                given.pop(name)
+        if not given:
+            self.skipTest("files have no attributes here")
+        self.assertTrue(self.commit())
+        self.assertEqual({name: os.getxattr("a", name) for name in given}, given)
+
+    def test_new_files_are_private_until_they_are_whole(self) -> None:
+        modes = []
+        real = os.chmod
+
+        def chmod(name: str, mode: int) -> None:
+            modes.append(os.stat(name).st_mode & 0o777)
+            real(name, mode)
+        with unittest.mock.patch.object(os, "chmod", chmod):
+            self.commit()
+        self.assertEqual(modes, [0o600] * 3)
+
+
+class WithoutLinks(Transactions):
+    """A file system without hard links, as FAT."""
+
+    def setUp(self) -> None:
+        super().setUp()
+        self.put(unittest.mock.patch.object(os, "link", side_effect=OSError(1, "Not permitted")))
+
+
+class ByRename(Transactions):
+    """Windows, where a rename replaces no file."""
+
+    def setUp(self) -> None:
+        super().setUp()
+        self.put(unittest.mock.patch.object(system, "IS_WINDOWS", True))
+        self.put(unittest.mock.patch.object(os, "rename", rename_as_windows))

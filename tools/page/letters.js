@@ -1,0 +1,235 @@
+// Finds the letters of solutions in lines, and plays them on boards. Nothing here decides what counts: what is found is audited.
+
+const MOST_PLAYED = 1 << 20, MOST_STEPS = 1e8, MOST_PIECES = 2000, MOST_TRIES = 100, TRY = 20, LONG = 8;
+const LETTERS_ALONE = /^[0-9() \t,;.'"`*-]*[lurdLURD][lurdLURD0-9() \t,;.'"`*-]*$/;
+const BETWEEN = /[ \t,;.'"`*-]/g, LOOSE = /(?<![\w(])\d+(?=[ \t,;.'"`*-]|$)/g;
+const AMONG_WORDS = /(?<![\p{L}\p{N}])[0-9(]*[lurdLURD][lurdLURD0-9() \t,;.'"`*-]*(?![\p{L}\p{N}])/gu;
+const IS_HEAD = new RegExp("solution|lurd\\s*[:=;#([\\d]|\\bmoves(?:\\s*#?\\d+)?(?:\\s*[:=]|\\s+is\\b)\\s*[lurd]|answer\\s*[:=]|\\bsoln?\\b|l(?:\u00f6|oe)sung|soluci|solu[c\u00e7]"
+    + "|soluzione|oplossing|l\u00f6sning|\u0440\u0435\u0448\u0435\u043d\u0438|\u7b54\u6848|\u89e3", "i");
+const IS_PLAIN_HEAD = new RegExp("^\\W*(?:(?:best|shortest|optimal|first|second|my|moves?|push(?:es)?) )*"
+    + "(?:solution(?![A-Za-z])|lurd(?=\\s*[:=]))\\s*(?:$|[:=/([#\\-\\d\\]})])", "i");
+const IS_SAVED = /^\W*(?:snap\s?shot|saved?(?:\s?game)?|session|reverse|undo|history)(?![a-z])/i;
+const IS_REMARK = /solution\s+(?:comment|date|author|time)s?\s*[:=]/i, IS_TITLE = /^\W*title\s*[:=]/i;
+const ARROWS = { "\u2190": "l", "\u2191": "u", "\u2192": "r", "\u2193": "d" }, IS_ODD = /[\u2190-\u2193\uff01-\uff5e]/;
+// other names of the four steps: the keys of a number pad, the points of the compass, and the keys of many games
+const ALPHABETS = [
+    { words: "the keys of a number pad", letters: { 8: "u", 2: "d", 4: "l", 6: "r" }, are: /^[2468][2468\s,;.-]*$/ },
+    { words: "points of the compass", letters: { n: "u", s: "d", w: "l", e: "r" }, are: /^[nsew][nsew\s,;.-]*$/i },
+    { words: "the keys W, A, S and D", letters: { w: "u", s: "d", a: "l", d: "r" }, are: /^[wasd][wasd\s,;.-]*$/i },
+];
+
+// The letters of a line without what may be between them, or beside them as numbers and brackets.
+function packed(text) {
+    const whole = text.replace(/^\W*LURD\W+(?=\w)/i, "").replace(LOOSE, " ").replace(/\([\s\d]*$/, "").replace(BETWEEN, "");
+    return expanded(whole, MOST_PLAYED) ?? (/[()]/.test(whole) ? whole.replace(/[()]/g, "") : whole);
+}
+
+// The steps of a line in another alphabet, or null: { piece, words }.
+function stepsIn(text) {
+    const found = ALPHABETS.find(({ are }) => are.test(text));
+    return found ? { words: found.words, piece: [...text.toLowerCase()].map(it => found.letters[it] ?? "").join("") } : null;
+}
+
+// a line without tags, but with what their attributes say, and without a number in front
+const bareLine = line => line.length > LONGEST_LINE ? line
+    : narrow(untagged(line.replace(/<[^<>]*>/g, tag => `${tag} ${(tag.match(/"[^"]*"/g) ?? []).join(" ")} `)))
+        .replace(/[\u2190-\u2193]/g, it => ARROWS[it]).replace(/^[>;\s|]*(?:[[(]?\d+[.):\]]\s+)?/, "");
+
+// The groups of letters in some lines. Each is { part, number, pieces, front, head, isHeaded, isSaved, isWords, odd }: its first line; its
+// letters line by line, with `isNew` after a blank line; the letters at the end of its heading, and where that is; and whether it stands below
+// a heading, in a saved game, or among other words. `odd` says which unusual letters it has. A heading without letters is a group without any.
+class Groups {
+    found = [];
+    open = null;
+    head = null;
+    blanks = 0;
+    part = null;
+    add({ number, line, part }) {
+        if (part !== this.part) this.end();
+        this.part = part;
+        if (!line.trim()) {
+            if (++this.blanks > 1) this.open = null;
+            return;
+        }
+        const bare = bareLine(line), odd = IS_ODD.test(line) ? "arrows or wide characters" : "";
+        const other = LETTERS_ALONE.test(bare) ? { piece: packed(bare), words: odd } : stepsIn(bare.trim());
+        // short words of other alphabets are words, unless they are where a solution is expected
+        const areSteps = other && (other.words === odd || other.piece.length >= LONG || this.head && !this.head.isUsed || this.open?.odd === other.words);
+        if (areSteps) this.addLetters(number, other);
+        else this.addWords(number, bare, odd);
+        this.blanks = 0;
+    }
+    addLetters(number, { piece, words: odd }) {
+        if (this.open && (this.open.pieces.length >= MOST_PIECES || this.open.odd !== odd)) this.open = null;
+        if (!this.open) {
+            const { head } = this;
+            this.open = { part: this.part, number, pieces: [], front: head?.front ?? "", head: head?.number, isSaved: Boolean(head?.isSaved), odd,
+                isHeaded: Boolean(head && !head.isSaved && (!head.isUsed || head.front)) };
+            this.found.push(this.open);
+            if (head) this.head = { ...head, isUsed: true, front: "" };
+        }
+        this.open.pieces.push({ number, piece, isNew: this.blanks > 0 && this.open.pieces.length > 0 });
+    }
+    addWords(number, line, odd) {
+        const isRemark = IS_REMARK.test(line), isHead = IS_HEAD.test(line) && !isRemark, isSaved = IS_SAVED.test(line);
+        const other = isHead ? stepsIn(/[^:=]*$/.exec(line)[0].trim()) : null;
+        const some = line.length > LONGEST_LINE ? [] : [...line.replace(/\blurd\s*[:=]/i, " ").matchAll(AMONG_WORDS)]
+            .map(it => packed(it[0])).filter(it => /[lurd]/i.test(it));
+        this.open = null;
+        if (isHead || isSaved || this.head?.isUsed || !isRemark && !/^[\w -]{1,30}[:=]/.test(line)) {
+            this.endHead();
+            const isFront = isHead && some.length && line.replace(/[\s,.'"`*\\-]+$/, "").endsWith(some.at(-1).slice(-1));
+            this.head = isHead || isSaved ? { number, isSaved, front: isFront ? some.at(-1) : "", isUsed: some.length > 0 || other !== null,
+                isPlain: IS_PLAIN_HEAD.test(line) && !isRemark } : null;
+        }
+        const group = { part: this.part, number, front: "", isHeaded: isHead && /[:=]/.test(line), isSaved: Boolean(this.head?.isSaved), isWords: true,
+            isTitle: IS_TITLE.test(line) };
+        for (const piece of new Set(some)) this.found.push({ ...group, pieces: [{ number, piece }], odd });
+        if (other) this.found.push({ ...group, pieces: [{ number, piece: other.piece }], odd: other.words });
+    }
+    endHead() {
+        if (this.head?.isPlain && !this.head.isUsed) this.found.push({ number: this.head.number, pieces: [], isHeaded: true, part: this.part });
+    }
+    end() {
+        this.endHead();
+        this.open = this.head = null;
+        return this.found;
+    }
+}
+
+function lettersIn(lines) {
+    const groups = new Groups();
+    for (const it of lines) groups.add(it);
+    return groups.end();
+}
+
+// The first lines of solutions in a level text that is read as it is, since answers were given with it.
+function solutionLines(text) {
+    const found = [];
+    let last = 0;
+    eachLine(text, (line, number) => {
+        const areLetters = LETTERS_ALONE.test(line) && (line.length > LONGEST_LINE || packed(line).length >= LONG);
+        if (!areLetters && !IS_PLAIN_HEAD.test(line)) return;
+        if (number !== last + 1) found.push(number);
+        last = number;
+    }, 0, true);
+    return found;
+}
+
+// ---- replays
+
+const joined = pieces => pieces.map(({ piece }) => piece).join("");
+// the steps of letters that solve nothing; after enough of them no more are tried
+let steps = 0;
+
+// A board as bytes with a wall around it: 1 is a wall, 2 a goal, 4 a box. `why` says why it has none, or is "".
+function boardOf(rows) {
+    if (rows.length > MOST_SIDE || rows.some(({ length }) => length > MOST_SIDE)) return { why: "the level is too large" };
+    const width = Math.max(...rows.map(({ length }) => length)) + 2, cells = new Uint8Array(width * (rows.length + 2)).fill(1), players = [];
+    rows.forEach((row, y) => [...row.padEnd(width - 2)].forEach((cell, x) => {
+        const place = (y + 1) * width + x + 1;
+        cells[place] = { "#": 1, ".": 2, "+": 2, "$": 4, "*": 6 }[cell] ?? 0;
+        if (cell === "@" || cell === "+") players.push(place);
+    }));
+    const far = new Int32Array(128);
+    for (const [letter, by] of Object.entries({ l: -1, u: -width, r: 1, d: width })) {
+        for (const it of [letter, letter.toUpperCase()]) far[it.charCodeAt(0)] = by;
+    }
+    const count = is => cells.reduce((sum, cell) => sum + is(cell), 0);
+    return { cells, far, player: players[0], off: count(cell => cell === 4), boxes: count(cell => cell > 3),
+        why: players.length === 1 ? "" : `the level has ${many(players.length, "player")}` };
+}
+
+// Letters as they are played: where boxes were pushed, as the number of the letter and the places from and to; after how many letters all boxes
+// are on goals; how many boxes aren't at the end; and why the next letter can't be played.
+class Replay {
+    pushes = [];
+    ends = [];
+    off = 0;
+    stop = "";
+    // Plays letters on a board, until one can't be played. The board is left as it was. Returns how many were played.
+    play({ cells, far, player, off }, letters, most) {
+        const { pushes, ends } = this;
+        let at = 0;
+        pushes.length = ends.length = 0;
+        for (; at < most; at++) {
+            const by = far[letters.charCodeAt(at)] ?? 0, to = player + by, cell = cells[to];
+            if (!by || cell & 1 || cell & 4 && cells[to + by] & 5) {
+                this.stop = !by ? "letter" : cell & 1 ? "wall" : "blocked";
+                break;
+            }
+            if (cell & 4) {
+                cells[to] ^= 4;
+                cells[to + by] ^= 4;
+                off += (cell & 2) / 2 - (cells[to + by] & 2) / 2;
+                pushes.push(at, to, to + by);
+            }
+            player = to;
+            if (!off) ends.push(at + 1);
+        }
+        for (let i = pushes.length - 3; i >= 0; i -= 3) {
+            cells[pushes[i + 2]] ^= 4;
+            cells[pushes[i + 1]] ^= 4;
+        }
+        this.off = off;
+        if (off || at < most) steps += TRY + at;
+        return at;
+    }
+}
+const trial = new Replay();
+
+// Whether letters without numbers solve a board. It is asked millions of times.
+const solves = (board, letters) => !board.why && trial.play(board, letters, letters.length) === letters.length && !trial.off;
+
+// Plays letters on a board. Returns why they don't solve it, or "", the number of moves and of pushes, the letters each in the case that its
+// step has, and after how many of them all boxes are on goals.
+function played(board, text) {
+    const letters = expanded(text, MOST_PLAYED), replay = new Replay();
+    const none = board.why || (letters === null || letters.length > MOST_PLAYED ? "it can't be written out, or is too long to be tried" : "");
+    if (none) return { letters: "", why: none, ends: [] };
+    const at = replay.play(board, letters, letters.length), { off, ends, pushes } = replay, made = [...letters.slice(0, at).toLowerCase()];
+    let why = off ? `it leaves ${off === 1 ? "a box" : `${off} boxes`} off the goals` : "";
+    if (at < letters.length) why = `letter ${at + 1}, ${letters[at]}: ${replay.stop}`;
+    for (let i = 0; i < pushes.length; i += 3) made[pushes[i]] = made[pushes[i]].toUpperCase();
+    return { why, ends, moves: at, pushes: pushes.length / 3, letters: made.join("") + letters.slice(at) };
+}
+
+// The solution that the first pieces are: those up to a blank line, or as few as solve. Its count is 0 if they are none.
+function firstSolution(pieces, board) {
+    const whole = played(board, joined(pieces)), ends = new Set(whole.ends);
+    if (!whole.why) return { solution: whole, count: pieces.length };
+    let length = 0, count = 0;
+    for (const [i, { piece }] of pieces.entries()) {
+        length += piece.length;
+        if (!ends.has(length)) continue;
+        count ||= i + 1;
+        if (pieces[i + 1]?.isNew) {
+            count = i + 1;
+            break;
+        }
+    }
+    return { solution: count ? played(board, joined(pieces.slice(0, count))) : whole, count };
+}
+
+const NOT_TRIED = { letters: "", ends: [], why: "not tried, after too many others" };
+
+// The solutions of a board in a group, one after the other, and what is none: { found, failed }.
+function solutionsIn({ pieces, front }, board) {
+    const found = [], failed = [];
+    let left = front ? [{ piece: front, number: pieces[0].number, isFront: true }, ...pieces] : pieces;
+    for (let tries = 0; left.length; tries++) {
+        const isTried = tries < MOST_TRIES && steps < MOST_STEPS, [{ number, isFront }] = left;
+        const { solution, count } = isTried ? firstSolution(left, board) : { solution: NOT_TRIED, count: 0 };
+        if (count) {
+            found.push({ solution, number, isFront });
+            left = left.slice(count);
+        } else if (isFront) {
+            left = left.slice(1);
+        } else {
+            const next = left.findIndex(({ isNew }, i) => i && isNew), rest = next < 0 ? left.length : next;
+            failed.push({ solution, number, pieces: left.slice(0, rest) });
+            left = left.slice(rest);
+        }
+    }
+    return { found, failed };
+}

@@ -1,0 +1,175 @@
+// Finds the rows of levels in lines: plain, run-length coded, quoted, in a table or in one line. Makes them plain.
+
+const MOST_ROWS = 65536, LONGEST_LINE = 20000, MOST_BLANKS = 64;
+const PLAIN = /^[-#@+$*._ ]*$/, CELLS = /^[-#@+$*._ 0-9bBpPo()]*$/;
+const PIECES = { b: "$", B: "*", p: "@", P: "+", o: "." }, MAZE = { X: "#", "*": "$", "&": "*" };
+const BREAK = /(\r{0,2}\n(?:\r(?!\n))?|\r)|[\v\f\x85\u2028\u2029]|\ufeff/;
+// what parts the rows of a level that stands in one line
+const ROW_ENDS = ["|", "\\n", "\",\"", "\", \"", "','", "', '", "/", "!"];
+const OTHER_GAME = /^\W*(?:type|variant|game)\s*[:=]\s*(\w*(?:(?:hex|tri|octo|multi|num|modo)\w*ban|sokomind|hexagon|triang)\w*)/i;
+
+// The lines of a text with their numbers. Some breaks are none to an editor, and have no number. Of many blank lines in a row only the first
+// are kept, because a text may have millions.
+function numbered(text) {
+    const lines = [], find = new RegExp(BREAK, "g");
+    let number = 1, at = 0, blanks = 0;
+    const put = line => {
+        blanks = line ? 0 : blanks + 1;
+        if (blanks <= MOST_BLANKS) lines.push({ number, line });
+    };
+    for (let it; it = find.exec(text);) {
+        put(text.slice(at, it.index));
+        at = find.lastIndex;
+        if (it[1]) number++;
+        if (blanks <= MOST_BLANKS) continue;
+        for (; text.charCodeAt(at) === 10; at++) number++;
+        find.lastIndex = at;
+    }
+    if (at < text.length) put(text.slice(at));
+    return lines;
+}
+
+// ---- one line
+
+const isEnclosed = row => row.length < MOST_ROWS && /^[-_ ]*#/.test(row) && /#[-_ ]*$/.test(row);
+const isWalls = rows => rows.every(row => !/[@+$*.]/.test(row));
+// a line without the marks of terminals, HTML and forums
+const untagged = line => /[<[&\x1b]/.test(line) ? unescaped(line.replace(/\x1b\[[\d;]*m/g, "").replace(/<br *\/?>(?=.)/gi, "|")
+    .replace(/<\/?[A-Za-z!][^<>]*>|\[\/?[A-Za-z]+\]/g, "")) : line;
+// a line with plain characters for those that some programs put in their place
+const narrow = line => /[^\0-\x7f]/.test(line)
+    ? line.replace(/[\u200b-\u200d\u2060\u00ad]/g, "").replace(/[\u2010-\u2012\u2212]/g, "-").normalize("NFKC") : line;
+
+// A text with its run-length coding written out, such as rrr for 3r, and rUrU for 2(rU); null if it is wrong or gets too long.
+function expanded(text, most) {
+    for (let round = 0; /[0-9()]/.test(text); round++) {
+        const before = text;
+        let length = 0;
+        text = text.replace(/(\d*)\(([^()\d]*)\)|(\d+)([^()\d])/g, (_, times, group, count, one) => {
+            const some = group ?? one, number = Number(times || count || 1);
+            length += some.length * number;
+            return length > most ? "" : some.repeat(number);
+        });
+        if (length > most || text === before || round > 20) return null;
+    }
+    return text;
+}
+
+// The rows that coded parts of a line are, or null.
+function spelled(parts) {
+    const line = parts.join("|");
+    if (/\d/.test(line) && (/ /.test(line.trim()) || /(?<!\d)[01](?!\d)|(?<!\d)0/.test(line)) || /^[#\d]*#\d[#\d]*$/.test(line)) return null;
+    const rows = expanded(line, MOST_ROWS)?.replace(/[bBpPo]/g, it => PIECES[it]).split("|").filter(row => row.trim());
+    return rows?.length && rows.every(isEnclosed) && rows.some(row => row.trim().length > 2) ? rows.map(row => row.trimEnd()) : null;
+}
+
+// The level within one line, as in a table, between other words: its rows, and the rest of the line.
+function joinedIn(line) {
+    for (const mark of line.length > LONGEST_LINE ? [] : ROW_ENDS) {
+        const parts = line.split(mark);
+        for (let first = 0, last; first < parts.length - 2; first = last) {
+            last = first + 1;
+            while (last < parts.length - 1 && parts[last].includes("#") && CELLS.test(parts[last])) last++;
+            const begin = /[-#@+$*._ 0-9bBpPo()]*$/.exec(parts[first])[0], end = /^[-#@+$*._ 0-9bBpPo()]*/.exec(parts[last])[0];
+            const some = [begin, ...parts.slice(first + 1, last), end].filter(it => it.includes("#"));
+            const rows = some.length > 2 && begin.includes("#") ? spelled(some) : null;
+            if (!rows) continue;
+            const after = end.includes("#") ? parts[last].slice(end.length) : parts[last];
+            return { kind: "joined", lead: "", rows,
+                rest: [...parts.slice(0, first), parts[first].slice(0, -begin.length), after, ...parts.slice(last + 1)].join(" ") };
+        }
+    }
+    return null;
+}
+
+const QUOTED = /^\s*(["'|]|`{1,3}|: )?([-_ ]*#[-#@+$*._ ]*?#)[-_ ]*(?:(?:\\n)?(?:["'|]|`{1,3})?[,;\\]*|\s+(?:<|;|\/\/|\(|!|\u2190).*)$/;
+
+// The row that a line may be: { kind, rows, lead }, or null. A bare line has no marks of other programs left.
+function rowIn(line, isBare = false) {
+    if (!/[#&\uff03]/.test(line) || /^\s*::/.test(line)) return null;
+    if (PLAIN.test(line)) return { kind: "plain", rows: [line], lead: "" };
+    if (line.length > LONGEST_LINE) return null;
+    const lead = /^(?:\t+|(?:> ?)+)?/.exec(line)[0], core = line.slice(lead.length).trimEnd();
+    if (PLAIN.test(core)) return { kind: "plain", rows: [core], lead };
+    if (CELLS.test(core)) {
+        const rows = spelled([core]);
+        return rows && { kind: "coded", rows, lead };
+    }
+    const end = core.endsWith("|") && !core.startsWith("|") && CELLS.test(core.replace(/\|/g, "")) ? spelled(core.split("|").filter(it => it)) : null;
+    if (end) return { kind: "joined", rows: end, lead, goesOn: true };
+    const marked = core.replace(/^[~x^ ]+(?=#)|(?<=#)[~x^ ]+$/g, it => " ".repeat(it.length));
+    if (marked !== core && PLAIN.test(marked)) return { kind: "marked", rows: [marked.trimEnd()], lead };
+    const quoted = QUOTED.exec(core);
+    if (quoted) return { kind: "quoted", rows: [quoted[2]], lead: "" };
+    const bare = isBare ? line : narrow(untagged(line));
+    return bare !== line ? rowIn(bare, true) : joinedIn(core);
+}
+
+// ---- the lines of a part
+
+// Sets the row of each line that may be one. A game with other letters and a comment are known by their own lines.
+function rowsOfLines(lines, faults) {
+    let isMaze = false, comment = -1;
+    for (const [at, it] of lines.entries()) {
+        const { line, number } = it, game = OTHER_GAME.exec(line);
+        it.row = rowIn(line);
+        isMaze ||= /^\s*Maze:\s*\d+/i.test(line);
+        if (isMaze && /X/.test(line) && /^[X *.&@+]*$/.test(line)) {
+            it.row = { kind: "plain", lead: "maze", rows: [line.trimEnd().replace(/[X*&]/g, one => MAZE[one])] };
+        }
+        if (game) faults.push({ number, words: `names another game, ${game[1]}: its levels are judged by the rules of Sokoban here` });
+        if (/^[\s;]*comment[\s:;]*$/i.test(line)) comment = at;
+        if (comment >= 0 && /^[\s;]*comment[-_ ]end/i.test(line)) {
+            for (; comment < at; comment++) Object.assign(lines[comment], { row: null, isComment: true });
+            comment = -1;
+        }
+    }
+}
+
+// Finds which lines of a part are rows, in place: `row` of a line stays, and `starts` is set for the first of a level. What isn't read is a
+// fault.
+function findRows(part) {
+    const lines = part.lines ??= numbered(part.text), { faults } = part;
+    const goesOn = ({ row }, { row: next }) => row && next && row.lead === next.lead
+        && (row.goesOn || row.kind !== "joined" && next.kind !== "joined");
+    const isHeading = ({ row }) => row.kind === "coded" && !isWalls(row.rows);
+    rowsOfLines(lines, faults);
+    for (let first = 0, end; first < lines.length; first = end) {
+        for (end = first + 1; end < lines.length && goesOn(lines[end - 1], lines[end]);) end++;
+        if (!lines[first].row) continue;
+        let last = end - 1;
+        while (first < last && isHeading(lines[first])) lines[first++].row = null;
+        while (last > first && isHeading(lines[last])) lines[last--].row = null;
+        findLevel(lines, first, last, faults);
+    }
+    for (const [at, { number, line, row, isComment }] of lines.entries()) {
+        const isNear = lines[at - 1]?.row && lines[at + 1]?.row;
+        if (row || isComment || !isRowLike(line, isNear)) continue;
+        faults.push({ number, words: `looks like a row and isn't read as one: ${line.trim().slice(0, 40)}` });
+    }
+    faults.sort((a, b) => a.number - b.number);
+}
+
+// Decides whether a run of rows is a level.
+function findLevel(lines, first, last, faults) {
+    const run = lines.slice(first, last + 1), [{ row: { kind }, number }] = run, count = run.reduce((sum, { row }) => sum + row.rows.length, 0);
+    const isSingle = run.length === 1 && kind !== "plain" && count < 3, areWalls = !isSingle && run.every(({ row }) => isWalls(row.rows));
+    if (areWalls) {
+        const isAlone = run.length === 1 && [first - 1, last + 1].every(at => !lines[at]?.line.trim());
+        faults.push({ number, words: "walls alone, and no level", isNote: isAlone });
+    }
+    if (isSingle || areWalls) for (const it of run) it.row = null;
+    else lines[first].starts = true;
+}
+
+// Whether a line that isn't read may be meant as a row, or as levels in another form.
+function isRowLike(line, isNear) {
+    const core = line.replace(/^[\s"',;()|>]+|[\s"',;()|]+$/g, "");
+    if (isNear && /^(.)(?!\1*$)/.test(core) && (PLAIN.test(core) || core.includes("#") && !/^;/.test(line))) return true;
+    if (/^(?![2468]*$)\d{5,}$|^(?=.*\d)(?=.*[A-Z])[A-Za-z0-9+\/]{60,}={0,2}$/.test(core) || /^([^\s\w#;=~*.:-])\1{3,}$/.test(core)) return true;
+    if (/^X[X@$.*+ _-]*[@$.*+][X@$.*+ _-]*X$/.test(core)) return true;
+    if (core.split("#").length < 3 || !/^\d*#|#$|##/.test(core) || /^(?:;|::)/.test(line)) return false;
+    const words = core.replace(/^[#= *\t-]+|[#= *\t-]+$/g, "");
+    if (words && !words.includes("#") && /^[\w("'][\w .,:;'"!?()&\/-]*$/.test(words) && /\w/.test(words)) return false;
+    return 3 * core.replace(/[^-#@+$*._ \t0-9|bBpPo()~x^]/g, "").length >= 2 * core.length && !/^#+$/.test(core);
+}

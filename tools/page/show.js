@@ -1,0 +1,106 @@
+// Shows a result of the page that audits: its totals, its levels by the viewer in a frame, and what is saved of it.
+
+const MOST_SAID = 200;
+const $ = id => document.getElementById(id);
+// the result that is shown
+const kept = {};
+
+const totalIn = report => report.slice(report.lastIndexOf("\n", report.length - 2) + 1).trimEnd();
+
+// says what was read with a change, or not at all: the latter first
+function tellAll(said) {
+    const sorted = [...said].sort((a, b) => Boolean(a.isNote) - Boolean(b.isNote)), more = sorted.splice(MOST_SAID).length;
+    $("told").replaceChildren(...sorted.map(({ place, words, isNote }) => {
+        const item = document.createElement("li");
+        item.className = isNote ? "" : "unread";
+        item.textContent = place ? `${place}: ${words}` : words;
+        return item;
+    }), ...more ? [`and ${more} more`] : []);
+}
+
+function show({ totals, notes, report, status, took, data }) {
+    // the frame reads this
+    globalThis.shownData = data;
+    $("total").textContent = totalIn(report);
+    $("total").className = status ? "open" : totals.count ? "fine" : "";
+    $("notes").textContent = [...notes, ...took > 1000 ? [`The program took ${(took / 1000).toFixed(1)} seconds.`] : []].join(" ");
+    $("lines").textContent = report;
+    $("make").disabled = !totals.missing;
+    $("result").hidden = false;
+    $("result").classList.remove("stale");
+    draw(totals.count === 1);
+}
+
+const viewerText = JSON.parse($("viewer").textContent);
+// the viewer as a page around its data, and what it has more
+const viewerParts = more => viewerText.replace("</body>", () => `${more}</body>`).split("@DATA@");
+const scriptOf = (id, type = "") => `<script${type}>${$(id).textContent}<\/script>`;
+
+// Writes the viewer into a window. It isn't loaded from an address, since a browser lets a page from a file follow no link within such a one.
+function fill(view) {
+    Object.assign(view, { shownData, judged, deadSquares, openLevel });
+    const inside = view.document;
+    inside.open();
+    inside.write(viewerParts(scriptOf("inside")).join("null"));
+    inside.close();
+    return inside;
+}
+
+// puts an empty frame in the place of the one that is there, whose work ends
+function newFrame() {
+    const frame = document.createElement("iframe");
+    frame.id = "page";
+    frame.title = $("page").title;
+    $("page").replaceWith(frame);
+    return frame;
+}
+
+// puts the viewer into a new frame, which is as high as its content
+function draw(isSingle) {
+    const before = document.activeElement, frame = newFrame(), inside = fill(frame.contentWindow);
+    const grow = () => {
+        frame.style.height = `${Math.ceil(inside.body.getBoundingClientRect().height) + 2}px`;
+        inside.documentElement.style.setProperty("--tall", `${innerHeight}px`);
+    };
+    new ResizeObserver(grow).observe(inside.body);
+    grow();
+    // A level's page takes the focus, which stays with the user here.
+    if (isSingle) frame.contentWindow.go(1);
+    before.focus({ preventScroll: true });
+}
+
+// opens a level in a window of its own, as a click with Ctrl wants
+function openLevel(number) {
+    const view = window.open("");
+    fill(view);
+    view.go(number);
+}
+
+// shows the top of the frame after it has become shorter
+function showTop() {
+    if ($("page").getBoundingClientRect().top < 0) $("page").scrollIntoView();
+}
+
+// the frame asks for the dead squares of a level
+async function deadSquares(number) {
+    const said = await judge.ask("dead", { levels: kept.levels, number });
+    return { map: said.map ?? "", fault: said.isStopped ? "stopped" : troubleIn(said, judge) };
+}
+
+// ---- what is saved
+
+function save(what, blob) {
+    const link = document.createElement("a");
+    link.href = URL.createObjectURL(blob);
+    link.download = `${kept.names[0].replace(/\.[^.]*$/, "")}.${what}`;
+    link.click();
+    setTimeout(() => URL.revokeObjectURL(link.href), 60000);
+}
+
+async function savePage() {
+    const plain = ' type="text/plain"', more = ["wasm", "texts", "thread"].map(id => scriptOf(id, `${plain} id="${id}"`));
+    const parts = viewerParts([...more, scriptOf("threads"), scriptOf("inside")].join("\n"));
+    const said = await judge.ask("page", { parts, result: textsOf(kept) });
+    if (said.page) save("html", kept.page = said.page);
+    else if (!said.isStopped) complain(troubleIn(said, judge));
+}

@@ -1,0 +1,88 @@
+"""A web page of what changed between two states of a collection, with the boards before and after.
+It needs no network, no script and no other file."""
+import html
+import itertools
+from typing import Dict, Iterator, List, Optional, Sequence
+
+from . import changes
+from .levels import Level
+
+_STYLE = """
+body { font: 16px/1.5 system-ui, sans-serif; margin: 2rem auto; max-width: 60rem;
+       padding: 0 1rem; color: #1c1b1a; background: #fbfaf7; color-scheme: light dark }
+section { border-top: 1px solid #8884; padding: 1rem 0 }
+h2 { font-size: 1.1rem; margin: 0 }
+p { margin: .2rem 0 }
+figure { display: inline-block; margin: .5rem 1.5rem 0 0; vertical-align: top }
+figcaption { font-size: .85rem; opacity: .8 }
+svg { max-width: 100%; height: auto; background: #efe8da }
+.wall { fill: #57534c } .goal { fill: #b3261e } .box { fill: #c88b2a } .player { fill: #1f5fae }
+@media (prefers-color-scheme: dark) { body { color: #eee; background: #1b1a19 } }
+"""
+# the pixels of a cell, and of a board at most
+_CELL, _MOST = 16, 480
+_KINDS = {"#": "wall", ".": "goal", "$": "box", "*": "box goal", "@": "player", "+": "player goal"}
+
+
+def text(old: changes.Snapshot, new: changes.Snapshot, found: Sequence[changes.Change],
+         names: Sequence[str]) -> bytes:
+    """Returns the page of these changes between two states, whose levels have these names."""
+    by_level: Dict[int, List[changes.Change]] = {}
+    for change in found:
+        by_level.setdefault(change.level or -change.was, []).append(change)
+    parts = "\n".join(_section(old, new, several, names) for several in by_level.values())
+    title = html.escape(f"{names[0]} and {names[1]}")
+    said = "" if found else "<p>Nothing changed.</p>"
+    return (f'<!DOCTYPE html>\n<html lang="en"><head><meta charset="utf-8">\n<title>{title}</title>'
+            '<meta name="viewport" content="width=device-width">\n'
+            f"<style>{_STYLE}</style></head>\n<body><h1>{title}</h1>\n{said}{parts}\n"
+            "</body></html>\n").encode()
+
+
+def _section(old: changes.Snapshot, new: changes.Snapshot, several: Sequence[changes.Change],
+             names: Sequence[str]) -> str:
+    """Returns the changes of one level, with its board before and now, once if it is the same."""
+    first = several[0]
+    title = f": {first.title}" if first.title else ""
+    number = f"level {first.level}" if first.level else f"formerly level {first.was}"
+    lines = "".join(f"<p>{html.escape(f'{it.kind}: {it.words}')}</p>" for it in several)
+    both = [(state.levels[at - 1], name) for state, at, name in (
+        (old, first.was, names[0]), (new, first.level, names[1])) if at]
+    shown = both[1:] if len({tuple(level.rows) for level, _ in both}) < len(both) else both
+    figures = "".join(_figure(level, name) for level, name in shown)
+    return f"<section><h2>{html.escape(number + title)}</h2>{lines}{figures}</section>"
+
+
+def _figure(level: Level, name: str) -> str:
+    """Returns the drawing of a level."""
+    width, height = max(map(len, level.rows)), len(level.rows)
+    side = max(1, min(_CELL, _MOST // max(width, height)))
+    drawn = "".join(shape for row, cells in enumerate(level.rows) for shape in _shapes(row, cells))
+    caption = html.escape(f"{name} line {level.line}")
+    return (f'<figure><svg width="{width * side}" height="{height * side}" '
+            f'viewBox="0 0 {width} {height}" role="img" aria-label="{caption}">{drawn}</svg>'
+            f"<figcaption>{caption}</figcaption></figure>")
+
+
+def _shapes(row: int, cells: bytes) -> Iterator[str]:
+    """Yields the shapes of a row; cells of walls beside each other are one."""
+    at = 0
+    for cell, several in itertools.groupby(cells.decode("latin-1")):
+        count = len(list(several))
+        kinds: Optional[str] = _KINDS.get(cell)
+        for column in () if cell == "#" or not kinds else range(at, at + count):
+            yield from _marks(column, row, kinds or "")
+        if cell == "#":
+            yield f'<rect class="wall" x="{at}" y="{row}" width="{count}" height="1"/>'
+        at += count
+
+
+def _marks(column: int, row: int, kinds: str) -> Iterator[str]:
+    """Yields what stands on a cell: a goal last, so that it is seen on a box."""
+    for kind in kinds.split():
+        x, y = column + .5, row + .5
+        if kind == "box":
+            yield f'<rect class="box" x="{x - .4}" y="{y - .4}" width=".8" height=".8"/>'
+        else:
+            radius = .35 if kind == "player" else .15
+            yield f'<circle class="{kind}" cx="{x}" cy="{y}" r="{radius}"/>'

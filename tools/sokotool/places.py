@@ -1,0 +1,84 @@
+"""Where the levels of a collection come from, and what was left out of the exports."""
+import re
+from bisect import bisect_right
+from typing import Dict, List, NamedTuple, Optional, Sequence, Tuple
+
+from . import texts
+
+# a level by its number in the exports; in quotes it is a line of a file
+_LEVEL = re.compile(r"(?<!')\blevel (\d+)")
+
+
+class Place(NamedTuple):
+    """A line of an export: the file's name as it was given, and as it is published, and the line,
+    or 0 if a message names its file."""
+
+    file: str
+    published: str
+    line: int
+
+    def __str__(self) -> str:
+        return f"{texts.shown(self.file)} line {self.line}" if self.line else ""
+
+    def said(self, why: str) -> str:
+        """Returns why something is reported, after the place."""
+        return f"{self}: {why}" if self.line else why
+
+
+class Problem(NamedTuple):
+    """What was left out or is wrong, with the numbers that levels have in the exports."""
+
+    place: Place
+    why: str
+
+    def numbered(self, numbers: Dict[int, int]) -> str:
+        """Returns it with these numbers of levels, by their indices in the exports. Another number
+        is part of the name of a file."""
+        return _LEVEL.sub(lambda it: f"level {numbers.get(int(it[1]) - 1, it[1])}", self.why)
+
+
+class Source(NamedTuple):
+    """Where a level comes from, and what was left out of it."""
+
+    place: Place
+    left: List[str]
+
+
+class Origins(NamedTuple):
+    """The place of each level of the exports in order, and all problems."""
+
+    levels: List[Place]
+    problems: List[Problem]
+
+    def messages(self, numbers: Dict[int, int]) -> List[str]:
+        """Returns the problems with their places and these numbers of levels."""
+        return [it.place.said(it.numbered(numbers)) for it in self.problems]
+
+    def sources(self, indices: Sequence[Optional[int]]) -> Dict[int, Source]:
+        """Returns the sources of levels by their numbers. `indices` has the index of each level in
+        the exports, or None."""
+        numbers = numbers_of(indices)
+        found = {number: Source(self.levels[at], []) for at, number in numbers.items()}
+        lines: Dict[str, List[Tuple[int, int]]] = {}
+        for at, place in enumerate(self.levels):
+            lines.setdefault(place.published, []).append((place.line, at))
+        for problem in self.problems:
+            number = numbers.get(_level_of(problem, lines.get(problem.place.published, [])), 0)
+            if number:
+                found[number].left.append(f"line {problem.place.line}: {problem.numbered(numbers)}")
+        return found
+
+
+def _level_of(problem: Problem, lines: Sequence[Tuple[int, int]]) -> int:
+    """Returns the index of the level that a problem names, or of the last level of its file that
+    begins above it, or -1. `lines` has the lines of the levels in the file with their indices."""
+    named = _LEVEL.search(problem.why)
+    if named:
+        return int(named[1]) - 1
+    above = bisect_right(lines, (problem.place.line + 1, -1))
+    return lines[above - 1][1] if above else -1
+
+
+def numbers_of(indices: Sequence[Optional[int]]) -> Dict[int, int]:
+    """Returns the numbers of levels by their indices in the exports."""
+    return {at: number for number, at in enumerate(indices, 1) if at is not None}

@@ -1,0 +1,179 @@
+"""Replaces several files at once: all of them or none, and none that somebody else has changed.
+
+Each former file is moved aside, whatever it is then, and compared there. The new one comes to its
+place only if no file is there. So whatever somebody saves at any moment is found, and put back. A
+journal has the moves while they are made, so that `finish` can go on with them or take them back.
+
+The new files and the journal are on the disk before the first move, and the moves are before the
+journal goes. So `finish` also ends what a power cut left.
+"""
+import contextlib
+import json
+import os
+from typing import List, NamedTuple, Optional, Sequence, Tuple
+
+from . import output, system, texts
+
+
+class Changed(texts.Stop):
+    """A file isn't any more what it was when it was read."""
+
+    def __init__(self, name: str) -> None:
+        super().__init__(f"{texts.shown(name)} was changed by somebody else")
+
+
+class Move(NamedTuple):
+    """A file that is replaced: its path, the new file or "" for none, the path to which the former
+    one goes, and digests of both, "" for none."""
+
+    path: str
+    made: str
+    aside: str
+    before: str
+    after: str
+
+    def is_left(self) -> bool:
+        """Returns whether the new file isn't in its place yet, or the former one still is."""
+        if not self.made:
+            return not os.path.exists(self.aside)
+        with contextlib.suppress(FileNotFoundError):
+            return not os.path.samefile(self.made, self.path)
+        return os.path.exists(self.made)
+
+    def make(self) -> bool:
+        """Makes the move, or what is left of it. Returns false if another file is there."""
+        return not self.is_left() or _swap(self.path, self.made, self.aside, self.before)
+
+    def is_lost(self) -> bool:
+        """Returns whether somebody has changed the new file since the move."""
+        return not self.is_left() and _digest(self.path) not in ("", self.before, self.after)
+
+    def take_back(self) -> None:
+        """Puts the former file back, unless somebody has put another one there."""
+        if not self.made or os.path.exists(self.aside) and not os.path.exists(self.path):
+            _put(self.aside, self.path)
+        elif not self.is_left() and _digest(self.path) == self.after:
+            output.remove(self.made)
+            _swap(self.path, self.aside if self.before else "", self.made, self.after)
+
+
+def commit(files: Sequence[Tuple[str, Optional[bytes], Optional[bytes]]], journal: str) -> None:
+    """Replaces files, given by name with their bytes before and after; None is no file. Raises
+    `Changed` if somebody has changed one of them, and replaces none then."""
+    with output.made([(name, after) for name, _, after in files]) as made:
+        names = {os.path.realpath(name): (_name_of(before), _name_of(after))
+                 for name, before, after in files}
+        moves = [Move(path, new, output.name_beside(path), *names[path]) for new, path in made]
+        _begin(journal, moves)
+        made.clear()
+        changed = _end(moves, journal, is_new=True)
+    if changed:
+        raise Changed(next(name for name, *_ in files if os.path.realpath(name) == changed))
+
+
+def finish(journal: str) -> str:
+    """Ends a write that was cut off: goes on with it, or takes it back if a file that it left as it
+    was has been changed since. Returns the path of such a file, or ""."""
+    return _end(_listed(journal), journal, is_new=False)
+
+
+def _end(moves: Sequence[Move], journal: str, is_new: bool) -> str:
+    """Makes the moves, or takes all back if somebody has changed a file. While a write is new, that
+    may also be a new file: what is saved over it was read before."""
+    try:
+        changed = next((it.path for it in moves if not it.make()), "") or next(
+            (it.path for it in moves if _digest(it.aside) not in ("", it.before)
+             or is_new and it.is_lost()), "")
+        if changed:
+            _take_back(moves, "" if is_new else journal)
+        _keep_names(journal, moves)
+        output.remove(journal)
+        for it in moves:
+            output.remove(it.made)
+            output.remove(it.aside)
+        return changed
+    except OSError as error:
+        raise _refused(journal, error) from None
+
+
+def _begin(journal: str, moves: Sequence[Move]) -> None:
+    """Writes a journal, which no other process may have."""
+    try:
+        with open(journal, "x", encoding="utf-8") as file:
+            try:
+                json.dump(moves, file)
+                system.keep(file)
+            except OSError:
+                output.remove(journal)
+                raise
+    except OSError as error:
+        raise _refused(journal, error) from None
+    _keep_names(journal, moves)
+
+
+def _keep_names(journal: str, moves: Sequence[Move]) -> None:
+    """Writes the names of all files to the disk."""
+    for folder in {os.path.dirname(os.path.realpath(it)) for it in [journal, *(
+            move.path for move in moves)]}:
+        system.keep_names(folder)
+
+
+def _take_back(moves: Sequence[Move], journal: str) -> None:
+    """Takes moves back. Of a write that was cut off, with a journal, that would mix two states if
+    new files were edited since."""
+    for it in moves:
+        if journal and it.is_lost():
+            raise texts.Stop(
+                f"{texts.shown(it.path)} was changed after a write was cut off, and so was another "
+                "file: the former files end in ~; take from them what is missing, and remove "
+                f"{texts.shown(journal)}")
+    for it in moves:
+        it.take_back()
+
+
+def _listed(journal: str) -> List[Move]:
+    """Returns the moves of a journal: none if there is none, or if it was cut off itself."""
+    try:
+        with open(journal, "rb") as file:
+            return [Move(*words) for words in json.load(file)]
+    except (FileNotFoundError, ValueError):
+        return []
+
+
+def _swap(path: str, new: str, aside: str, contents: str) -> bool:
+    """Moves the file at a path aside and a new one there, or none. Returns false if the former one
+    has other contents than these, or if somebody has put a file there: that stays."""
+    if not os.path.exists(aside):
+        with contextlib.suppress(FileNotFoundError):
+            system.patiently(os.replace, path, aside)
+    if _digest(aside) != contents:
+        _put(aside, path)
+        return False
+    return _put(new, path)
+
+
+def _put(made: str, path: str) -> bool:
+    """Moves a file, if there is one, to a path. Returns false if a file is there."""
+    try:
+        if made and os.path.exists(made):
+            system.rename_new(made, path)
+    except FileExistsError:
+        return False
+    return True
+
+
+def _refused(journal: str, error: OSError) -> texts.Stop:
+    return texts.Stop(f"cannot write {texts.shown(error.filename or journal)}: {error.strerror}")
+
+
+def _digest(path: str) -> str:
+    """Returns a name for the contents of a file: "" if there is none."""
+    try:
+        with open(path, "rb") as file:
+            return _name_of(file.read())
+    except FileNotFoundError:
+        return ""
+
+
+def _name_of(data: Optional[bytes]) -> str:
+    return "" if data is None else texts.digest(data)
