@@ -15,19 +15,19 @@ wrong."""
 import argparse
 import math
 import os
-from typing import Dict, List, Optional, Sequence, Tuple
+from typing import Any, Callable, Dict, List, Optional, Sequence, Tuple
 
-from .. import (answers, auditor, blocks, boards, by_hand, exports, memory, own_files, places,
-                rounds, sheet, solvers, summary, system, texts, transaction)
+from .. import (__version__, answers, auditor, blocks, boards, by_hand, exports, memory, own_files,
+                places, sheet, summary, system, texts, transaction)
 from ..changes import Snapshot
 from ..collection import BOTH, MOVES, PUSHES, Collection
-from ..jobs import Result
+from ..conversion import Conversion, Reading, Said
+from ..outcomes import Result
 from ..own_files import (ANSWERS, KEPT_ANSWERS, KEPT_XSB, MEMORY, OTHER, PAGE, REPORT, SHEET, XSB,
                          noted)
 from ..progress import Progress
 from ..stages import Run, State
-from . import above_zero, convert, page, seconds, unbroken
-from .find import SECONDS
+from . import SECONDS, above_zero, encoding_argument, page, seconds, unbroken
 
 BUDGET = 60
 # how often the files are read again if they change
@@ -54,7 +54,7 @@ def arguments(parser: argparse.ArgumentParser) -> None:
                         default=system.processors(),
                         help="search N levels at once (default one for each processor), "
                         "each in up to 600 megabytes")
-    convert.encoding_argument(parser)
+    encoding_argument(parser)
     parser.add_argument("--solver", metavar="COMMAND",
                         help="run this command for each level that is left then: it gets the level "
                              "on standard input, and in the file {}")
@@ -79,11 +79,12 @@ def run(options: argparse.Namespace) -> int:
 
 def gathered(options: argparse.Namespace) -> Run:
     """Reads what isn't a file of NAME."""
-    convert.check_name(options.name)
+    own_files.check_name(options.name)
     if not options.exports:
         raise texts.Stop("no EXPORT is named: first comes a new NAME for the collection, as in "
                          f"'sokotool check mine {texts.shown(options.name)}'")
     if options.solver:
+        from .. import solvers
         solvers.words_of(options.solver)
     if not options.best:
         options.best = BOTH if os.path.exists(options.name + OTHER) else MOVES
@@ -92,28 +93,48 @@ def gathered(options: argparse.Namespace) -> Run:
         given.shown.keep("this system ends the solver alone: what it starts may go on")
     own_files.check_writable(options.name, *[SHEET] * options.csv)
     given.more = [(name, answers.read_file(name, rising=False)) for name in options.answers]
-    convert_exports(given)
+    read_exports(given)
     return given
 
 
-def convert_exports(given: Run) -> None:
-    """Reads the exports, without the files of NAME."""
+def read_exports(given: Run) -> None:
+    """Reads the exports, without the files of NAME. Those that didn't change since the last check
+    aren't converted again."""
     given.shown.show("reading")
     options = given.options
-
-    def say(place: places.Place, why: str, is_fault: bool) -> None:
-        if is_fault:
-            given.origins.problems.append(places.Problem(place, why))
-        else:
-            given.shown.keep(place.said(why))
-
-    collection = Collection(options.best, False, options.encoding or "", say, "")
     is_own = own_files.own(given.name)
     named = [name for name in options.exports if os.path.isdir(name) or not is_own(name)]
     if not named:
         raise texts.Stop(f"would write over {texts.shown(options.exports[0])}: choose another "
                          "NAME, such as checked")
-    convert.read_files(collection, exports.listed(named, is_own))
+    reading = Reading(exports.listed(named, is_own), options.best, options.encoding)
+    remembered = memory.exports(own_files.bytes_of(given.name + MEMORY))
+    found = reading.remembered(remembered)
+    if found:
+        for said in found.said:
+            given.say(*said)
+    else:
+        found = converted(given, reading)
+    given.conversion = found.data()
+    text, exported, others = found.files
+    given.exports = by_hand.collection(blocks.read(text))
+    given.origins.levels[:] = found.places
+    given.records = [record for it in (exported, others) for record in answers.read(it).records]
+
+
+def converted(given: Run, reading: Reading) -> Conversion:
+    """Converts the exports."""
+    # loads all forms of exports
+    from . import convert
+    options = given.options
+    messages: List[Said] = []
+
+    def say(*said: Any) -> None:
+        messages.append(Said(*said))
+        given.say(*said)
+
+    collection = Collection(options.best, False, options.encoding or "", say, "")
+    convert.read_files(collection, reading.listed)
     if not collection.count:
         whole = " ".join(options.exports)
         quotes = f"; put a name with blanks into quotes: '{texts.shown(whole)}'"
@@ -121,11 +142,9 @@ def convert_exports(given: Run) -> None:
             given.shown.keep(line)
         raise texts.Stop("these files have no level" + quotes * (
             len(options.exports) > 1 and os.path.exists(whole)))
-    (_, text), (_, exported) = collection.files(given.name)
-    given.exports = by_hand.collection(blocks.read(text))
-    given.origins.levels[:] = collection.origins
     others = answers.text([record for _, record in sorted(collection.others.items())])
-    given.records = [record for it in (exported, others) for record in answers.read(it).records]
+    files = [*(data for _, data in collection.files(given.name)), others]
+    return Conversion(reading.digest(), files, collection.origins, messages)
 
 
 # ---- the files of NAME
@@ -182,11 +201,29 @@ def contents(given: Run, state: State) -> Dict[str, Optional[bytes]]:
     kept_text, kept_answers = state.left.files()
     other = noted(given.program, state.pool.other_answers())
     sources = given.origins.sources(state.merged.written.places)
-    table = {SHEET: sheet_of(given.name, state.now, sources)} if given.options.csv else {}
+    files = [state.text, state.answers, state.report]
+    made_of = texts.digest(b"\n".join([ascii([
+        __version__, page.skeleton(), sources, given.program.is_reference]).encode(), *files]))
+    made: Dict[str, bytes] = {}
+
+    def make(end: str, file_of: Callable[[], bytes]) -> None:
+        """Makes a file, unless it is there and what it is made of is the same."""
+        former = state.files.now.get(end) or b""
+        is_same = state.memory.made.get(end) == f"{made_of} {texts.digest(former)}"
+        made[end] = former if is_same else file_of()
+
+    make(PAGE, lambda: page_of(given, files, sources))
+    if given.options.csv:
+        make(SHEET, lambda: sheet_of(given.name, state.now, sources))
+    if not given.options.compare:
+        digests = {end: f"{made_of} {texts.digest(data)}" for end, data in made.items()}
+        if all(state.now.lines[number - 1].is_answered for number in state.pool.chosen):
+            digests[ANSWERS] = texts.digest(state.answers)
+        digests[OTHER] = texts.digest(other)
+        remembered = remembered._replace(exports=given.conversion, made=digests)
     return {KEPT_XSB: kept_text, KEPT_ANSWERS: kept_answers, XSB: state.text,
             ANSWERS: state.answers, REPORT: state.report,
-            OTHER: other if given.options.best == BOTH else None,
-            PAGE: page_of(given, [state.text, state.answers, state.report], sources), **table,
+            OTHER: other if given.options.best == BOTH else None, **made,
             MEMORY: memory.text(remembered)}
 
 
@@ -204,6 +241,8 @@ def sheet_of(name: str, now: Snapshot, sources: Dict[int, places.Source]) -> byt
 def searched(given: Run, state: State) -> State:
     """Searches the levels that are left, and brings the files up to date as results come."""
     known = state.memory.outcomes
+    if not (given.options.solver or given.options.seconds > 0 < given.options.search):
+        return state
 
     def take(way: str, results: Sequence[Tuple[boards.Form, Result]]) -> None:
         nonlocal state
@@ -214,6 +253,8 @@ def searched(given: Run, state: State) -> State:
                 given.found.append((form, answers.answer_of(result.record)))
         state = settled(given, state)
 
+    # loads the search and the solvers
+    from .. import rounds
     rounds.search(given.shown, rounds.ways(given.options, given.program),
                   lambda: state.unanswered(), known, take)
     return state

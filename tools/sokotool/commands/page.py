@@ -132,11 +132,15 @@ def part(name: str) -> str:
     return data.decode()
 
 
-def _page_of(data: Dict[str, Any], above: str) -> bytes:
-    """Returns the skeleton, with each mark replaced by the part or the data that it names. The
-    page runs no script but those whose checksums its policy has."""
-    page = _MARK.sub(lambda mark: part(mark[1]).rstrip("\n") if "." in mark[1] else mark[0],
+def skeleton() -> str:
+    """Returns the page with each mark replaced by the part that it names, but without data."""
+    return _MARK.sub(lambda mark: part(mark[1]).rstrip("\n") if "." in mark[1] else mark[0],
                      part("page.html")).replace("@WORDS@", words())
+
+
+def _page_of(data: Dict[str, Any], above: str) -> bytes:
+    """Returns the page of some data. It runs no script but those whose checksums its policy has."""
+    page = skeleton()
     scripts = re.findall(r"<script>(.*?)</script>", page + above, re.S)
     # No text may end the block of the data: '<' is escaped.
     values = {"DATA": json.dumps(data).replace("<", "\\u003c"),
