@@ -118,6 +118,22 @@ class Placed(Case):
         self.assertEqual(self.chosen(found), {1: SHORT})
         self.assertEqual(found.left(stored), [typed._replace(record=None)])
 
+    def test_what_a_kept_answer_says_more_than_a_title_stays(self) -> None:
+        """The title of no level any more, or a note."""
+        own = read(record(SHORT)).records[0]
+        level = Level(1, ROWS, 1, "Old, too")
+        now = changes.Snapshot([level], boards.forms_of([level]))
+        for head, stays in ((b"; kept from level 4, Old, too", False), (b"; kept", False),
+                            (b"; kept from level 4", False), (b"", False),
+                            (b"; kept from level 4, Other", True), (b"; kept for later", True),
+                            (b"; kept from level 4, Old, too: a note", True)):
+            entry = kept.Entry(head, Block((), tuple(ROWS), ()), own)
+            found = Pool(now, MOVES)
+            found.add_stored(kept.Kept([entry], []))
+            self.assertEqual(self.chosen(found), {1: SHORT})
+            self.assertEqual(found.left(kept.Kept([entry], [])),
+                             [entry._replace(record=None)] * stays, head)
+
     def test_kept_files_are_read_as_they_were_written(self) -> None:
         own = answers.read(b"sokoban-answers 1\n; a\n\n; b\n" + record(SHORT) + b"; rest\n")
         first = Block((b"; above",), tuple(ROWS), (b"Title: t",))

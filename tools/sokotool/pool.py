@@ -261,12 +261,13 @@ class Pool:
         """Returns what was stored before and has no place yet, and the own records that have none
         any more."""
         homeless = iter(self._stored)
+        titles = {level.title.encode() for level in self.now.levels}
         entries = []
         for entry in stored.entries:
             given = next(homeless) if entry.record else None
             if not given or not self._has_place(given):
                 entries.append(entry)
-            elif entry.block.above or entry.block.below:
+            elif entry.stays(titles):
                 entries.append(entry._replace(record=None))
         for own in self._own:
             block = Block((), tuple(own.level.rows), ())

@@ -173,10 +173,11 @@ class State:
 
     def _left(self) -> kept.Kept:
         """Returns what has no place in the collection."""
-        back = self.merged.back
+        back, titles = self.merged.back, {level.title.encode() for level in self.now.levels}
         stored = [entry._replace(block=entry.block._replace(above=(), below=()))
-                  if at in back else entry for at, entry in enumerate(self.stored.entries)
-                  if entry.record or at not in back]
+                  if at in back else entry for at, entry in enumerate(self.stored.entries)]
+        stored = [entry for at, entry in enumerate(stored)
+                  if entry.record or at not in back or entry.stays(titles)]
         entries = self.pool.left(self.stored._replace(entries=stored))
         for index, block in self.merged.away:
             level = self.mine.levels[index]
