@@ -594,7 +594,9 @@ class Unchanged(Check):
         self.assertEqual([it for it in self.lines(first) if it.startswith("problem: ")],
                          [it for it in self.lines(self.said) if it.startswith("problem: ")])
         self.answer()
+        before = self.read("mine.memory")
         self.assertFalse(self.converts(os.path.abspath("exports")))
+        self.assertEqual(self.read("mine.memory"), before)
         self.assertIn(f"problem: {os.path.abspath('exports')}/inbox/player.sok line 24: the ",
                       self.said.out.decode())
 
@@ -635,7 +637,7 @@ class Unchanged(Check):
         self.converts("a.txt")
         memory = self.read("mine.memory")
         whole = json.loads(memory)
-        for exports in (5, {}, {**whole["exports"], "files": 5}, {**whole["exports"], "said": [1]}):
+        for exports in (5, {}, {**whole["exports"], "files": 5}, {**whole["exports"], "notes": [1]}):
             self.write("mine.memory", json.dumps({**whole, "exports": exports}))
             self.assertTrue(self.converts("a.txt"), exports)
             self.assertEqual(self.read("mine.memory"), memory)
@@ -648,6 +650,11 @@ class Unchanged(Check):
             self.write("mine" + end, made + b"edited\n")
             self.check("mine", "a.txt", "--csv")
             self.assertEqual(self.read("mine" + end), made)
+        for name in [name for name in os.listdir() if name.startswith("mine.")]:
+            os.rename(name, "other" + name[4:])
+        self.check("other", "a.txt")
+        self.assertEqual((b"other.xsb" in self.read("other.html"),
+                          b"mine.xsb" in self.read("other.html")), (True, False))
 
     def test_no_search_and_no_form_of_exports_is_loaded(self) -> None:
         self.write("a.txt", LONG + "\n" + LOST)

@@ -2,35 +2,28 @@
 didn't change aren't converted again."""
 import contextlib
 import json
-from typing import Any, Callable, Dict, NamedTuple, Optional, Sequence
+from typing import Any, Callable, Dict, List, NamedTuple, Optional, Sequence
 
 from . import __version__, answers, exports, texts
-from .places import Place
-
-
-class Said(NamedTuple):
-    """A message: its place, what it says, and whether something is left out or wrong."""
-
-    place: Place
-    why: str
-    is_fault: bool
+from .places import Origins, Place, Problem
 
 
 class Conversion(NamedTuple):
     """The digest of the exports; the texts of their levels, their answers and their other answers;
-    where each level comes from; and the messages."""
+    where each level comes from and what was left out; and notes of what was read with a change."""
 
     digest: str
     files: Sequence[bytes]
-    places: Sequence[Place]
-    said: Sequence[Said]
+    origins: Origins
+    notes: List[Problem]
 
     def data(self) -> Any:
         """Returns this for a JSON file, or None if the digest isn't known. The files are named as
         they are published."""
         return {"digest": self.digest, "files": [*map(_decoded, self.files)],
-                "places": [place[1:] for place in self.places],
-                "said": [[place[1:], *rest] for place, *rest in self.said]} if self.digest else None
+                "places": [place[1:] for place in self.origins.levels],
+                "problems": [[place[1:], why] for place, why in self.origins.problems],
+                "notes": [[place[1:], why] for place, why in self.notes]} if self.digest else None
 
 
 class Reading:
@@ -68,6 +61,9 @@ class Reading:
         def place(published: str, line: int) -> Place:
             return Place(names.get(published, published), published, line)
 
+        def problems(kind: str) -> List[Problem]:
+            return [Problem(place(*it), why) for it, why in data[kind]]
+
         if not data or any(it.name == "-" for it in self.listed):
             return None
         with contextlib.suppress(texts.Stop, KeyError, TypeError, ValueError):
@@ -76,8 +72,8 @@ class Reading:
             if self.digest() == data["digest"]:
                 return Conversion(
                     data["digest"], [*map(_encoded, data["files"])],
-                    [place(*it) for it in data["places"]],
-                    [Said(place(*it), *rest) for it, *rest in data["said"]])
+                    Origins([place(*it) for it in data["places"]], problems("problems")),
+                    problems("notes"))
         return None
 
 

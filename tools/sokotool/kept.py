@@ -22,7 +22,6 @@ class Entry(NamedTuple):
     block: Block
     record: Optional[answers.Record] = None
 
-
     def stays(self, titles: Set[bytes]) -> bool:
         """Returns whether the comment or the text says something else than one of these titles.
         Then it stays, although there is no answer any more."""

@@ -17,7 +17,8 @@ Find = Tuple[Lines, bytes]
 class Memory(NamedTuple):
     """What the last check wrote, the outcomes of searches, digests of the answers that were
     computed, and what was found and isn't in NAME.answers. `exports` has the conversion of the
-    exports, and `made` the digests of files that were made, each with that of what it is made of.
+    exports, and `made` digests: of the page and what it is made of, and of answers that were all
+    accepted.
     """
 
     written: Written

@@ -9,7 +9,7 @@ from .audits import Audits
 from .changes import Snapshot
 from .outcomes import Outcomes
 from .own_files import ANSWERS, KEPT_ANSWERS, KEPT_XSB, OTHER, REPORT, XSB, noted
-from .places import Origins, Place, Problem
+from .places import Origins
 from .pool import Pool, in_case
 from .progress import Progress
 
@@ -40,13 +40,6 @@ class Run:
         self.edited: Set[boards.Key] = set()
         self.written: Set[str] = set()
         self.is_begun = self.has_backups = False
-
-    def say(self, place: Place, why: str, is_fault: bool) -> None:
-        """Takes a message of the conversion: a problem, or a note, which is printed."""
-        if is_fault:
-            self.origins.problems.append(Problem(place, why))
-        else:
-            self.shown.keep(place.said(why))
 
     def without(self, forms: Sequence[boards.Form]) -> List[memory.Find]:
         """Returns the answers to boards that none of these forms has."""

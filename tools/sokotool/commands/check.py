@@ -15,13 +15,13 @@ wrong."""
 import argparse
 import math
 import os
-from typing import Any, Callable, Dict, List, Optional, Sequence, Tuple
+from typing import Dict, List, Optional, Sequence, Tuple
 
 from .. import (__version__, answers, auditor, blocks, boards, by_hand, exports, memory, own_files,
                 places, sheet, summary, system, texts, transaction)
 from ..changes import Snapshot
 from ..collection import BOTH, MOVES, PUSHES, Collection
-from ..conversion import Conversion, Reading, Said
+from ..conversion import Conversion, Reading
 from ..outcomes import Result
 from ..own_files import (ANSWERS, KEPT_ANSWERS, KEPT_XSB, MEMORY, OTHER, PAGE, REPORT, SHEET, XSB,
                          noted)
@@ -110,15 +110,13 @@ def read_exports(given: Run) -> None:
     reading = Reading(exports.listed(named, is_own), options.best, options.encoding)
     remembered = memory.exports(own_files.bytes_of(given.name + MEMORY))
     found = reading.remembered(remembered)
-    if found:
-        for said in found.said:
-            given.say(*said)
-    else:
-        found = converted(given, reading)
+    for note in found.notes if found else ():
+        given.shown.keep(note.place.said(note.why))
+    found = found or converted(given, reading)
     given.conversion = found.data()
     text, exported, others = found.files
     given.exports = by_hand.collection(blocks.read(text))
-    given.origins.levels[:] = found.places
+    given.origins = found.origins
     given.records = [record for it in (exported, others) for record in answers.read(it).records]
 
 
@@ -127,24 +125,26 @@ def converted(given: Run, reading: Reading) -> Conversion:
     # loads all forms of exports
     from . import convert
     options = given.options
-    messages: List[Said] = []
+    problems: List[places.Problem] = []
+    notes: List[places.Problem] = []
 
-    def say(*said: Any) -> None:
-        messages.append(Said(*said))
-        given.say(*said)
+    def say(place: places.Place, why: str, is_fault: bool) -> None:
+        (problems if is_fault else notes).append(places.Problem(place, why))
+        if not is_fault:
+            given.shown.keep(place.said(why))
 
     collection = Collection(options.best, False, options.encoding or "", say, "")
     convert.read_files(collection, reading.listed)
     if not collection.count:
         whole = " ".join(options.exports)
         quotes = f"; put a name with blanks into quotes: '{texts.shown(whole)}'"
-        for line in given.origins.messages({}):
-            given.shown.keep(line)
+        for problem in problems:
+            given.shown.keep(problem.place.said(problem.why))
         raise texts.Stop("these files have no level" + quotes * (
             len(options.exports) > 1 and os.path.exists(whole)))
     others = answers.text([record for _, record in sorted(collection.others.items())])
     files = [*(data for _, data in collection.files(given.name)), others]
-    return Conversion(reading.digest(), files, collection.origins, messages)
+    return Conversion(reading.digest(), files, places.Origins(collection.origins, problems), notes)
 
 
 # ---- the files of NAME
@@ -201,29 +201,22 @@ def contents(given: Run, state: State) -> Dict[str, Optional[bytes]]:
     kept_text, kept_answers = state.left.files()
     other = noted(given.program, state.pool.other_answers())
     sources = given.origins.sources(state.merged.written.places)
+    table = {SHEET: sheet_of(given.name, state.now, sources)} if given.options.csv else {}
     files = [state.text, state.answers, state.report]
+    froms = [(number, page.source_of(it)) for number, it in sources.items()]
     made_of = texts.digest(b"\n".join([ascii([
-        __version__, page.skeleton(), sources, given.program.is_reference]).encode(), *files]))
-    made: Dict[str, bytes] = {}
-
-    def make(end: str, file_of: Callable[[], bytes]) -> None:
-        """Makes a file, unless it is there and what it is made of is the same."""
-        former = state.files.now.get(end) or b""
-        is_same = state.memory.made.get(end) == f"{made_of} {texts.digest(former)}"
-        made[end] = former if is_same else file_of()
-
-    make(PAGE, lambda: page_of(given, files, sources))
-    if given.options.csv:
-        make(SHEET, lambda: sheet_of(given.name, state.now, sources))
+        __version__, page.skeleton(), page_names(given), froms]).encode(), *files]))
+    made = state.files.now.get(PAGE) or b""
+    if state.memory.made.get(PAGE) != f"{made_of} {texts.digest(made)}":
+        made = page_of(given, files, sources)
     if not given.options.compare:
-        digests = {end: f"{made_of} {texts.digest(data)}" for end, data in made.items()}
+        digests = {PAGE: f"{made_of} {texts.digest(made)}", OTHER: texts.digest(other)}
         if all(state.now.lines[number - 1].is_answered for number in state.pool.chosen):
             digests[ANSWERS] = texts.digest(state.answers)
-        digests[OTHER] = texts.digest(other)
         remembered = remembered._replace(exports=given.conversion, made=digests)
     return {KEPT_XSB: kept_text, KEPT_ANSWERS: kept_answers, XSB: state.text,
             ANSWERS: state.answers, REPORT: state.report,
-            OTHER: other if given.options.best == BOTH else None, **made,
+            OTHER: other if given.options.best == BOTH else None, PAGE: made, **table,
             MEMORY: memory.text(remembered)}
 
 
@@ -276,10 +269,15 @@ def report(given: Run, state: State) -> int:
 
 def page_of(given: Run, files: List[bytes], sources: Dict[int, places.Source]) -> bytes:
     """Returns the page of the three files, with the sources of the levels."""
-    names = [texts.shown(os.path.basename(given.name) + end) for end in (XSB, ANSWERS, REPORT)]
-    if given.program.is_reference:
-        names[1] += ", " + auditor.REFERENCE_NOTE
-    made, fault = page.written(files, names, sources=sources)
+    made, fault = page.written(files, page_names(given), sources=sources)
     if fault:
         raise texts.Stop(f"the report isn't of these levels and answers: {fault}")
     return made
+
+
+def page_names(given: Run) -> List[str]:
+    """Returns how the page names its files."""
+    names = [texts.shown(os.path.basename(given.name) + end) for end in (XSB, ANSWERS, REPORT)]
+    if given.program.is_reference:
+        names[1] += ", " + auditor.REFERENCE_NOTE
+    return names

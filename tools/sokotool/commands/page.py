@@ -58,7 +58,7 @@ def written(files: Sequence[bytes], names: List[str], above: str = "",
     data = {"names": names, "fault": fault or "", "levels": [_level_of(level) for level in found],
             "records": {number: _record_of(record) for number, record in records.items()},
             "verdicts": {line.level: _verdict_of(line) for line in read.lines},
-            "sources": {number: _source_of(source) for number, source in (sources or {}).items()}}
+            "sources": {number: source_of(source) for number, source in (sources or {}).items()}}
     return _page_of(data, above), fault
 
 
@@ -118,7 +118,8 @@ def _verdict_of(line: report.Line) -> Dict[str, Any]:
     return {"status": line.status, "words": line.words, "line": line.text}
 
 
-def _source_of(source: places.Source) -> Dict[str, Any]:
+def source_of(source: places.Source) -> Dict[str, Any]:
+    """Returns where a level comes from."""
     return {"file": texts.shown(source.place.published), "line": source.place.line,
             "left": source.left}
 
