@@ -1,5 +1,6 @@
 """The command check: the whole job, what it takes over from the last run, and what it reports as
 changed."""
+import json
 import os
 import random
 import re
@@ -11,6 +12,7 @@ import unittest.mock
 from typing import Any, Callable, Iterator, List
 
 from sokotool import auditor, boards, levels, outcomes, searches
+from sokotool.commands import convert
 from tests.tools import helping
 from tests.tools.ending import EndsEarly, Killed
 from tests.tools.helping import ONE, SAMPLES, TOP, Case, Result, is_slow, used
@@ -563,13 +565,116 @@ class Screen(Check):
         self.assertIn("mine: 1 levels, 1 solved, 0 unsolvable, 0 refused, 0 missing\r\n", said)
 
 
-@is_slow
 class Unchanged(Check):
+    def answer(self) -> None:
+        """Runs check, and compares what it writes with a check without a memory of the exports."""
+        self.check("mine", "exports", "--csv")
+        written = {name: self.read(name) for name in os.listdir() if name.startswith("mine.")}
+        memory = json.loads(written["mine.memory"])
+        self.write("mine.memory", json.dumps({**memory, "exports": None, "made": {}}))
+        self.check("mine", "exports", "--csv")
+        self.assertEqual({name: self.read(name) for name in written}, written)
+
+    def converts(self, *words: str) -> bool:
+        """Returns whether a check of the exports converts them."""
+        with unittest.mock.patch("sokotool.commands.convert.read_files",
+                                 side_effect=convert.read_files) as read_files:
+            self.said = self.check("mine", *words)
+        return bool(read_files.called)
+
+    def test_exports_that_did_not_change_are_not_converted(self) -> None:
+        os.mkdir("exports")
+        shutil.copytree(os.path.join(SAMPLES, "exports"), "exports/inbox")
+        self.write("exports/chinese.txt", ONE.encode() + "Title: \u4ed3\u5e93\n".encode("gb18030"))
+        self.assertTrue(self.converts("exports"))
+        first = self.said
+        self.assertFalse(self.converts("exports"))
+        for text in (first, self.said):
+            self.assertIn("exports/chinese.txt line 1: not UTF-8", text.err)
+        self.assertEqual([it for it in self.lines(first) if it.startswith("problem: ")],
+                         [it for it in self.lines(self.said) if it.startswith("problem: ")])
+        self.answer()
+        before = self.read("mine.memory")
+        self.assertFalse(self.converts(os.path.abspath("exports")))
+        self.assertEqual(self.read("mine.memory"), before)
+        self.assertIn(f"problem: {os.path.abspath('exports')}/inbox/player.sok line 24: the ",
+                      self.said.out.decode())
+
+    def test_what_counts_for_the_conversion(self) -> None:
+        os.mkdir("inbox")
+        self.write("inbox/a.txt", ONE + "Solution: R\n")
+        self.converts("inbox")
+        for words in (["inbox", "--best", "pushes"], ["inbox", "--best", "both"],
+                      ["inbox", "--encoding", "big5"], ["inbox/a.txt"]):
+            self.assertTrue(self.converts(*words), words)
+            self.assertFalse(self.converts(*words), words)
+        for name in ("inbox/b.txt", "inbox/a.txt"):
+            self.write(name, LONG)
+            self.assertTrue(self.converts("inbox"))
+            self.assertFalse(self.converts("inbox"))
+        os.rename("inbox/b.txt", "inbox/c.txt")
+        self.assertTrue(self.converts("inbox"))
+        with unittest.mock.patch("sokotool.conversion.__version__", "another"):
+            self.assertTrue(self.converts("inbox"))
+        self.assertTrue(self.converts("inbox"))
+
+    def test_what_is_converted_each_time(self) -> None:
+        """That is what has no digest: levels beside answers, standard input, what can't be read."""
+        self.write("other.xsb", ONE)
+        self.write("other.answers", "sokoban-answers 1\nlevel 1\nsolution\nR\nend\n")
+        self.write("a.txt", LONG)
+        for words in (["a.txt", "other.answers"], ["a.txt", "lost.txt"]):
+            for _ in range(2):
+                self.assertTrue(self.converts(*words), words)
+        with unittest.mock.patch("sokotool.commands.convert.read_files",
+                                 side_effect=convert.read_files) as read_files:
+            for _ in range(2):
+                self.check("mine", "-", given=LONG.encode())
+        self.assertEqual(read_files.call_count, 2)
+
+    def test_a_damaged_conversion_is_made_again(self) -> None:
+        self.write("a.txt", LONG)
+        self.converts("a.txt")
+        memory = self.read("mine.memory")
+        whole = json.loads(memory)
+        for exports in (5, {}, {**whole["exports"], "files": 5}, {**whole["exports"], "notes": [1]}):
+            self.write("mine.memory", json.dumps({**whole, "exports": exports}))
+            self.assertTrue(self.converts("a.txt"), exports)
+            self.assertEqual(self.read("mine.memory"), memory)
+
+    def test_a_page_and_a_table_that_were_edited_are_made_again(self) -> None:
+        self.write("a.txt", LONG)
+        self.check("mine", "a.txt", "--csv")
+        for end in (".html", ".csv"):
+            made = self.read("mine" + end)
+            self.write("mine" + end, made + b"edited\n")
+            self.check("mine", "a.txt", "--csv")
+            self.assertEqual(self.read("mine" + end), made)
+        for name in [name for name in os.listdir() if name.startswith("mine.")]:
+            os.rename(name, "other" + name[4:])
+        self.check("other", "a.txt")
+        self.assertEqual((b"other.xsb" in self.read("other.html"),
+                          b"mine.xsb" in self.read("other.html")), (True, False))
+
+    def test_no_search_and_no_form_of_exports_is_loaded(self) -> None:
+        self.write("a.txt", LONG + "\n" + LOST)
+        for is_loaded in (True, False):
+            said = subprocess.run(
+                [sys.executable, "-c", "import sys; from sokotool.main import main; "
+                 "main(['check', 'mine', 'a.txt', '--seconds', '0']); "
+                 "print(*(it for it in sys.modules if it.startswith('sokotool.')))"],
+                stdout=subprocess.PIPE, check=True, env={
+                    **os.environ, "PYTHONPATH": os.path.join(TOP, "tools")}).stdout.decode()
+            loaded = {it for it in said.split() if it.startswith(("sokotool.formats.",
+                                                                  "sokotool.search"))}
+            self.assertEqual("sokotool.formats.plain" in loaded, is_loaded)
+            self.assertFalse({it for it in loaded if "search" in it})
+
     @is_slow
     def test_a_run_that_changes_nothing_takes_no_longer_than_the_first(self) -> None:
         """The least processor time of several runs: a busy machine makes some seem longer."""
         chance, text = random.Random(7), ""
-        for number in range(400):
+        for number in range(1000):
             width, height = chance.randint(10, 18), chance.randint(7, 11)
             rows = [[*"#" * width], *([*"#" + " " * (width - 2) + "#"] for _ in range(height - 2)),
                     [*"#" * width]]
@@ -583,7 +688,7 @@ class Unchanged(Check):
             text += f"\nTitle: {number}\nSolution: {'R' * (end - 2)}\n\n"
         self.write("a.txt", text)
         times: List[List[float]] = [[], []]
-        for _ in range(4):
+        while len(times[0]) < 3 or len(times[0]) < 9 and min(times[1]) > .8 * min(times[0]):
             for name in [name for name in os.listdir() if name.startswith("mine")]:
                 os.remove(name)
             for spent in times:
@@ -593,7 +698,7 @@ class Unchanged(Check):
                                       stdout=subprocess.DEVNULL, check=False)
                 spent.append(used() - began)
                 self.assertEqual(done.returncode, 0)
-        self.assertLess(min(times[1]), 1.2 * min(times[0]), times)
+        self.assertLess(min(times[1]), min(times[0]), times)
 
 
 @unittest.skipUnless(os.path.isdir(MAPS), "Debian's cavepacker-data isn't installed")

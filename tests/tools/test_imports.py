@@ -10,7 +10,7 @@ from sokotool import main
 from tests.tools.helping import TOP
 
 FOLDER = os.path.join(TOP, "tools", "sokotool")
-SEARCHING = {"check", "find"}
+SEARCHING = {"find"}
 
 
 def modules() -> Dict[str, str]:

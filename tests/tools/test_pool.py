@@ -4,7 +4,7 @@ import os
 import unittest.mock
 from typing import Dict, List
 
-from sokotool import (answers, boards, carrying, changes, kept, memory, own_files, pool, report,
+from sokotool import (answers, boards, carrying, changes, kept, memory, own_files, report,
                       system, texts)
 from sokotool.blocks import Block
 from sokotool.collection import BOTH, MOVES, PUSHES
@@ -55,7 +55,7 @@ class Picked(Case):
         found = Pool(STATE, MOVES)
         found.add_file("a.answers", read(b"level 1\nunsolvable\npattern 3,3 @ *\nend\n"), STATE)
         found.chosen = {1: found._of[1][0]}
-        pool._refuse(report.read(b"level 1 refused line 4 push 3,3 r\n"), found.chosen)
+        found._refuse(report.read(b"level 1 refused line 4 push 3,3 r\n"), found.chosen)
         self.assertEqual(found.left_out(),
                          ["a.answers line 2: refused for level 1: push 3,3 r"])
 
@@ -75,9 +75,9 @@ class Placed(Case):
         found = [Level(number, it, 1) for number, it in enumerate(rows, 1)]
         return changes.Snapshot(found, boards.forms_of(found))
 
-    def chosen(self, found: Pool) -> Dict[int, bytes]:
-        """Chooses without an audit, and returns the letters by the numbers of the levels."""
-        found.audited(lambda _: report.Report([], None, []), lambda text: text)
+    def chosen(self, found: Pool, refused: bytes = b"") -> Dict[int, bytes]:
+        """Chooses by a report, and returns the letters by the numbers of the levels."""
+        found.audited(lambda _: report.read(refused), lambda text: text)
         return {number: it.answer.letters for number, it in found.chosen.items()}
 
     def test_twins_have_one_answer(self) -> None:
@@ -104,7 +104,7 @@ class Placed(Case):
                 self.assertEqual(found.left(kept.Kept(left, [])), left)
         gone = Pool(self.state([b"#####", b"#@$.#", b"#####"]), MOVES)
         gone.add_own(read(record(SHORT)), STATE, STATE, set())
-        self.assertEqual(self.chosen(gone), {})
+        self.assertEqual(self.chosen(gone, b"level 1 refused move 1 case\n"), {})
         self.assertEqual([(it.head, it.block.rows) for it in gone.left(kept.Kept([], []))],
                          [(b"; kept from level 1", tuple(ROWS))])
 
@@ -117,6 +117,22 @@ class Placed(Case):
         found.add_stored(stored)
         self.assertEqual(self.chosen(found), {1: SHORT})
         self.assertEqual(found.left(stored), [typed._replace(record=None)])
+
+    def test_what_a_kept_answer_says_more_than_a_title_stays(self) -> None:
+        """The title of no level any more, or a note."""
+        own = read(record(SHORT)).records[0]
+        level = Level(1, ROWS, 1, "Old, too")
+        now = changes.Snapshot([level], boards.forms_of([level]))
+        for head, stays in ((b"; kept from level 4, Old, too", False), (b"; kept", False),
+                            (b"; kept from level 4", False), (b"", False),
+                            (b"; kept from level 4, Other", True), (b"; kept for later", True),
+                            (b"; kept from level 4, Old, too: a note", True)):
+            entry = kept.Entry(head, Block((), tuple(ROWS), ()), own)
+            found = Pool(now, MOVES)
+            found.add_stored(kept.Kept([entry], []))
+            self.assertEqual(self.chosen(found), {1: SHORT})
+            self.assertEqual(found.left(kept.Kept([entry], [])),
+                             [entry._replace(record=None)] * stays, head)
 
     def test_kept_files_are_read_as_they_were_written(self) -> None:
         own = answers.read(b"sokoban-answers 1\n; a\n\n; b\n" + record(SHORT) + b"; rest\n")

@@ -7,8 +7,8 @@ import unittest.mock
 from typing import Any, Callable, Dict, Iterator, List, Sequence, Tuple
 
 from sokotool import boards, levels, rounds
-from sokotool.jobs import Jobs, Result
-from sokotool.outcomes import Outcomes
+from sokotool.jobs import Jobs
+from sokotool.outcomes import Outcomes, Result
 from sokotool.progress import Progress
 from sokotool.search.budget import Budget, Limits
 from tests.tools.helping import TOP, Case

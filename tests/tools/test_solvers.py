@@ -8,7 +8,7 @@ import time
 import unittest.mock
 from typing import Any, Callable, List
 
-from sokotool import jobs, levels, outcomes, solvers, texts
+from sokotool import levels, outcomes, solvers, texts
 from sokotool.search import refute
 from sokotool.search.budget import Budget, Limits
 from tests.tools.exports import ALPHA, BETA, GAMMA
@@ -45,7 +45,7 @@ def solver(command: str) -> solvers.Solver:
 
 class Solvers(Case):
     def solved(self, script: str, count: int = 1, seconds: float = 20, jobs: int = 3,
-               words: str = "", total: float = 60) -> List[jobs.Result]:
+               words: str = "", total: float = 60) -> List[outcomes.Result]:
         """Runs a script in Python on the first levels."""
         self.write("solver.py", "import os, signal, sys, time\n" + script)
         command = f"{sys.executable} solver.py {words}"

@@ -21,13 +21,6 @@ _BINARY = (b"\x7fELF", b"MZ", b"\xfe\xed\xfa\xce", b"\xfe\xed\xfa\xcf", b"\xce\x
            b"\xcf\xfa\xed\xfe", b"\xca\xfe\xba\xbe")
 
 
-class Limits(NamedTuple):
-    """The limits of a run: seconds, and megabytes of memory."""
-
-    seconds: float
-    megabytes: int
-
-
 class Ran(NamedTuple):
     """The exit status of a run, what it printed, and its line on standard error."""
 
@@ -42,14 +35,15 @@ class Auditor(NamedTuple):
     path: str
     is_reference: bool
 
-    def run(self, *words: str, limits: Optional[Limits] = None) -> Ran:
+    def run(self, *words: str, seconds: Optional[float] = None, megabytes: Optional[int] = None
+            ) -> Ran:
         """Runs the program. If the run exceeds a limit, its fault names the limit."""
         command = [sys.executable, "-B", self.path] if self.is_reference else [self.path]
         try:
             ran = subprocess.run([*command, *words], stdin=subprocess.DEVNULL, check=False,
                                  stdout=subprocess.PIPE, stderr=subprocess.PIPE,
-                                 preexec_fn=limits and system.memory_limit(limits.megabytes),
-                                 timeout=limits and limits.seconds)
+                                 preexec_fn=system.memory_limit(megabytes) if megabytes else None,
+                                 timeout=seconds)
         except subprocess.TimeoutExpired as late:
             return Ran(2, b"", f"stopped after {late.timeout:g} s")
         except OSError as error:

@@ -90,6 +90,9 @@ class Turn(NamedTuple):
         return self[:4] == (1, 0, 0, 1)
 
 
+_AS_IT_IS = Turn(1, 0, 0, 1)
+
+
 class Form(NamedTuple):
     """The canonical form of a level's board. `cells` has its rows of `width`, with 0 for cells that
     don't count. `turn` takes a cell of the level to its cell in the form, whose corner is (0, 0).
@@ -129,7 +132,7 @@ class Form(NamedTuple):
     def turn_to(self, other: "Form") -> Turn:
         """Returns how a level of this form is turned into a level with the same form."""
         if self.turn == other.turn:
-            return Turn(1, 0, 0, 1)
+            return _AS_IT_IS
         return other.turn.inverse().after(self.turn)
 
 

@@ -1,21 +1,10 @@
 """Works on levels, several at once, within limits of time: searches and the runs of a solver."""
 import time
-from typing import Callable, Dict, Iterator, List, NamedTuple, Optional, Sequence
+from typing import Callable, Dict, Iterator, List, Optional, Sequence
 
 from .levels import Level
+from .outcomes import Result
 from .search.budget import Budget, Limits
-
-
-class Result(NamedTuple):
-    """The outcome of the work on a level, the record of the answer if one was found, the seconds
-    that the work could have, the outcome in words, and lines that tell more."""
-
-    level: Level
-    what: str
-    record: bytes
-    seconds: float
-    words: str
-    said: Sequence[str] = ()
 
 
 class Job:

@@ -5,12 +5,14 @@ That is an answer whose board is away or for which there is a better one, and te
 for a level that is away. Each has its level in NAME.kept.xsb, after a comment that says whence it
 came.
 """
-from typing import Dict, List, NamedTuple, Optional, Sequence, Tuple
+import re
+from typing import Dict, List, NamedTuple, Optional, Sequence, Set, Tuple
 
 from . import answers, blocks, boards, by_hand, changes, texts
 from .blocks import Block
 
 _HEAD = b"; kept"
+_WRITTEN = re.compile(rb"; kept(?: from level \d+)?(?:, (.*))?", re.S)
 
 
 class Entry(NamedTuple):
@@ -19,6 +21,13 @@ class Entry(NamedTuple):
     head: bytes
     block: Block
     record: Optional[answers.Record] = None
+
+    def stays(self, titles: Set[bytes]) -> bool:
+        """Returns whether the comment or the text says something else than one of these titles.
+        Then it stays, although there is no answer any more."""
+        written = _WRITTEN.fullmatch(self.head)
+        said = written[1] if written else self.head
+        return bool(self.block.above or self.block.below or said and said not in titles)
 
 
 class Kept(NamedTuple):
@@ -46,7 +55,10 @@ class Kept(NamedTuple):
         typed = sum(bool(entry.block.above or entry.block.below) for entry in self.entries)
         found = [(count[False], "answer", "of levels that are away"),
                  (count[True], "answer", "for which there are better ones"),
-                 (typed, "text", "of levels that are away")]
+                 (typed, "text", "of levels that are away"),
+                 (sum(bool(entry.head) and not (entry.record or entry.block.above
+                                                or entry.block.below) for entry in self.entries),
+                  "comment", "of answers that are back")]
         return [f"{texts.count(number, noun)} {why}" for number, noun, why in found if number]
 
     def files(self) -> Tuple[Optional[bytes], Optional[bytes]]:

@@ -1,6 +1,8 @@
 """The file NAME.memory: what a check remembers until the next one."""
+import contextlib
 import json
-from typing import Any, Dict, List, NamedTuple, Optional, Sequence, Tuple
+from types import MappingProxyType
+from typing import Any, Dict, List, Mapping, NamedTuple, Optional, Sequence, Tuple
 
 from . import texts
 from .blocks import Block, Lines
@@ -14,12 +16,17 @@ Find = Tuple[Lines, bytes]
 
 class Memory(NamedTuple):
     """What the last check wrote, the outcomes of searches, digests of the answers that were
-    computed, and what was found and isn't in NAME.answers."""
+    computed, and what was found and isn't in NAME.answers. `exports` has the conversion of the
+    exports, and `made` digests: of the page and what it is made of, and of answers that were all
+    accepted.
+    """
 
     written: Written
     outcomes: Outcomes
     computed: List[str]
     found: Sequence[Find] = ()
+    exports: Any = None
+    made: Mapping[str, str] = MappingProxyType({})
 
 
 def read(data: Optional[bytes], name: str) -> Memory:
@@ -36,9 +43,17 @@ def read(data: Optional[bytes], name: str) -> Memory:
             {board: {way: (what, seconds) for way, (what, seconds) in ways.items()}
              for board, ways in found["searched"].items()}), found["computed"],
                       [(_lines(rows), record.encode())
-                       for rows, record in found.get("found", [])])
+                       for rows, record in found.get("found", [])],
+                      found.get("exports"), dict(found.get("made", {})))
     except (ValueError, TypeError, KeyError, AttributeError):
         raise texts.Stop(f"{texts.shown(name)} is damaged: remove it") from None
+
+
+def exports(data: Optional[bytes]) -> Any:
+    """Returns the conversion of the exports that a file has, if it can be read."""
+    with contextlib.suppress(ValueError, AttributeError):
+        return json.loads(data or b"{}").get("exports")
+    return None
 
 
 def text(memory: Memory) -> bytes:
@@ -48,10 +63,21 @@ def text(memory: Memory) -> bytes:
     data: Dict[str, Any] = {
         "levels": blocks, "places": memory.written.places, "sources": memory.written.sources,
         "ordered": memory.written.is_ordered, "searched": memory.outcomes.kept,
-        "computed": memory.computed}
+        "computed": memory.computed, "exports": memory.exports, "made": {**memory.made}}
     if memory.found:
         data["found"] = [[_spelled(rows), record.decode()] for rows, record in memory.found]
-    return json.dumps(data, indent=0, sort_keys=True).encode() + b"\n"
+    return _spread(data).encode() + b"\n"
+
+
+def _spread(data: Any, depth: int = 2) -> str:
+    """Returns JSON with a line for each item of some depth. An indent would take three times as
+    long, since Python has no fast encoder for it."""
+    if depth and isinstance(data, dict) and data:
+        return "{\n" + ",\n".join(f"{json.dumps(name)}: {_spread(data[name], depth - 1)}"
+                                  for name in sorted(data)) + "\n}"
+    if depth and isinstance(data, list) and data:
+        return "[\n" + ",\n".join(_spread(it, depth - 1) for it in data) + "\n]"
+    return json.dumps(data, sort_keys=True)
 
 
 def _lines(part: List[str]) -> Lines:

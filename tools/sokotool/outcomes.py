@@ -1,8 +1,9 @@
-"""What is remembered of searches from run to run: how each board was searched, for how many seconds
-at most, and with which outcome."""
-from typing import Dict, List, Sequence, Tuple
+"""The outcomes of searches, and what is remembered of them from run to run: how each board was
+searched, for how many seconds at most, and with which outcome."""
+from typing import Dict, List, NamedTuple, Sequence, Tuple
 
 from .boards import Form
+from .levels import Level
 
 # the outcomes of a search; the search reached a limit of its own: FULL, MEMORY
 FOUND, SOLVABLE, LONG, ILLEGAL = "found", "solvable", "long", "illegal"
@@ -13,6 +14,18 @@ SOLVED, REFUTED, NOTHING, FAILED = "solved", "refuted", "nothing", "failed"
 FINAL = (FULL, ILLEGAL)
 # These gave an answer: if there is none now, it was lost.
 _ANSWERED = (FOUND, SOLVABLE, SOLVED, REFUTED)
+
+
+class Result(NamedTuple):
+    """The outcome of the work on a level, the record of the answer if one was found, the seconds
+    that the work could have, the outcome in words, and lines that tell more."""
+
+    level: Level
+    what: str
+    record: bytes
+    seconds: float
+    words: str
+    said: Sequence[str] = ()
 
 
 class Outcomes:

@@ -128,6 +128,20 @@ def is_made(name: str, data: bytes) -> bool:
             or name.endswith(MEMORY) and data.startswith(b"{"))
 
 
+def check_name(name: str) -> None:
+    """Refuses a NAME that names no file."""
+    if not os.path.basename(name):
+        raise texts.Stop(f"the name {texts.shown(name)!r} has nothing before .xsb")
+    end = os.path.splitext(name)[1]
+    if end in ENDS:
+        why = ("is a file that is there" if os.path.isfile(name) else
+               f"has an end: type it without {end}")
+        raise texts.Stop("the first word is the NAME of a collection, and "
+                         f"{texts.shown(name)} {why}")
+    if system.is_device(os.path.basename(name)):
+        raise texts.Stop(f"{texts.shown(name)} is the name of a device")
+
+
 def check_writable(name: str, *more: str) -> None:
     """Refuses a NAME whose files can't be written, with those of more ends."""
     for end in (*ENDS, *more, MEMORY):

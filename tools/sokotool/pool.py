@@ -15,9 +15,10 @@ _SOLVES, _CERTIFICATE, _FAILS = range(3)
 
 
 class Candidate:
-    """An answer that a level may get, by the number of the level. A better one has a lower `rank`;
-    `counts` has the pushes and moves of a solution. `fault` says why it is refused, if that is
-    known. One that `stays` is kept if no other is accepted; one that was computed gives way."""
+    """An answer that a level may get, by the number of the level. A better one has a lower `rank`,
+    once it has one; `counts` has the pushes and moves of a solution. `fault` says why it is
+    refused, if that is known. One that `stays` is kept if no other is accepted; one that was
+    computed gives way."""
 
     __slots__ = ("number", "answer", "stays", "rank", "counts", "fault", "is_computed")
 
@@ -61,7 +62,7 @@ class Pool:
                 computed: Set[str]) -> None:
         """Adds the records of NAME.answers, by the board of the level `before` that each names, and
         by that of the level that has its number now. Some were computed, by their digests."""
-        records = [_in_case(it, (before, mine)) for it in found.records]
+        records = found.records
         count = len(before.levels)
         self._own = self._by_board([it for it in records if it.level <= count], before, True)
         self._own += self._by_board([it for it in records if it.level > count], mine, True)
@@ -101,7 +102,7 @@ class Pool:
     def add_file(self, name: str, found: answers.Answers, before: changes.Snapshot) -> None:
         """Adds the records of another file, by the numbers of levels before and now. Those that no
         level accepts are reported."""
-        records = [_in_case(it, (self.now, before)) for it in found.records]
+        records = [in_case(it, (self.now, before)) for it in found.records]
         for record in records:
             targets = self._files.setdefault((name, record.line), [])
             if record.level <= len(self.now.levels):
@@ -116,13 +117,14 @@ class Pool:
         found = next((it for it in several if it.answer == answer), None)
         if not found:
             found = Candidate(number, answer, stays)
-            self._rank(found, len(several))
             several.append(found)
         return found
 
     def _rank(self, it: Candidate, order: int) -> None:
         """Ranks a candidate, and notes why a replay refuses it. Certificates aren't checked here.
         """
+        if it.rank:
+            return
         if it.answer.kind != "solution":
             it.rank = (_CERTIFICATE, order)
             return
@@ -190,14 +192,24 @@ class Pool:
             self.others = {number: it for number, chosen in self.chosen.items()
                            for it in [self._other(chosen)] if it}
             if self.others:
-                _refuse(audit(self.other_answers()), self.others)
+                self._refuse(audit(self.other_answers()), self.others)
             text = noted(self._written())
             read = audit(text)
-            _refuse(read, self.chosen)
+            self._refuse(read, self.chosen)
             if not any(it.fault for it in self.others.values()) and all(
                     not it.fault or self._choice(number) is it
                     for number, it in self.chosen.items()):
                 return text, read
+
+    def _refuse(self, read: report.Report, candidates: Dict[int, Candidate]) -> None:
+        """Notes which answers an audit refused, and why."""
+        for line in read.lines:
+            if line.status == "refused" and line.level in candidates:
+                it = candidates[line.level]
+                self._rank(it, 0)
+                if line.words[0] != "board":
+                    # The line number of a certificate is one in this text, which nobody sees.
+                    it.fault = it.fault or " ".join(line.words[2 * (line.words[0] == "line"):])
 
     def _written(self) -> bytes:
         """Returns the answers file with the chosen ones, and the comments between them."""
@@ -212,7 +224,11 @@ class Pool:
 
     def _choice(self, number: int) -> Optional[Candidate]:
         """Returns the best answer to a level that isn't known to be refused, or one that stays."""
-        several = sorted(self._of[number], key=lambda it: it.rank)
+        several = self._of[number]
+        if len(several) > 1:
+            for order, it in enumerate(several):
+                self._rank(it, order)
+            several = sorted(several, key=lambda it: it.rank)
         return next((it for it in several if not it.fault),
                     next((it for it in several if it.stays), None))
 
@@ -245,12 +261,13 @@ class Pool:
         """Returns what was stored before and has no place yet, and the own records that have none
         any more."""
         homeless = iter(self._stored)
+        titles = {level.title.encode() for level in self.now.levels}
         entries = []
         for entry in stored.entries:
             given = next(homeless) if entry.record else None
             if not given or not self._has_place(given):
                 entries.append(entry)
-            elif entry.block.above or entry.block.below:
+            elif entry.stays(titles):
                 entries.append(entry._replace(record=None))
         for own in self._own:
             block = Block((), tuple(own.level.rows), ())
@@ -279,16 +296,7 @@ def _board_of(given: Given, before: changes.Snapshot) -> Hashable:
     return form.key, form.turn[:4], given.record.answer
 
 
-def _refuse(read: report.Report, candidates: Dict[int, Candidate]) -> None:
-    """Notes which answers an audit refused, and why."""
-    for line in read.lines:
-        if line.status == "refused" and line.words[0] != "board" and line.level in candidates:
-            it = candidates[line.level]
-            # The line number of a certificate is one in this text, which nobody sees.
-            it.fault = it.fault or " ".join(line.words[2 * (line.words[0] == "line"):])
-
-
-def _in_case(record: Record, states: Sequence[changes.Snapshot]) -> Record:
+def in_case(record: Record, states: Sequence[changes.Snapshot]) -> Record:
     """Returns a solution with each letter in its case, if it solves a level of its number so."""
     if record.kind != "solution":
         return record

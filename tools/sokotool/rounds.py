@@ -10,9 +10,9 @@ from typing import Callable, Dict, List, NamedTuple, Sequence, Tuple
 
 from . import auditor, audits, texts
 from .boards import Form
-from .jobs import Jobs, Result
+from .jobs import Jobs
 from .levels import Level
-from .outcomes import FINAL, Outcomes
+from .outcomes import FINAL, Outcomes, Result
 from .progress import Progress
 from .search.budget import Budget, Limits
 from .searches import Searches

@@ -8,9 +8,9 @@ import time
 from typing import Any, Optional, Sequence, Tuple
 
 from . import answers, system
-from .jobs import Job, Jobs, Result
+from .jobs import Job, Jobs
 from .levels import Level
-from .outcomes import FOUND, FULL, ILLEGAL, LATE, LONG, MEMORY, SOLVABLE
+from .outcomes import FOUND, FULL, ILLEGAL, LATE, LONG, MEMORY, SOLVABLE, Result
 from .search.refute import Outcome, outcome
 
 # the seconds after its time limit in which a search may still shorten and write its list

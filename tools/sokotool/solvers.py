@@ -15,9 +15,9 @@ from typing import IO, Callable, Iterator, List, NamedTuple, Optional, Sequence,
 
 from . import answers, printed, system, texts
 from .formats import written
-from .jobs import Job, Jobs, Result
+from .jobs import Job, Jobs
 from .levels import Level
-from .outcomes import FAILED, LATE, LONG, NOTHING, REFUTED, SOLVED
+from .outcomes import FAILED, LATE, LONG, NOTHING, REFUTED, SOLVED, Result
 from .search.budget import Budget, Limits
 
 PLACE = "{}"

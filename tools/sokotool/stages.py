@@ -1,7 +1,7 @@
 """The stages of a check: the files of NAME are read, what was typed into them is merged with the
 exports, answers are taken over, and the best ones are audited."""
 import argparse
-from typing import List, Optional, Sequence, Set, Tuple
+from typing import Any, List, Optional, Sequence, Set, Tuple
 
 from . import (answers, auditor, blocks, boards, by_hand, carrying, kept, levels, memory, own_files,
                report, texts)
@@ -10,7 +10,7 @@ from .changes import Snapshot
 from .outcomes import Outcomes
 from .own_files import ANSWERS, KEPT_ANSWERS, KEPT_XSB, OTHER, REPORT, XSB, noted
 from .places import Origins
-from .pool import Pool
+from .pool import Pool, in_case
 from .progress import Progress
 
 
@@ -18,11 +18,11 @@ class Run:
     """What stays if the files of NAME are read again: what a run reads once, and what it found.
 
     It reads the levels and the records of the exports, whence those come and what was left out of
-    them, and more answers with the names of their files. `found` has answers with the forms of
-    their levels, `made` the boards for which certificates were made, `before` the levels as they
-    were when the run began, and `edited` the boards of those that the keeper had edited when the
-    files were written. `has_backups` is true once the former files were kept, and `written` has the
-    ends of the files that were written.
+    them, and more answers with the names of their files. `conversion` has what NAME.memory keeps of
+    the exports, `found` has answers with the forms of their levels, `made` the boards for which
+    certificates were made, `before` the levels as they were when the run began, and `edited` the
+    boards of those that the keeper had edited when the files were written. `has_backups` is true
+    once the former files were kept, and `written` has the ends of the files that were written.
     """
 
     def __init__(self, options: argparse.Namespace, shown: Progress, program: auditor.Auditor
@@ -30,6 +30,7 @@ class Run:
         self.options, self.shown, self.program = options, shown, program
         self.name: str = options.name
         self.exports, self.origins = by_hand.collection([]), Origins([], [])
+        self.conversion: Any = None
         self.records: List[answers.Record] = []
         self.more: List[Tuple[str, answers.Answers]] = []
         self.outcomes = Outcomes({})
@@ -116,7 +117,7 @@ class State:
         """Takes over the former answers, those of the exports, and those of other files: by the
         board of the level that each names."""
         numbers = {at: number for number, at in enumerate(self.merged.written.places, 1)}
-        own, other = (self.files.answers(end, self.most) for end in (ANSWERS, OTHER))
+        own, other = (self._own_answers(end) for end in (ANSWERS, OTHER))
         own.records.extend(other.records)
         own.rest.extend(other.rest)
         self.pool.add_own(own, self.former, self.mine, set(self.memory.computed))
@@ -125,6 +126,14 @@ class State:
                                 for record in run.records])
         for name, more in run.more:
             self.pool.add_file(name, more, self.former)
+
+    def _own_answers(self, end: str) -> answers.Answers:
+        """Returns the records of an answers file, each solution with its letters in their case. In
+        a file whose answers were all accepted they are."""
+        found = self.files.answers(end, self.most)
+        if texts.digest(self.files.before.get(end, b"")) != self.memory.made.get(end):
+            found.records[:] = [in_case(it, (self.former, self.mine)) for it in found.records]
+        return found
 
     def audit(self, run: Run) -> None:
         """Audits the best answers, after certificates were made for levels without one."""
@@ -157,10 +166,11 @@ class State:
 
     def _left(self) -> kept.Kept:
         """Returns what has no place in the collection."""
-        back = self.merged.back
+        back, titles = self.merged.back, {level.title.encode() for level in self.now.levels}
         stored = [entry._replace(block=entry.block._replace(above=(), below=()))
-                  if at in back else entry for at, entry in enumerate(self.stored.entries)
-                  if entry.record or at not in back]
+                  if at in back else entry for at, entry in enumerate(self.stored.entries)]
+        stored = [entry for at, entry in enumerate(stored)
+                  if entry.record or at not in back or entry.stays(titles)]
         entries = self.pool.left(self.stored._replace(entries=stored))
         for index, block in self.merged.away:
             level = self.mine.levels[index]

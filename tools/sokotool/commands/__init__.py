@@ -1,8 +1,15 @@
 """The commands: a module for each, with `arguments(parser)`, which adds the command's arguments,
 and `run(options)`, which returns the exit status."""
+import argparse
+import codecs
 import contextlib
 import signal
 from typing import Any, Callable, Iterator, List
+
+from .. import texts
+
+# how long a level is searched by default
+SECONDS = 10
 
 
 def above_zero(kind: Callable[[str], Any]) -> Callable[[str], Any]:
@@ -21,6 +28,22 @@ def seconds(text: str) -> float:
     if not value >= 0:
         raise ValueError
     return value
+
+
+def encoding_argument(parser: argparse.ArgumentParser) -> None:
+    """Adds the argument of commands that read exports."""
+    parser.add_argument("--encoding", metavar="NAME", type=_encoding,
+                        help="read files that aren't UTF-8 or UTF-16 in this encoding, by Python's "
+                             "name, such as big5 (guessed by default)")
+
+
+def _encoding(name: str) -> str:
+    """Returns the name of an encoding, or refuses it."""
+    try:
+        b"".decode(name)
+        return codecs.lookup(name).name
+    except (LookupError, ValueError):
+        raise argparse.ArgumentTypeError(f"there is no encoding {texts.shown(name)}") from None
 
 
 @contextlib.contextmanager

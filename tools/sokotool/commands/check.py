@@ -17,17 +17,17 @@ import math
 import os
 from typing import Dict, List, Optional, Sequence, Tuple
 
-from .. import (answers, auditor, blocks, boards, by_hand, exports, memory, own_files, places,
-                rounds, sheet, solvers, summary, system, texts, transaction)
+from .. import (__version__, answers, auditor, blocks, boards, by_hand, exports, memory, own_files,
+                places, sheet, summary, system, texts, transaction)
 from ..changes import Snapshot
 from ..collection import BOTH, MOVES, PUSHES, Collection
-from ..jobs import Result
+from ..conversion import Conversion, Reading
+from ..outcomes import Result
 from ..own_files import (ANSWERS, KEPT_ANSWERS, KEPT_XSB, MEMORY, OTHER, PAGE, REPORT, SHEET, XSB,
                          noted)
 from ..progress import Progress
 from ..stages import Run, State
-from . import above_zero, convert, page, seconds, unbroken
-from .find import SECONDS
+from . import SECONDS, above_zero, encoding_argument, page, seconds, unbroken
 
 BUDGET = 60
 # how often the files are read again if they change
@@ -54,7 +54,7 @@ def arguments(parser: argparse.ArgumentParser) -> None:
                         default=system.processors(),
                         help="search N levels at once (default one for each processor), "
                         "each in up to 600 megabytes")
-    convert.encoding_argument(parser)
+    encoding_argument(parser)
     parser.add_argument("--solver", metavar="COMMAND",
                         help="run this command for each level that is left then: it gets the level "
                              "on standard input, and in the file {}")
@@ -79,11 +79,12 @@ def run(options: argparse.Namespace) -> int:
 
 def gathered(options: argparse.Namespace) -> Run:
     """Reads what isn't a file of NAME."""
-    convert.check_name(options.name)
+    own_files.check_name(options.name)
     if not options.exports:
         raise texts.Stop("no EXPORT is named: first comes a new NAME for the collection, as in "
                          f"'sokotool check mine {texts.shown(options.name)}'")
     if options.solver:
+        from .. import solvers
         solvers.words_of(options.solver)
     if not options.best:
         options.best = BOTH if os.path.exists(options.name + OTHER) else MOVES
@@ -92,40 +93,58 @@ def gathered(options: argparse.Namespace) -> Run:
         given.shown.keep("this system ends the solver alone: what it starts may go on")
     own_files.check_writable(options.name, *[SHEET] * options.csv)
     given.more = [(name, answers.read_file(name, rising=False)) for name in options.answers]
-    convert_exports(given)
+    read_exports(given)
     return given
 
 
-def convert_exports(given: Run) -> None:
-    """Reads the exports, without the files of NAME."""
+def read_exports(given: Run) -> None:
+    """Reads the exports, without the files of NAME. Those that didn't change since the last check
+    aren't converted again."""
     given.shown.show("reading")
     options = given.options
-
-    def say(place: places.Place, why: str, is_fault: bool) -> None:
-        if is_fault:
-            given.origins.problems.append(places.Problem(place, why))
-        else:
-            given.shown.keep(place.said(why))
-
-    collection = Collection(options.best, False, options.encoding or "", say, "")
     is_own = own_files.own(given.name)
     named = [name for name in options.exports if os.path.isdir(name) or not is_own(name)]
     if not named:
         raise texts.Stop(f"would write over {texts.shown(options.exports[0])}: choose another "
                          "NAME, such as checked")
-    convert.read_files(collection, exports.listed(named, is_own))
+    reading = Reading(exports.listed(named, is_own), options.best, options.encoding)
+    remembered = memory.exports(own_files.bytes_of(given.name + MEMORY))
+    found = reading.remembered(remembered)
+    for note in found.notes if found else ():
+        given.shown.keep(note.place.said(note.why))
+    found = found or converted(given, reading)
+    given.conversion = found.data()
+    text, exported, others = found.files
+    given.exports = by_hand.collection(blocks.read(text))
+    given.origins = found.origins
+    given.records = [record for it in (exported, others) for record in answers.read(it).records]
+
+
+def converted(given: Run, reading: Reading) -> Conversion:
+    """Converts the exports."""
+    # loads all forms of exports
+    from . import convert
+    options = given.options
+    problems: List[places.Problem] = []
+    notes: List[places.Problem] = []
+
+    def say(place: places.Place, why: str, is_fault: bool) -> None:
+        (problems if is_fault else notes).append(places.Problem(place, why))
+        if not is_fault:
+            given.shown.keep(place.said(why))
+
+    collection = Collection(options.best, False, options.encoding or "", say, "")
+    convert.read_files(collection, reading.listed)
     if not collection.count:
         whole = " ".join(options.exports)
         quotes = f"; put a name with blanks into quotes: '{texts.shown(whole)}'"
-        for line in given.origins.messages({}):
-            given.shown.keep(line)
+        for problem in problems:
+            given.shown.keep(problem.place.said(problem.why))
         raise texts.Stop("these files have no level" + quotes * (
             len(options.exports) > 1 and os.path.exists(whole)))
-    (_, text), (_, exported) = collection.files(given.name)
-    given.exports = by_hand.collection(blocks.read(text))
-    given.origins.levels[:] = collection.origins
     others = answers.text([record for _, record in sorted(collection.others.items())])
-    given.records = [record for it in (exported, others) for record in answers.read(it).records]
+    files = [*(data for _, data in collection.files(given.name)), others]
+    return Conversion(reading.digest(), files, places.Origins(collection.origins, problems), notes)
 
 
 # ---- the files of NAME
@@ -183,10 +202,21 @@ def contents(given: Run, state: State) -> Dict[str, Optional[bytes]]:
     other = noted(given.program, state.pool.other_answers())
     sources = given.origins.sources(state.merged.written.places)
     table = {SHEET: sheet_of(given.name, state.now, sources)} if given.options.csv else {}
+    files = [state.text, state.answers, state.report]
+    froms = [(number, page.source_of(it)) for number, it in sources.items()]
+    made_of = texts.digest(b"\n".join([ascii([
+        __version__, page.skeleton(), page_names(given), froms]).encode(), *files]))
+    made = state.files.now.get(PAGE) or b""
+    if state.memory.made.get(PAGE) != f"{made_of} {texts.digest(made)}":
+        made = page_of(given, files, sources)
+    if not given.options.compare:
+        digests = {PAGE: f"{made_of} {texts.digest(made)}", OTHER: texts.digest(other)}
+        if all(state.now.lines[number - 1].is_answered for number in state.pool.chosen):
+            digests[ANSWERS] = texts.digest(state.answers)
+        remembered = remembered._replace(exports=given.conversion, made=digests)
     return {KEPT_XSB: kept_text, KEPT_ANSWERS: kept_answers, XSB: state.text,
             ANSWERS: state.answers, REPORT: state.report,
-            OTHER: other if given.options.best == BOTH else None,
-            PAGE: page_of(given, [state.text, state.answers, state.report], sources), **table,
+            OTHER: other if given.options.best == BOTH else None, PAGE: made, **table,
             MEMORY: memory.text(remembered)}
 
 
@@ -204,6 +234,8 @@ def sheet_of(name: str, now: Snapshot, sources: Dict[int, places.Source]) -> byt
 def searched(given: Run, state: State) -> State:
     """Searches the levels that are left, and brings the files up to date as results come."""
     known = state.memory.outcomes
+    if not (given.options.solver or given.options.seconds > 0 < given.options.search):
+        return state
 
     def take(way: str, results: Sequence[Tuple[boards.Form, Result]]) -> None:
         nonlocal state
@@ -214,6 +246,8 @@ def searched(given: Run, state: State) -> State:
                 given.found.append((form, answers.answer_of(result.record)))
         state = settled(given, state)
 
+    # loads the search and the solvers
+    from .. import rounds
     rounds.search(given.shown, rounds.ways(given.options, given.program),
                   lambda: state.unanswered(), known, take)
     return state
@@ -235,10 +269,15 @@ def report(given: Run, state: State) -> int:
 
 def page_of(given: Run, files: List[bytes], sources: Dict[int, places.Source]) -> bytes:
     """Returns the page of the three files, with the sources of the levels."""
-    names = [texts.shown(os.path.basename(given.name) + end) for end in (XSB, ANSWERS, REPORT)]
-    if given.program.is_reference:
-        names[1] += ", " + auditor.REFERENCE_NOTE
-    made, fault = page.written(files, names, sources=sources)
+    made, fault = page.written(files, page_names(given), sources=sources)
     if fault:
         raise texts.Stop(f"the report isn't of these levels and answers: {fault}")
     return made
+
+
+def page_names(given: Run) -> List[str]:
+    """Returns how the page names its files."""
+    names = [texts.shown(os.path.basename(given.name) + end) for end in (XSB, ANSWERS, REPORT)]
+    if given.program.is_reference:
+        names[1] += ", " + auditor.REFERENCE_NOTE
+    return names

@@ -9,17 +9,17 @@ docs/keeping.md lists what is read.
 Anything that can't be read or played is reported with file and line. If NAME.xsb or NAME.answers
 is there already, with other contents, nothing is written without --replace."""
 import argparse
-import codecs
 import os
 import re
 import sys
 from typing import List, Optional, Sequence, Tuple
 
 from .. import collection as collections
-from .. import answers, exports, levels, output, own_files, system, texts
+from .. import answers, exports, levels, output, own_files, texts
 from ..collection import Collection
 from ..formats import dress, entries, foreign, letters, lists, plain, slc
 from ..places import Place
+from . import encoding_argument
 
 MOST_MESSAGES = 1000
 # a piece of a row, between other things
@@ -43,25 +43,9 @@ def arguments(parser: argparse.ArgumentParser) -> None:
     encoding_argument(parser)
 
 
-def encoding_argument(parser: argparse.ArgumentParser) -> None:
-    """Adds the argument of commands that read exports."""
-    parser.add_argument("--encoding", metavar="NAME", type=_encoding,
-                        help="read files that aren't UTF-8 or UTF-16 in this encoding, by Python's "
-                             "name, such as big5 (guessed by default)")
-
-
-def _encoding(name: str) -> str:
-    """Returns the name of an encoding, or refuses it."""
-    try:
-        b"".decode(name)
-        return codecs.lookup(name).name
-    except (LookupError, ValueError):
-        raise argparse.ArgumentTypeError(f"there is no encoding {texts.shown(name)}") from None
-
-
 def run(options: argparse.Namespace) -> int:
     """Converts the files, and reports how much was read."""
-    check_name(options.name)
+    own_files.check_name(options.name)
     listed = exports.listed(options.files, own_files.own(options.name))
     files = [export.name for export in listed]
     _check_inputs(files, [options.name + end for end in (own_files.XSB, own_files.ANSWERS)])
@@ -97,20 +81,6 @@ def _replaced(written: Sequence[output.File], may_replace: bool) -> List[output.
                 raise texts.Stop(f"{texts.shown(name)} is there already: --replace keeps it as "
                                  f"{texts.shown(name)}~")
     return found
-
-
-def check_name(name: str) -> None:
-    """Refuses a NAME that names no file."""
-    if not os.path.basename(name):
-        raise texts.Stop(f"the name {texts.shown(name)!r} has nothing before .xsb")
-    end = os.path.splitext(name)[1]
-    if end in own_files.ENDS:
-        why = ("is a file that is there" if os.path.isfile(name) else
-               f"has an end: type it without {end}")
-        raise texts.Stop("the first word is the NAME of a collection, and "
-                         f"{texts.shown(name)} {why}")
-    if system.is_device(os.path.basename(name)):
-        raise texts.Stop(f"{texts.shown(name)} is the name of a device")
 
 
 def _check_inputs(files: Sequence[str], written: Sequence[str]) -> None:

@@ -13,14 +13,12 @@ from collections import Counter
 from typing import Dict, List
 
 from .. import answers, levels, output, report, texts
-from ..jobs import Result
-from ..outcomes import FOUND, FULL, ILLEGAL, LATE, LONG, MEMORY, SOLVABLE
+from ..outcomes import FOUND, FULL, ILLEGAL, LATE, LONG, MEMORY, SOLVABLE, Result
 from ..progress import Progress
 from ..search.budget import Budget, Limits
 from ..searches import WORDS, Searches
-from . import above_zero, unbroken
+from . import SECONDS, above_zero, unbroken
 
-SECONDS = 10
 # The names under which the last line counts levels, each with its outcomes.
 NAMES = {"found": (FOUND,), "solvable": (SOLVABLE,), "stopped": (LATE,),
          "gave-up": (FULL, MEMORY), "long": (LONG,), "illegal": (ILLEGAL,)}

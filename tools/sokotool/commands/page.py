@@ -58,7 +58,7 @@ def written(files: Sequence[bytes], names: List[str], above: str = "",
     data = {"names": names, "fault": fault or "", "levels": [_level_of(level) for level in found],
             "records": {number: _record_of(record) for number, record in records.items()},
             "verdicts": {line.level: _verdict_of(line) for line in read.lines},
-            "sources": {number: _source_of(source) for number, source in (sources or {}).items()}}
+            "sources": {number: source_of(source) for number, source in (sources or {}).items()}}
     return _page_of(data, above), fault
 
 
@@ -118,7 +118,8 @@ def _verdict_of(line: report.Line) -> Dict[str, Any]:
     return {"status": line.status, "words": line.words, "line": line.text}
 
 
-def _source_of(source: places.Source) -> Dict[str, Any]:
+def source_of(source: places.Source) -> Dict[str, Any]:
+    """Returns where a level comes from."""
     return {"file": texts.shown(source.place.published), "line": source.place.line,
             "left": source.left}
 
@@ -132,11 +133,15 @@ def part(name: str) -> str:
     return data.decode()
 
 
-def _page_of(data: Dict[str, Any], above: str) -> bytes:
-    """Returns the skeleton, with each mark replaced by the part or the data that it names. The
-    page runs no script but those whose checksums its policy has."""
-    page = _MARK.sub(lambda mark: part(mark[1]).rstrip("\n") if "." in mark[1] else mark[0],
+def skeleton() -> str:
+    """Returns the page with each mark replaced by the part that it names, but without data."""
+    return _MARK.sub(lambda mark: part(mark[1]).rstrip("\n") if "." in mark[1] else mark[0],
                      part("page.html")).replace("@WORDS@", words())
+
+
+def _page_of(data: Dict[str, Any], above: str) -> bytes:
+    """Returns the page of some data. It runs no script but those whose checksums its policy has."""
+    page = skeleton()
     scripts = re.findall(r"<script>(.*?)</script>", page + above, re.S)
     # No text may end the block of the data: '<' is escaped.
     values = {"DATA": json.dumps(data).replace("<", "\\u003c"),

@@ -75,13 +75,13 @@ def audited(data: bytes, count: int, options: argparse.Namespace) -> List[Entran
     program = auditor.find()
     if program.is_reference and not auditor.is_quiet():
         print(f"table: {auditor.REFERENCE_NOTE}", file=sys.stderr)
-    limits = auditor.Limits(options.seconds, options.memory)
     found = []
     with tempfile.TemporaryDirectory() as folder:
         path = os.path.join(folder, "levels")
         output.write_files([(path, data)])
         for name, file in zip(names_of(options.entrants), options.entrants):
-            ran = program.run("audit", path, os.path.abspath(file), limits=limits)
+            ran = program.run("audit", path, os.path.abspath(file), seconds=options.seconds,
+                              megabytes=options.memory)
             read = report.read(ran.out)
             fault = read.fault(count) and (ran.fault or "no report")
             found.append(Entrant(name, file, [] if fault else read.lines, fault or ""))

@@ -8,7 +8,6 @@
 import re
 from itertools import groupby
 from typing import Callable, Container, Dict, Iterator, List, NamedTuple, Sequence, Tuple
-from xml.sax.saxutils import escape, quoteattr
 
 from .. import auditor, levels, texts
 from ..alphabet import FLOOR, WALL
@@ -184,6 +183,8 @@ def _comment(line: str) -> str:
 def slc(content: Content) -> Iterator[str]:
     """Yields the lines of an SLC file. Authors are in attributes, as this form has it, and other
     texts in comments."""
+    # loads a lot, which no other form needs
+    from xml.sax.saxutils import escape, quoteattr
     sizes = [_size(entry) for entry in content.entries]
     width, height = (max(numbers, default=0) for numbers in zip(*sizes or [(0, 0)]))
     yield '<?xml version="1.0" encoding="UTF-8"?>'

@@ -1,0 +1,85 @@
+"""What the exports give, with a digest of all that was read. NAME.memory has it, so exports that
+didn't change aren't converted again."""
+import contextlib
+import json
+from typing import Any, Callable, Dict, List, NamedTuple, Optional, Sequence
+
+from . import __version__, answers, exports, texts
+from .places import Origins, Place, Problem
+
+
+class Conversion(NamedTuple):
+    """The digest of the exports; the texts of their levels, their answers and their other answers;
+    where each level comes from and what was left out; and notes of what was read with a change."""
+
+    digest: str
+    files: Sequence[bytes]
+    origins: Origins
+    notes: List[Problem]
+
+    def data(self) -> Any:
+        """Returns this for a JSON file, or None if the digest isn't known. The files are named as
+        they are published."""
+        return {"digest": self.digest, "files": [*map(_decoded, self.files)],
+                "places": [place[1:] for place in self.origins.levels],
+                "problems": [[place[1:], why] for place, why in self.origins.problems],
+                "notes": [[place[1:], why] for place, why in self.notes]} if self.digest else None
+
+
+class Reading:
+    """Exports, which may be read more than once, and digests of what was read last. `how` has all
+    other things on which their conversion depends."""
+
+    def __init__(self, listed: Sequence[exports.Export], *how: Any) -> None:
+        self.listed = [export._replace(read=self._reader(export)) for export in listed]
+        self._names = exports.published([export.name for export in listed])
+        self._how = [__version__, *how]
+        self._digests: Dict[str, str] = {}
+
+    def _reader(self, export: exports.Export) -> Callable[[], bytes]:
+        def read() -> bytes:
+            data = export.read()
+            levels = exports.levels_of(export, self.listed) if answers.is_begun(data) else None
+            if levels is None or levels in self.listed:
+                self._digests[export.name] = texts.digest(data)
+            return data
+        return read
+
+    def digest(self) -> str:
+        """Returns the digest of all that was read, or "" if something else counts too: standard
+        input, a file that can't be read, or levels that aren't listed."""
+        if any(it.name == "-" or it.name not in self._digests for it in self.listed):
+            return ""
+        read = [(it.is_found, self._names[it.name], self._digests[it.name])
+                for it in self.listed]
+        return texts.digest(json.dumps([self._how, read]).encode())
+
+    def remembered(self, data: Any) -> Optional[Conversion]:
+        """Returns a conversion that was remembered, if it is of these exports as they are now."""
+        names = {published: name for name, published in self._names.items()}
+
+        def place(published: str, line: int) -> Place:
+            return Place(names.get(published, published), published, line)
+
+        def problems(kind: str) -> List[Problem]:
+            return [Problem(place(*it), why) for it, why in data[kind]]
+
+        if not data or any(it.name == "-" for it in self.listed):
+            return None
+        with contextlib.suppress(texts.Stop, KeyError, TypeError, ValueError):
+            for export in self.listed:
+                export.read()
+            if self.digest() == data["digest"]:
+                return Conversion(
+                    data["digest"], [*map(_encoded, data["files"])],
+                    Origins([place(*it) for it in data["places"]], problems("problems")),
+                    problems("notes"))
+        return None
+
+
+def _decoded(data: bytes) -> str:
+    return data.decode("utf-8", "surrogateescape")
+
+
+def _encoded(text: str) -> bytes:
+    return text.encode("utf-8", "surrogateescape")
