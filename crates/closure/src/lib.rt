@@ -16,7 +16,8 @@
 //! 4. The trap and hints are asked about each push out of each group. If they settle all pushes, the list is closed. This is so for nearly
 //!    every list that a program writes.
 //! 5. Otherwise the lines are gone through up to the first fault. If the pushes of a line's group aren't settled yet, lookups settle them. If
-//!    one is left, the line gets a flood of its own, and the first push left by a player in it is the fault.
+//!    one is left, the line gets a flood of its own, and the first push left by a player in it is the fault. If none is left, the largest group
+//!    whose boxes the line has is settled as well, since once it is noted it settles all pushes from a piece of others with its boxes.
 //!
 //! So a list takes at most 2n floods, and one for each piece that is entered. The head of `patterns` says how lookups settle pushes.
 //!

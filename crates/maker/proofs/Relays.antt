@@ -13,7 +13,7 @@ use Rattle.maker.specs.Matching.{InReach}
 use Rattle.maker.specs.Search.{visit_at, IsTraced, IsSearch, IsFreeGoal}
 use Rattle.maker.specs.declared.zones.search.Visit.{Visit}
 use Rattle.maker.specs.Relay.{HasFreeGoal}
-use Rattle.maker.specs.declared.zones.relay.Relays.{Relays}
+use Rattle.maker.specs.declared.zones.relays.Relays.{Relays}
 use Rattle.maker.proofs.Searches.{push_stays}
 
 pub in_own_reach : (level : Level) (c : Cell) → InReach level c c

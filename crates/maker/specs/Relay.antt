@@ -10,7 +10,7 @@ use Rattle.maker.specs.Dead.{IsRoomOf}
 use Rattle.maker.specs.Matching.{InReach}
 use Rattle.maker.specs.Search.{IsFreeGoal, Pairs}
 use Rattle.maker.specs.declared.zones.relay.Relay.{Relay}
-use Rattle.maker.specs.declared.zones.relay.Relays.{Relays}
+use Rattle.maker.specs.declared.zones.relays.Relays.{Relays}
 
 -- a relay is sound: its rows are on the grid of the level, each target is in the reach of each source, and the goals that it keeps are on
 -- the grid

@@ -2,7 +2,7 @@
 ghost use Rattle.std.specs.Prelude.{◌≡◌, ◌↔◌, ◌⊎◌, IfOk};
 ghost use Rattle.cellset.specs.CellSet.{Has};
 ghost use Rattle.cellset.specs.declared.cell.Cell.{Cell as GridCell};
-ghost use Rattle.maker.specs.Dead.{AreDead};
+ghost use Rattle.maker.specs.Dead.{AreDead, IsRoomOf};
 
 use board::Board;
 use cellset::{CellSet, MembersOf};
@@ -35,9 +35,21 @@ pub fn dead_rows<S: CellSet>(alloc: Global, board: &Board<S>) -> Result<(Rows, R
         return Err(AllocError);
     };
     dead.copy_from(board.room_rows());
-    add_cells(board.boxes(), &mut dead);
+    add_boxes(board, &mut dead);
     dead.subtract(&live);
     Ok((dead, live))
+}
+
+// Adds the boxes to the rows of the room. In most levels they are all there.
+fn add_boxes<S: CellSet>(board: &Board<S>, rows: &mut Rows)
+    requires { IsRoomOf board.now rows.old }
+    ensures extent { rows.new.extent ≡ board.now.shape }
+    ensures members { (c : GridCell) → Has rows.new.members c ↔ (Has board.now.room c ⊎ Has board.now.boxes c) }
+{
+    if board.boxes().is_subset(board.room()) {
+        return;
+    }
+    add_cells(board.boxes(), rows);
 }
 
 // Inserts the cells of a set one by one. That takes fewer steps than reading every row, because a board has few goals and boxes.

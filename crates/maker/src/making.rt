@@ -4,6 +4,7 @@
 ghost use Rattle.std.specs.Prelude.{◌≡◌, ◌≤◌, ◌∷◌, [], IfOk, IfSome, IfNone, MatchBool, MatchOption, length, map, vec_capacity};
 ghost use Rattle.cellset.specs.CellSet.{Has, Lacks};
 ghost use Rattle.cellset.specs.declared.cell.Cell.{Cell as GridCell};
+ghost use Rattle.board.specs.Board.{IsWellFormed};
 ghost use Rattle.answers.specs.Grammar.{said_pattern, said_zone};
 ghost use Rattle.answers.specs.RoundTrip.{IsLawfulBody};
 ghost use Rattle.maker.specs.Zones.{SomeZoneRefutes};
@@ -74,8 +75,6 @@ pub fn find<S: CellSet>(alloc: Global, board: &Board<S>) -> Result<Option<Found>
     ensures accepted { IfOk result (λ found. IfSome found (IsAcceptedFound board.now)) }
     ensures lawful { IfOk result (λ found. IfSome found IsLawfulFound) }
 {
-    // For the proof: the board is well formed.
-    let _shape = board.shape();
     let (dead, live) = dead_rows(alloc, board)?;
     if dead.meets(board.boxes()) {
         drop(live);
@@ -96,6 +95,7 @@ fn find_other<S: CellSet>(
     dead: Rows,
     spare: Rows,
 ) -> Result<Option<Made>, AllocError>
+    requires formed { IsWellFormed board.now }
     requires extents { (dead.extent ≡ board.now.shape) × (spare.extent ≡ board.now.shape) }
     requires exact { AreDead board.now dead.members }
     requires apart { (c : GridCell) → Has board.now.boxes c → Lacks dead.members c }
@@ -104,8 +104,6 @@ fn find_other<S: CellSet>(
     ensures accepted { IfOk result (λ made. IfSome made (IsAcceptedMade board.now)) }
     ensures lawful { IfOk result (λ made. IfSome made (λ m. IsLawfulBody (body_of m))) }
 {
-    // For the proof: the board is well formed.
-    let _shape = board.shape();
     let list = frozen_list(alloc, board, &dead);
     if let Some(patterns) = list? {
         return Ok(Some(Made::Patterns(patterns)));
@@ -123,6 +121,7 @@ fn frozen_list<S: CellSet>(
     board: &Board<S>,
     dead: &Rows,
 ) -> Result<Option<Vec<Pattern>>, AllocError>
+    requires formed { IsWellFormed board.now }
     requires extent { dead.now.extent ≡ board.now.shape }
     requires exact { AreDead board.now dead.now.members }
     requires apart { (c : GridCell) → Has board.now.boxes c → Lacks dead.now.members c }
@@ -142,6 +141,7 @@ fn list_off_goals<S: CellSet>(
     dead: &Rows,
     held: &S,
 ) -> Result<Option<Vec<Pattern>>, AllocError>
+    requires formed { IsWellFormed board.now }
     requires extents { (dead.now.extent ≡ board.now.shape) × (S.extent held.now ≡ board.now.shape) }
     requires exact { AreDead board.now dead.now.members }
     requires apart { (c : GridCell) → Has board.now.boxes c → Lacks dead.now.members c }
@@ -149,8 +149,6 @@ fn list_off_goals<S: CellSet>(
     ensures list { IfOk result (λ list. MatchOption list (HasNoList board.now) (λ patterns. IsMadeList board.now (map said_pattern patterns.items))) }
     ensures lawful { IfOk result (λ list. IfSome list (λ patterns. IsLawfulBody (Patterns patterns))) }
 {
-    // For the proof: the board is well formed.
-    let _shape = board.shape();
     if held.is_subset(board.goals()) {
         return Ok(None);
     }
@@ -206,11 +204,10 @@ fn made_zone<S: CellSet>(
     scratch: Rows,
     spare: Rows,
 ) -> Result<Option<Zone>, AllocError>
-    requires { (scratch.extent ≡ board.now.shape) × (spare.extent ≡ board.now.shape) }
+    requires formed { IsWellFormed board.now }
+    requires extents { (scratch.extent ≡ board.now.shape) × (spare.extent ≡ board.now.shape) }
     ensures { IfOk result (λ made. MatchOption made (SomeZoneRefutes board.now → ⊥) (λ zone. IsLeastZoneLine board.now (said_zone zone))) }
 {
-    // For the proof: the board is well formed.
-    let _shape = board.shape();
     let Some(cells) = least_zone(alloc, board, scratch, spare)? else {
         return Ok(None);
     };

@@ -27,12 +27,14 @@ use board::Board;
 use cellset::{Cell, CellSet, MembersOf};
 use matching::flip;
 use reach::Rows;
-use relay::{Relay, Relays};
+use relay::Relay;
+use relays::Relays;
 use search::Search;
 use std::alloc::{AllocError, Global};
 
 mod matching;
 mod relay;
+mod relays;
 mod search;
 
 /// Returns the least zone of a board, or None if no closed set of cells holds more boxes of the start than goals.

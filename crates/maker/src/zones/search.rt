@@ -6,13 +6,14 @@ ghost use Rattle.cellset.specs.Cell.{IsOn, neighbor};
 ghost use Rattle.cellset.specs.CellSet.{Cells, Has};
 ghost use Rattle.cellset.specs.declared.cell.Cell.{Cell as GridCell};
 ghost use Rattle.cellset.specs.declared.dir.Dir.{Dir as GridDir};
+ghost use Rattle.board.specs.Board.{IsWellFormed};
 ghost use Rattle.board.specs.Game.{IsFloor};
 ghost use Rattle.maker.specs.Dead.{IsRelaxedPush};
 ghost use Rattle.maker.specs.Matching.{IsHallViolator};
 ghost use Rattle.maker.specs.Search.{Pairs, HasEntries, IsReady, cell_visited, IsTraced, IsSearch, IsSomeSearch, IsQueued, IsFurther, KeepsSearches, VisitsMatchedBox, IsExpanded, IsFreeGoal, EndsPath, IsMatchingOf};
 ghost use Rattle.maker.specs.Relay.{HasFreeGoal, IsReachOf};
 
-use super::relay::Relays;
+use super::relays::Relays;
 use board::Board;
 use cellset::{Cell, CellSet, Dir, MembersOf};
 use reach::Rows;
@@ -36,6 +37,7 @@ impl Search {
     /// Begins a search from a box whose reach the relays have. The queue has the box and the goals in its reach, and all of the reach is
     /// visited.
     pub(super) fn begin<S: CellSet>(&mut self, board: &Board<S>, relays: &Relays<'_>, start: Cell)
+        requires formed { IsWellFormed board.now }
         requires ready { IsReady board.now.shape self.old.visited.extent (vec_capacity self.old.queue) }
         requires start { Has board.now.boxes start }
         requires extent { relays.now.reach.extent ≡ board.now.shape }
@@ -43,8 +45,6 @@ impl Search {
         ensures ready { IsReady board.now.shape self.new.visited.extent (vec_capacity self.new.queue) }
         ensures search { (matching : List (Option GridCell)) → IsSearch board.now matching start self.new.visited.members self.new.queue.items }
     {
-        // For the proof: the board is well formed.
-        let _shape = board.shape();
         self.visited.clear();
         self.queue.clear();
         self.enqueue(Visit {
@@ -57,6 +57,7 @@ impl Search {
 
     // Queues each goal in the reach of the box `start`, at which the search began.
     fn enqueue_goals<S: CellSet>(&mut self, board: &Board<S>, relays: &Relays<'_>)
+        requires formed { IsWellFormed board.now }
         requires ready { IsReady board.now.shape self.old.visited.extent (vec_capacity self.old.queue) }
         requires search { (matching : List (Option GridCell)) × (start : GridCell) × IsSearch board.now matching start self.old.visited.members self.old.queue.items
             × IsReachOf board.now start relays.now.reach.members }
@@ -67,8 +68,6 @@ impl Search {
         ensures goals { (g : GridCell) → Has board.now.goals g → Has relays.now.reach.members g → Has self.new.visited.members g }
         ensures within { (q : GridCell) → Has self.new.visited.members q → Has self.old.visited.members q ⊎ Has relays.now.reach.members q }
     {
-        // For the proof: the board is well formed.
-        let _shape = board.shape();
         for goal in MembersOf::new(board.goals()) {
             if relays.reaches(goal) {
                 self.enqueue(Visit {
@@ -87,6 +86,7 @@ impl Search {
         matching: &[Option<Cell>],
         relays: &Relays<'_>,
     ) -> Option<Visit>
+        requires formed { IsWellFormed board.now }
         requires ready { IsReady board.now.shape self.old.visited.extent (vec_capacity self.old.queue) }
         requires entries { HasEntries board.now.shape matching.now }
         requires valid { (matched : Cells) × IsMatchingOf board.now matched matching.now }
@@ -98,8 +98,6 @@ impl Search {
             (IsHallViolator board.now (Pairs board.now.shape matching.now) start self.new.visited.members)
             (EndsPath board.now matching.now start self.new.visited.members self.new.queue.items) }
     {
-        // For the proof: the board is well formed.
-        let _shape = board.shape();
         let mut at = 0;
         while at < self.queue.len() {
             if let Some(found) = self.expand(board, matching, relays, at) {

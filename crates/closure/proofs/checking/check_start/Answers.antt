@@ -1,4 +1,4 @@
-use Rattle.std.proofs.{Common.refl, lemmas.Bool.false≢true, lemmas.Option.none-some}
+use Rattle.std.proofs.{Common.refl, Common.◌∙◌, Common.ap, Common.length, lemmas.Bool.false≢true, lemmas.List.length-replicate, lemmas.Option.none-some}
 use Rattle.patterns.proofs.GroupPushes.{covers_all}
 use Rattle.closure.proofs.checking.check_start.Goals as goal
 
@@ -22,5 +22,6 @@ check_pushes-checked-requires g c = record {
     are = c.in_ok-lookups.ensures;
     free = λ h is. absurd (none-some h is);
     rest = λ h is. absurd (none-some h is);
+    tried = ap (λ l. length l) (c.in_ok-tried.ensures.items_if_clones_equal (λ _ e. e)) ∙ length-replicate _ _ ∙ c.len.ensures ∙ c.args.tables.now.groups.spans.ok.0;
   };
 }

@@ -22,9 +22,7 @@ returns-clause-exact g c =
     let seeds = added _ _ _ c.in_ok-live.ensures.1 c.add_cells.ensures.members ∙ c.goals.ensures.members in
     let exact : (q : Cell) → Has live q ↔ Reached (PullsTo (Has level.room)) (Has level.goals) q = λ q.
     rw (seeds, c.room_rows.ensures.members) at (c.grow.ensures.exact q) in
-    let room = c.copy_from.ensures.members ∙ c.room_rows-2.ensures.members in
-    let within : (q : Cell) → Has c.add_cells-2.new.rows.members q ↔ (Has level.room q ⊎ Has level.boxes q) = λ q.
-    rw (c.boxes.ensures.members, room) at (c.add_cells-2.ensures.members q) in
+    let within = c.add_boxes.ensures.members in
     λ q.
     let left = c.subtract.ensures.members q in
     let dead = dead_is level c.shape-shape.ensures.formed live exact q in (

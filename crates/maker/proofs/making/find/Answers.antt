@@ -10,7 +10,7 @@ use Rattle.maker.proofs.making.find.Goals as goal
 pub coords_in-cells-requires : goal.coords_in-cells-requires
 coords_in-cells-requires g c = record {
   on = λ q has.
-      let on = dead_on c.args.board.now c.shape-shape.ensures.formed q ((c.in_ok-dead.ensures.exact q).0 has) in
+      let on = dead_on c.args.board.now c.boxes.ensures.formed q ((c.in_ok-dead.ensures.exact q).0 has) in
       rw c.in_ok-dead.ensures.extent on;
 }
 
@@ -25,17 +25,18 @@ pub returns-then-meets-clause-accepted : goal.returns-then-meets-clause-accepted
 returns-then-meets-clause-accepted g c =
     let members = g.S.CellSet.members in
     let cells = c.in_ok-cells.field-0.items in
-    dead_lists_closed c.args.board.now (lone_patterns cells) c.shape-shape.ensures.formed
+    dead_lists_closed c.args.board.now (lone_patterns cells) c.boxes.ensures.formed
     (of_dead c.args.board.now c.in_ok-dead.dead.members c.in_ok-dead.ensures.exact (members c.boxes.result.now) c.boxes.ensures.members
     c.if-meets.ensures (lone_patterns cells) (cells, c.in_ok-cells.ensures.list, refl))
 
 pub returns-then-meets-clause-lawful : goal.returns-then-meets-clause-lawful
 returns-then-meets-clause-lawful g c =
-    dead_lawful c.args.board.now c.shape-shape.ensures.formed c.in_ok-dead.dead.members c.in_ok-dead.ensures.exact
+    dead_lawful c.args.board.now c.boxes.ensures.formed c.in_ok-dead.dead.members c.in_ok-dead.ensures.exact
     c.in_ok-cells.field-0.items c.in_ok-cells.ensures.list c.in_ok-cells.ensures.count
 
 pub find_other-requires : goal.find_other-requires
 find_other-requires g c = record {
+  formed = c.boxes.ensures.formed;
   extents = (c.in_ok-dead.ensures.extent, c.in_ok-dead.ensures.live);
   exact = c.in_ok-dead.ensures.exact;
   apart = rw c.boxes.ensures.members at c.if-meets.ensures;

@@ -21,7 +21,7 @@ returns-in-Some-clause-some g c =
 pub returns-in-Some-clause-accepted : goal.returns-in-Some-clause-accepted
 returns-in-Some-clause-accepted g c =
     let level = c.args.board.now in
-    let formed = c.shape-shape.ensures.formed in
+    let formed = c.requires.formed in
     either
     (MatchOption-at_some (HasNoList level) (λ patterns. IsMadeList level (map said_pattern patterns.items)) c.in-Some.patterns c.in-Some.is
     c.in_ok-patterns.ensures.list)
@@ -46,7 +46,7 @@ returns-clause-some g c = record {
 }
 
 pub returns-clause-accepted : goal.returns-clause-accepted
-returns-clause-accepted g c = line_refutes c.args.board.now c.shape-shape.ensures.formed (said_zone c.in-Some-2.zone) (the_line g c)
+returns-clause-accepted g c = line_refutes c.args.board.now c.requires.formed (said_zone c.in-Some-2.zone) (the_line g c)
 
 pub returns-clause-lawful : goal.returns-clause-lawful
-returns-clause-lawful g c = line_lawful c.args.board.now c.shape-shape.ensures.formed (said_zone c.in-Some-2.zone) (the_line g c)
+returns-clause-lawful g c = line_lawful c.args.board.now c.requires.formed (said_zone c.in-Some-2.zone) (the_line g c)

@@ -41,6 +41,7 @@ begin-requires g c =
     let (relay, matching) = c.if-pass_on.ensures.exact in
     let other = c.in_default-other_goal.ensures.exact in
     record {
+      formed = c.shape-shape.ensures.formed;
       ready = c.requires.ready;
       start = c.requires.start;
       extent = c.other_goal.ensures.relays.reach_on;
@@ -52,6 +53,7 @@ find_free_goal-requires g c =
     let (relay, matching) = c.if-pass_on.ensures.exact in
     let other = c.in_default-other_goal.ensures.exact in
     record {
+      formed = c.shape-shape.ensures.formed;
       ready = c.begin.ensures.ready;
       entries = rw matching c.requires.entries;
       valid = rw matching c.requires.valid;

@@ -2,25 +2,16 @@
 -- box is on the trap, or no push is left, it covers those out of its lines (`pattern_of_group` in `GroupPushes.antt`). For any other line
 -- `first_left` decides. If it returns a push, that is the line's first one whose result isn't covered, and the lines before it are fine, so it is
 -- the first fault of the list (`FirstLines.antt`).
-use Rattle.std.proofs.Common.{◌≡◌, ℕ, true, false, ◌<◌, List, length, refl, sym, ◌∙◌, ap, arith}
+use Rattle.std.proofs.Common.{◌≡◌, ℕ, true, false, ◌<◌, length, refl, sym, ◌∙◌, ap, arith}
 use Rattle.std.{specs.Prelude.slice_index, proofs.lemmas.Bool.eqb-true, proofs.lemmas.List.get_or-map, proofs.lemmas.List.length-map}
-use Rattle.cellset.proofs.Truth.{either}
-use Rattle.reach.specs.declared.pushes.Push.{Push as PushOut}
-use Rattle.board.specs.Game.{Level}
 use Rattle.answers.specs.Body.{PatternLine}
-use Rattle.patterns.specs.{Arena.line_at, Arena.line_in, Arena.lines_in, Arena.pattern_at, Pattern.CoversPushesOf, Pattern.Pattern, Groups.list_of, Groups.position_at}
-use Rattle.patterns.specs.{Lookups.IsRest, declared.groups.Groups.Groups}
+use Rattle.patterns.specs.{Arena.line_at, Arena.line_in, Arena.lines_in, Arena.pattern_at, Pattern.CoversPushesOf, Pattern.Pattern, Groups.list_of}
 use Rattle.closure.specs.FirstFault.{HasFirstUncovered}
 use Rattle.patterns.proofs.{Arenas.list_long, CellLists.at_any, GroupPushes.noted_more, GroupPushes.pattern_of_group, GroupPushes.trapped_pushes}
 use Rattle.patterns.proofs.Numbered.{each_pattern, one_more}
-use Rattle.closure.proofs.FirstLines.{first_line}
+use Rattle.closure.proofs.{FirstLines.first_line, Rests.none_rest}
 use Rattle.closure.proofs.checking.Checker.check_pushes.Goals.{After-index}
 use Rattle.closure.proofs.checking.Checker.check_pushes.Goals as goal
-
--- If no push is left, the list covers those out of the group.
-none_rest : (level : Level) (groups : Groups) (g : ℕ) (left : List PushOut) → length left ≡ 0 → IsRest level groups g left →
-    CoversPushesOf level (list_of groups) (position_at level groups g)
-none_rest level groups g left none rest push out = either (rest.all push out) (λ listed. let low = listed.1 in absurd (omega arith)) (λ covered. covered)
 
 -- ---- the line and its group
 is_line : (g : _) (c : After-index g) → c.loop-line.line < length c.args.tables.now.groups.arena.lines.items
@@ -89,22 +80,31 @@ loop-line-preserved-then-is_trapped g c =
           (rw (of_line g at) at (trapped_pushes c.args.tables.now c.requires.tables c.index.result.now (is_group g at) on.0 (rw c.boxes.ensures at on.1) on.2)));
     }
 
+pub settle_head-requires-clause-covered : goal.settle_head-requires-clause-covered
+settle_head-requires-clause-covered g c =
+    let at = (goal.at.settle_head-requires-clause-covered g c).After-index in
+    let level = c.args.tables.now.board.now in
+    let groups = c.args.tables.now.groups in
+    let group = c.index.result.now in
+    let left = c.settle.new.self.lookups.left in
+    let none = sym left.ok.0 ∙ eqb-true left.len 0 (sym c.if-is_empty.ensures) in
+    noted_more level groups c.loop-line.covered.items c.loop-line.invariant.noted group true (is_group g at)
+    (λ _. none_rest level groups group left.items none (c.in_ok-settle.ensures.checker.rest group c.in_ok-settle.ensures.settled))
+
 pub loop-line-preserved-then-is_empty : goal.loop-line-preserved-then-is_empty
 loop-line-preserved-then-is_empty g c =
     let at = (goal.at.loop-line-preserved-then-is_empty g c).After-index in
     let level = c.args.tables.now.board.now in
     let groups = c.args.tables.now.groups in
     let patterns = list_of groups in
-    let inv = c.loop-line.invariant in
     let group = c.index.result.now in
-    let checker = c.in_ok-settle.ensures.checker in
     let left = c.settle.new.self.lookups.left in
     let none = sym left.ok.0 ∙ eqb-true left.len 0 (sym c.if-is_empty.ensures) in
-    let covers = none_rest level groups group left.items none (checker.rest group c.in_ok-settle.ensures.settled) in
+    let covers = none_rest level groups group left.items none (c.in_ok-settle.ensures.checker.rest group c.in_ok-settle.ensures.settled) in
     record {
-      checker = checker;
-      noted = noted_more level groups c.loop-line.covered.items inv.noted group true (is_group g at) (λ _. covers);
-      covered = one_more (λ (j : ℕ). CoversPushesOf level patterns (pattern_at patterns j)) c.loop-line.line inv.covered
+      checker = c.in_ok-settle_head.ensures.checker;
+      noted = c.in_ok-settle_head.ensures.covered;
+      covered = one_more (λ (j : ℕ). CoversPushesOf level patterns (pattern_at patterns j)) c.loop-line.line c.loop-line.invariant.covered
           (pattern_of_group level groups c.requires.tables.grouped c.loop-line.line (is_line g at) (rw (of_line g at) at covers));
     }
 
@@ -116,7 +116,7 @@ loop-line-preserved g c =
     let checker = c.in_ok-settle.ensures.checker in
     let tried = c.in_default.ensures in
     record {
-      checker = record { are = tried.are; free = λ h is. rw tried.free (checker.free h is); rest = λ h is. rw tried.left (checker.rest h is) };
+      checker = record { are = tried.are; free = λ h is. rw tried.free (checker.free h is); rest = λ h is. rw tried.left (checker.rest h is); tried = checker.tried };
       noted = inv.noted;
       covered = one_more (λ (j : ℕ). CoversPushesOf level patterns (pattern_at patterns j)) c.loop-line.line inv.covered tried.exact;
     }

@@ -21,7 +21,7 @@ enqueue-requires-clause-count g c =
 
 pub enqueue_goals-requires-clause-search : goal.enqueue_goals-requires-clause-search
 enqueue_goals-requires-clause-search g c =
-    let floor = c.shape-shape.ensures.formed.boxes c.args.start c.requires.start in (
+    let floor = c.requires.formed.boxes c.args.start c.requires.start in (
       [],
       c.args.start,
       search_first c.args.board.now [] c.args.start _ _ _ _ floor c.clear.ensures.members c.clear-2.ensures.items c.enqueue.ensures.queued,
@@ -31,7 +31,7 @@ enqueue_goals-requires-clause-search g c =
 pub returns-clause-search : goal.returns-clause-search
 returns-clause-search g c = λ matching.
     let level = c.args.board.now in
-    let formed = c.shape-shape.ensures.formed in
+    let formed = c.requires.formed in
     let floor = formed.boxes c.args.start c.requires.start in
     let none = c.clear.ensures.members in
     let queued = c.enqueue.ensures.queued in

@@ -35,7 +35,7 @@ loop-goal-preserved-then-reaches g c =
       ready = c.enqueue.ensures.ready _ inv.ready;
       search = λ matching start reach begun.
           let is_search = inv.search matching start reach begun in
-          reached_keeps c.args.board.now c.shape-shape.ensures.formed start _ reach (is_search.floor start is_search.begins) matching goal _ _ _ _
+          reached_keeps c.args.board.now c.requires.formed start _ reach (is_search.floor start is_search.begins) matching goal _ _ _ _
           here queued is_search;
       within = λ q h. either (queued_cases _ _ _ _ _ q queued h) (λ is. inr (rw is here)) (inv.within q);
       goals = λ q came has. either (Contains-push_cases c.loop-goal.yielded goal q came)

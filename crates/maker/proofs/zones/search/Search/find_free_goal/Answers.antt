@@ -12,7 +12,7 @@ expand-requires g c =
     record {
       ready = c.loop-at.invariant.ready;
       entries = c.requires.entries;
-      matching = λ goal b pair. c.shape-shape.ensures.formed.boxes b (valid.boxes b (valid.pairs.box goal b pair));
+      matching = λ goal b pair. c.requires.formed.boxes b (valid.boxes b (valid.pairs.box goal b pair));
       free = c.requires.free;
       search = (start, c.loop-at.invariant.search start is_search);
       at = omega arith;

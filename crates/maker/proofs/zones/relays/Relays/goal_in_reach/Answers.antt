@@ -1,13 +1,13 @@
 use Rattle.std.proofs.Common.{arith}
 use Rattle.cellset.specs.CellSet.{Has}
 use Rattle.maker.proofs.Relays.{pushed_reach}
-use Rattle.maker.proofs.zones.relay.Relays.goal_in_reach.Goals as goal
+use Rattle.maker.proofs.zones.relays.Relays.goal_in_reach.Goals as goal
 
 pub returns-clause-exact : goal.returns-clause-exact
 returns-clause-exact g c =
     let (seeds, only, exact) = c.flood.ensures.exact in (
       c.in-Some.ensures.1,
-      pushed_reach c.args.board.now c.shape-shape.ensures.formed (Has seeds) c.args.cell (λ q h. (only q).0 h) c.in-Some.goal
+      pushed_reach c.args.board.now c.shape.ensures.formed (Has seeds) c.args.cell (λ q h. (only q).0 h) c.in-Some.goal
           (rw (c.turn_to.ensures.relays _ c.requires.relays).room.1 at (exact c.in-Some.goal).0 (grind arith)),
     )
 

@@ -1,6 +1,6 @@
 use Rattle.std.proofs.Common.{◌∙◌}
 use Rattle.cellset.proofs.Members.{has_empty}
-use Rattle.maker.proofs.zones.relay.Relays.move_toward.Goals as goal
+use Rattle.maker.proofs.zones.relays.Relays.move_toward.Goals as goal
 
 pub move_to-requires-clause-relays : goal.move_to-requires-clause-relays
 move_to-requires-clause-relays g c =

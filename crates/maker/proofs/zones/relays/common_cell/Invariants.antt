@@ -1,6 +1,6 @@
 use Rattle.std.specs.Prelude.{IfSome}
 use Rattle.cellset.specs.Cell.{IsOn}
-use Rattle.maker.proofs.zones.relay.common_cell.Given as goal
+use Rattle.maker.proofs.zones.relays.common_cell.Given as goal
 
 abbrev pub invariant-loop-part : goal.invariant-loop-part
 invariant-loop-part l = record { found : IfSome l.found (IsOn l.cells.extent) }

@@ -1,7 +1,7 @@
 use Rattle.std.specs.Prelude.{IfSome}
 use Rattle.cellset.specs.Cell.{IsOn}
 use Rattle.cellset.proofs.ReadingOrder.{cells_left}
-use Rattle.maker.proofs.zones.relay.Relays.goal_to_give.Given as goal
+use Rattle.maker.proofs.zones.relays.Relays.goal_to_give.Given as goal
 
 abbrev pub invariant-loop-from : goal.invariant-loop-from
 invariant-loop-from g l = record { on : IfSome l.from (IsOn l.board.shape) }

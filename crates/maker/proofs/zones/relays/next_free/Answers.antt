@@ -1,7 +1,7 @@
 use Rattle.std.proofs.Common.{refl}
 use Rattle.cellset.specs.Cell.{IsNextCell}
 use Rattle.cellset.proofs.ReadingOrder.{left_falls}
-use Rattle.maker.proofs.zones.relay.next_free.Goals as goal
+use Rattle.maker.proofs.zones.relays.next_free.Goals as goal
 
 pub loop-from-smaller : goal.loop-from-smaller
 loop-from-smaller g c =

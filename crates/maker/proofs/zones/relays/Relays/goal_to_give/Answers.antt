@@ -1,6 +1,6 @@
 use Rattle.cellset.specs.Cell.{IsNextCell}
 use Rattle.cellset.proofs.ReadingOrder.{left_falls}
-use Rattle.maker.proofs.zones.relay.Relays.goal_to_give.Goals as goal
+use Rattle.maker.proofs.zones.relays.Relays.goal_to_give.Goals as goal
 
 pub loop-from-smaller : goal.loop-from-smaller
 loop-from-smaller g c =

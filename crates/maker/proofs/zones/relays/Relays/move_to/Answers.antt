@@ -6,7 +6,7 @@ use Rattle.cellset.specs.declared.cell.Cell.{Cell}
 use Rattle.cellset.proofs.Members.{has_empty}
 use Rattle.maker.specs.Matching.{InReach}
 use Rattle.maker.proofs.Relays.{free_linked, free_on_grid, pulled_reach, pushed_reach, reach_through}
-use Rattle.maker.proofs.zones.relay.Relays.move_to.Goals as goal
+use Rattle.maker.proofs.zones.relays.Relays.move_to.Goals as goal
 
 pub returns-then-is_some : goal.returns-then-is_some
 returns-then-is_some g c =

@@ -1,5 +1,5 @@
 use Rattle.std.proofs.Common.{sym, ◌∙◌}
-use Rattle.maker.proofs.zones.relay.Relays.new.Goals as goal
+use Rattle.maker.proofs.zones.relays.Relays.new.Goals as goal
 
 pub returns : goal.returns
 returns g c =

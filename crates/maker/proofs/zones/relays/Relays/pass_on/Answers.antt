@@ -6,7 +6,7 @@ use Rattle.cellset.specs.SortedList.{index}
 use Rattle.cellset.specs.declared.cell.Cell.{Cell}
 use Rattle.maker.proofs.Flipping.{passed_on}
 use Rattle.maker.proofs.Relays.{goal_of, pushed_reach}
-use Rattle.maker.proofs.zones.relay.Relays.pass_on.Goals as goal
+use Rattle.maker.proofs.zones.relays.Relays.pass_on.Goals as goal
 
 pub returns-clause-exact : goal.returns-clause-exact
 returns-clause-exact g c =

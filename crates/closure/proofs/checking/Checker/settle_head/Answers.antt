@@ -1,0 +1,30 @@
+use Rattle.std.proofs.Common.{true, sym, ◌∙◌, arith}
+use Rattle.std.proofs.{lemmas.Bool.eqb-true, lemmas.List.length-set}
+use Rattle.patterns.proofs.GroupPushes.{noted_more}
+use Rattle.closure.proofs.Rests.{none_rest}
+use Rattle.closure.proofs.checking.Checker.settle_head.Goals as goal
+
+pub index_mut-requires : goal.index_mut-requires
+index_mut-requires g c =
+    let long = c.requires.checker.tried in
+    let low = c.in-Some.ensures.0 in
+    omega arith
+
+pub settle-requires-clause-checker : goal.settle-requires-clause-checker
+settle-requires-clause-checker g c =
+    let checker = c.requires.checker in
+    record { are = checker.are; free = checker.free; rest = checker.rest; tried = length-set _ _ _ ∙ checker.tried }
+
+pub index_mut-requires-then-is_empty : goal.index_mut-requires-then-is_empty
+index_mut-requires-then-is_empty g c =
+    let long = c.requires.covered.long in
+    let low = c.in-Some.ensures.0 in
+    omega arith
+
+pub returns-then-is_empty-clause-covered : goal.returns-then-is_empty-clause-covered
+returns-then-is_empty-clause-covered g c =
+    let left = c.settle.new.self.lookups.left in
+    let none = sym left.ok.0 ∙ eqb-true left.len 0 (sym c.if-is_empty.ensures) in
+    let settled = c.in_ok-settle.ensures in
+    noted_more c.args.tables.now.board.now c.args.tables.now.groups c.args.covered.now.items c.requires.covered c.in-Some.head true c.in-Some.ensures.0
+    (λ _. none_rest c.args.tables.now.board.now c.args.tables.now.groups c.in-Some.head left.items none (settled.checker.rest c.in-Some.head settled.settled))
