@@ -235,14 +235,14 @@ class Halls:
         yield Case("60,000 lines of the same boxes, and 5,535 that are pushed into them", 1,
                    AUDIT, None, listed(self.into_one(many)))
         covered = self.draws(self.most, 12, [corner])
-        parted = self.draws(self.most, 12, [bend, corner])
+        split = self.draws(self.most, 12, [bend, corner])
         one_line = self.line([corner], "*")
         yield Case("65,535 lines of 12 boxes, which one line of one box covers", 15, AUDIT, None,
                    listed([*covered, one_line]))
         fault = f"{self.size(100, 30, 100)},{self.size(100, 30, 100)} @ *"
         yield Case("the same with its only fault in the last line", 30, AUDIT, None,
                    listed([one_line, *covered[1:], fault]))
-        yield Case("65,535 lines of 12 boxes that part the board, which one such line covers", 15,
-                   AUDIT, None, listed([*parted, self.line([bend, corner])]))
+        yield Case("65,535 lines of 12 boxes that split the room, which one such line covers", 15,
+                   AUDIT, None, listed([*split, self.line([bend, corner])]))
         yield Case("32,768 subsets of a set of 15 boxes, and 4,500 lines of all of them", 30, AUDIT,
                    None, listed(self.subsets(self.size(15, 8, 12))))

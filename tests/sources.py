@@ -134,11 +134,11 @@ def main() -> None:
     for name in found["python"]:
         compiles(cases, name)
     for linter, words in LINTERS.items():
-        if cases.needs(linter, "a look at the Python files"):
+        if cases.needs(linter, "a check of the Python files"):
             cases.succeeds(linter, *words, *found["python"])
     if cases.needs("mypy", "the types of the Python files"):
         check_types(cases, found["python"])
-    if cases.needs("shellcheck", "a look at the shell scripts"):
+    if cases.needs("shellcheck", "a check of the shell scripts"):
         cases.succeeds("shellcheck", *SHELLCHECK, *found["shell"])
     if cases.needs("node", "the syntax of the page's scripts"):
         for name in found["javascript"]:

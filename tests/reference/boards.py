@@ -118,7 +118,7 @@ def rings(rng: Random) -> Rows:
     return rooms(rng, width, height, floor, rng.randint(1, 3))
 
 
-def parted(rng: Random) -> Rows:
+def with_doors(rng: Random) -> Rows:
     """Two or three rooms side by side with doors of one cell, often with a box in a door."""
     width, height = rng.randint(7, 11), rng.randint(4, 8)
     floor, doors = set(grid(width, height)), []
@@ -201,5 +201,5 @@ def damaged(rng: Random) -> Rows:
 
 
 Kind = Callable[[Random], Rows]
-SMALL: List[Kind] = [random_walls, random_walls, templates, rings, parted, along_walls, damaged]
+SMALL: List[Kind] = [random_walls, random_walls, templates, rings, with_doors, along_walls, damaged]
 ALL: List[Kind] = SMALL + [crowded_hall, long_side]

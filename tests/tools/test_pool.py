@@ -165,10 +165,10 @@ class Placed(Case):
 
 class Read(Case):
     def test_lines_above_a_record(self) -> None:
-        """Those right above it are its own, and what an empty line parts from it is loose."""
+        """Those right above it are its own, and what an empty line separates from it is apart."""
         both = answers.read(b"sokoban-answers 1\n; a\n\n; b\n\n; c\n" + record(SHORT))
         (found,) = both.records
-        self.assertEqual((found.loose, found.answer.above),
+        self.assertEqual((found.apart, found.answer.above),
                          ([b"; a", b"", b"; b", b""], (b"; c",)))
 
     def test_versions(self) -> None:

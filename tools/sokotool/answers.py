@@ -78,7 +78,7 @@ class Record(NamedTuple):
     level: int
     answer: Answer
     line: int
-    loose: List[bytes]
+    apart: List[bytes]
 
     @property
     def kind(self) -> str:
@@ -121,7 +121,7 @@ def read(data: bytes, levels: Optional[int] = None, rising: bool = True) -> Answ
         raise Fault(1, "header")
     records: List[Record] = []
     above: List[bytes] = []
-    loose: List[bytes] = []
+    apart: List[bytes] = []
     last = first = 0
     body: List[bytes] = []
     kind = ""
@@ -135,12 +135,12 @@ def read(data: bytes, levels: Optional[int] = None, rising: bool = True) -> Answ
                     raise Fault(number, "kind")
                 kind = line.decode()
             elif line == b"end":
-                records.append(Record(last, Answer(kind, tuple(above), tuple(body)), first, loose))
-                above, loose, kind, body, first = [], [], "", [], 0
+                records.append(Record(last, Answer(kind, tuple(above), tuple(body)), first, apart))
+                above, apart, kind, body, first = [], [], "", [], 0
         elif _is_skipped(line):
             above.append(line)
             if not line:
-                loose, above = loose + above, []
+                apart, above = apart + above, []
         else:
             level = _level_of(line, number)
             if rising and level <= last:
@@ -150,7 +150,7 @@ def read(data: bytes, levels: Optional[int] = None, rising: bool = True) -> Answ
             last, first = level, number
     if first:
         raise Fault(len(lines) + 1, "unclosed")
-    return Answers(int(header.group(1)), records, loose + above)
+    return Answers(int(header.group(1)), records, apart + above)
 
 
 def answer_of(record: bytes) -> Answer:

@@ -178,7 +178,7 @@ def by_key(forms: Iterable[Form]) -> Dict[Key, List[int]]:
     return found
 
 
-def twins_of(forms: Sequence[Form]) -> List[Tuple[int, int, Turn]]:
+def duplicates_of(forms: Sequence[Form]) -> List[Tuple[int, int, Turn]]:
     """Returns the index of each form that equals an earlier one, that of the first one, and how the
     first is turned into it. Walls alone don't count."""
     first: Dict[Key, int] = {}

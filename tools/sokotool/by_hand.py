@@ -34,9 +34,9 @@ class Merged(NamedTuple):
 
 def collection(blocks: Sequence[Block]) -> Snapshot:
     """Returns a collection of these blocks, with an empty line between levels without text."""
-    parted = separated(blocks)
-    found = levels.read(text(parted))
-    return Snapshot(found, boards.forms_of(found), (), parted)
+    apart = separated(blocks)
+    found = levels.read(text(apart))
+    return Snapshot(found, boards.forms_of(found), (), apart)
 
 
 def merged(written: Written, mine: Snapshot, exports: Snapshot, stored: Sequence[Block]
@@ -97,7 +97,7 @@ def _marked(written: Sequence[Block], mine: Sequence[Block], was: Dict[int, int]
 
 def _paired(written: Written, was: Dict[int, int], sources: Sequence[str]) -> Dict[int, int]:
     """Returns the indices in the exports by the indices now, as the last check paired them, for
-    levels whose text in the exports is the same. Otherwise twins could change places."""
+    levels whose text in the exports is the same. Otherwise duplicates could change places."""
     waiting: Dict[str, List[int]] = {}
     for index, source in reversed(list(enumerate(sources))):
         waiting.setdefault(source, []).append(index)

@@ -66,7 +66,7 @@ class Kept(NamedTuple):
         listed = [entry.block._replace(above=(entry.head or _HEAD, *entry.block.above),
                                        below=(*_trimmed(entry.block.below), b""))
                   for entry in self.entries]
-        records = [answers.spelled(record.loose) + record.text for record in self.records()]
+        records = [answers.spelled(record.apart) + record.text for record in self.records()]
         text = answers.spelled(self.alone) + blocks.text(listed)
         has_answers = self.records() or any(self.rest)
         return (text if text.strip() else None,

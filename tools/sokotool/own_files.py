@@ -55,7 +55,7 @@ class Files:
         """Returns the records of an answers file for so many levels, in any order."""
         data = self.before.get(end, answers.text([]))
         found = answers.read_text(self.name + end, data, most, rising=False)
-        for lines in (found.rest, *(record.loose for record in found.records)):
+        for lines in (found.rest, *(record.apart for record in found.records)):
             while _NOTE in lines:
                 lines.remove(_NOTE)
         return found

@@ -53,7 +53,7 @@ class Pool:
         self._exported: Dict[int, List[Answer]] = {}
         self._before: Tuple[Optional[changes.Snapshot], Dict[int, changes.Match]] = None, {}
         # the comments between records, each before the next level that is still there
-        self._loose: Dict[int, List[bytes]] = {}
+        self._apart: Dict[int, List[bytes]] = {}
         self._rest: List[bytes] = []
 
     # ---- candidates
@@ -81,9 +81,9 @@ class Pool:
             match = matches.get(record.level)
             nearest = match.new + 1 if match else nearest
             if nearest:
-                self._loose[nearest] = record.loose + self._loose.get(nearest, [])
+                self._apart[nearest] = record.apart + self._apart.get(nearest, [])
             else:
-                self._rest = record.loose + self._rest
+                self._rest = record.apart + self._rest
 
     def add_stored(self, stored: kept.Kept) -> None:
         """Adds the records that were kept without a place."""
@@ -213,9 +213,9 @@ class Pool:
 
     def _written(self) -> bytes:
         """Returns the answers file with the chosen ones, and the comments between them."""
-        parts = [answers.spelled(self._loose.get(number, []))
+        parts = [answers.spelled(self._apart.get(number, []))
                  + (self.chosen[number].answer.record(number) if number in self.chosen else b"")
-                 for number in sorted({*self.chosen, *self._loose})]
+                 for number in sorted({*self.chosen, *self._apart})]
         return answers.text(parts) + answers.spelled(self._rest)
 
     def other_answers(self) -> bytes:

@@ -1,6 +1,6 @@
-"""Looks for answers in rounds: to all levels for a short time each, then to those that are left for
-a longer one, easy levels first. So most answers come early. The ways to look are the search of
-sokotool, and after it the keeper's solver."""
+"""Searches for answers in rounds: all levels for a short time each, then those that are left for a
+longer one, easy levels first. So most answers come early. First the search of sokotool goes through
+its rounds, and then the user's solver."""
 import argparse
 import math
 import time

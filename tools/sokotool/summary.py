@@ -50,7 +50,7 @@ def lines(run: Run, state: State, problems: Sequence[str]) -> Iterator[str]:
         yield f"kept in {run.name}.kept.xsb: " + ", ".join(kept)
     yield from _some("twins: ", [
         f"level {later + 1} is level {first + 1}, {turn.words}"
-        for later, first, turn in boards.twins_of(now.forms)])
+        for later, first, turn in boards.duplicates_of(now.forms)])
     if run.written:
         names = [texts.shown(run.name) + end for end in own_files.LISTED if end in run.written]
         if sys.stdout.isatty() and own_files.PAGE in run.written:

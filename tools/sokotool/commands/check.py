@@ -6,7 +6,7 @@ former ones are kept as NAME.xsb~ and so on. A level is known by its board, so a
 level if levels are inserted, removed or turned. Of several accepted answers to a level the best is
 kept. What you type into NAME.xsb and NAME.answers stays, also while this runs; what has no place
 there any more is in NAME.kept.xsb and NAME.kept.answers. The summary says what was left out, what
-changed since the last time, and which levels are twins. If it doesn't fit a screen, standard error
+changed since the last time, and the duplicates. If it doesn't fit a screen, standard error
 gets everything that was left out.
 
 sokoaudit checks every answer. The variable SOKOAUDIT names it, or it is found in the checkout or

@@ -1,6 +1,6 @@
-"""Prints each level that has the same board as an earlier one, also if it is turned, mirrored,
-moved or framed. The tab-separated fields of a line are the level, where it begins, the first level
-with this board, where that begins, how the first is turned into the later, and the titles and the
+"""Prints duplicates: each level with the layout of an earlier one, also if it is turned, mirrored,
+moved or framed. The tab-separated columns of a line are the level, where it begins, the first level
+with this layout, where that begins, how the first is turned into the later, and the titles and the
 authors of the two. With several files it shows which levels of a collection are in another one.
 
 The status is 1 if something is printed."""
@@ -23,9 +23,9 @@ def run(options: argparse.Namespace) -> int:
         if not several:
             raise texts.Stop(f"{texts.shown(name)} has no level")
         found += [(texts.shown(name), level) for level in several]
-    twins = boards.twins_of(boards.forms_of(level for _, level in found))
-    for later, first, turn in twins:
+    duplicates = boards.duplicates_of(boards.forms_of(level for _, level in found))
+    for later, first, turn in duplicates:
         both = [found[later], found[first]]
         print(*(f"level {level.number}\t{name}:{level.line}" for name, level in both), turn.words,
               *(level.title for _, level in both), *(level.author for _, level in both), sep="\t")
-    return int(bool(twins))
+    return int(bool(duplicates))

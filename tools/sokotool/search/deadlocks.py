@@ -182,13 +182,13 @@ class Known:
         alone, if at all."""
         while True:
             empty = self.room.cells & ~boxes
-            loose = 0
+            movable = 0
             for shift, ahead, back in self.axes:
-                loose |= empty << shift & (empty & ahead.live) >> shift
-                loose |= empty >> shift & (empty & back.live) << shift
-            if not boxes & loose:
+                movable |= empty << shift & (empty & ahead.live) >> shift
+                movable |= empty >> shift & (empty & back.live) << shift
+            if not boxes & movable:
                 return boxes
-            boxes &= ~loose
+            boxes &= ~movable
 
 
 def blocks_of(beside: Dict[int, List[int]], first: int) -> Tuple[Dict[int, int], Dict[int, int]]:
