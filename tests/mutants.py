@@ -1,6 +1,6 @@
 """tests/run mutants PROGRAM [EDIT..]: plants the faults of tests/must-fail, or those named, one at
-a time in a copy of this tree, and runs the part or the test that has to fail there. Ends in 'N
-passed, M failed'.
+a time in a copy of this tree, and runs the part or the test that has to fail there. 'timed' names
+those whose test measures time, and 2/3 a share of the others. Ends in 'N passed, M failed'.
 
 An edit is a file NAME.edit, named after what the broken code does, with the lines
 
@@ -28,7 +28,8 @@ from concurrent.futures import ThreadPoolExecutor
 from queue import Queue
 from typing import Dict, Iterable, List, NamedTuple, Tuple
 
-from tests.runner import TOP, Cases, arguments, decode, read, run, write
+from tests.runner import (TOP, Cases, arguments, decode, processes, read, run, share_of,
+                          write)
 
 COUNTS = re.compile(r"(\d+) passed, (\d+) failed(?:, (\d+) skipped)?")
 LIMIT = 1200  # seconds, on a machine that others keep busy too
@@ -108,11 +109,11 @@ def make_page(tree: str) -> None:
 
 
 class Trees:
-    """Copies of this tree, one for each processor, in which tests run."""
+    """Copies of this tree, one for each process, in which tests run."""
 
     def __init__(self, program: str, room: str):
         self.program, self.free = program, Queue()  # type: ignore[var-annotated]
-        self.count = len(os.sched_getaffinity(0))
+        self.count = processes()
         for i in range(self.count):
             self.free.put(copied(f"{room}/{i}"))
 
@@ -167,6 +168,18 @@ def together(tests: Iterable[str]) -> List[str]:
             for part, names in parts.items()]
 
 
+def picked(words: List[str]) -> List[str]:
+    """The files of the edits that are named. Those with the same test are in one share."""
+    if words != ["timed"] and not re.fullmatch(r"\d+/\d+", "".join(words[:1])):
+        return words or sorted(glob.glob(f"{TOP}/tests/must-fail/*"))
+    tests: Dict[str, List[str]] = defaultdict(list)
+    for path in picked([]):
+        tests["".join(re.findall("(?m)^test: (.*)", read(path)))].append(path)
+    timed = [it for it in tests if it.startswith("speed ")]
+    names = timed if words == ["timed"] else share_of(sorted({*tests} - {*timed}), words[0])
+    return [path for it in names for path in tests[it]]
+
+
 def judge(cases: Cases, edit: Edit, result: Tuple[str, str]) -> None:
     """A case: the test fails with the edit."""
     said, numbers = result
@@ -191,7 +204,7 @@ def main() -> None:
     began = time.monotonic()
     program, *named = arguments("mutants PROGRAM [EDIT..]")
     cases, edits, texts = Cases("mutants"), [], {}
-    for path in named or sorted(glob.glob(f"{TOP}/tests/must-fail/*")):
+    for path in picked(named):
         try:
             edit = read_edit(path)
             texts[edit.name] = apply(edit)

@@ -7,7 +7,7 @@ import shutil
 import sys
 import tempfile
 import unittest
-from typing import Any, Dict, NamedTuple, Tuple, Union
+from typing import Any, Callable, Dict, List, NamedTuple, Tuple, Union
 
 from sokotool.main import main
 
@@ -29,6 +29,14 @@ ONE = "#####\n#@$.#\n#####\n"
 def plain_variables() -> Dict[str, str]:
     """Returns the variables of this process, without one by which Python keeps nothing back."""
     return {name: it for name, it in os.environ.items() if name != "PYTHONUNBUFFERED"}
+
+
+def piece() -> object:
+    """A fixed piece of work."""
+    return sorted(map(str, range(100_000)))
+
+
+PIECE = 0.019  # the processor seconds of `piece` on an idle machine
 
 
 def used() -> float:
@@ -93,6 +101,19 @@ class Case(unittest.TestCase):
     def audit(self, levels: str, answers: str) -> bytes:
         """Runs sokoaudit, and returns its report."""
         return runner.call([PROGRAM, "audit", levels, answers], joined=True).output
+
+    def takes_less(self, most: float, work: Callable[[], object]) -> None:
+        """Some work takes fewer processor seconds than `most` on an idle machine. On a busy or slow
+        one a piece of work beside it takes as many times as long; the best of four tries counts."""
+        tries: List[float] = []
+        while not tries or tries[-1] >= most and len(tries) < 4:
+            times = [used()]
+            for it in (piece, work, piece):
+                it()
+                times.append(used())
+            before, taken, after = (end - begin for begin, end in zip(times, times[1:]))
+            tries.append(2 * PIECE * taken / (before + after))
+        self.assertLess(tries[-1], most, tries)
 
     def convert(self, text: Union[str, bytes], name: str = "mine.txt") -> Converted:
         """Converts one file, and returns the run, the levels' text and the answers' text."""

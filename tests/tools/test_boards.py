@@ -2,7 +2,6 @@
 """
 import os
 import random
-import time
 import unittest
 from typing import Any, Dict, Hashable, List, Sequence, Set, Tuple
 
@@ -125,9 +124,7 @@ class Forms(unittest.TestCase):
         chance = random.Random(32)
         found = levels.read(text_of([framed(chance, random_rows(chance))
                                      for _ in range(10000)]).encode())
-        began = time.process_time()
-        boards.forms_of(found)
-        self.assertLess(time.process_time() - began, 2)
+        self.takes_less(2, lambda: boards.forms_of(found))
 
 
 class Twins(Case):
