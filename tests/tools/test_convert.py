@@ -199,6 +199,11 @@ class Solutions(Case):
         self.assertIn("line 5: the solution of level 1 cannot be played: move 1 (u) wall",
                       result.err)
 
+    def test_parts_of_words_are_none(self) -> None:
+        for line in ("rRange", "some rRange", "barR", "rR\u00e9"):
+            result, _, solved = self.convert(OTHER + f"\nSee {line} or not\n")
+            self.assertEqual((result.status, letters_of(solved)), (0, {}), line)
+
     def test_exports_of_players(self) -> None:
         yasc = ("::::::::::::::::::::\n:: Wall  #   Box  $\n::   _#_ Floor, ## Solution and "
                 "snapshot ##\n\n"
@@ -424,6 +429,11 @@ class Kept(Case):
         self.assertIn("line 6: rows in a comment, which stay text", result.err)
         self.write("a.xsb", text)
         self.assertIn(b"a.xsb line 6: a row in a comment", self.tool("warn", "a.xsb").out)
+
+    def test_comment_of_an_author_stays_whole(self) -> None:
+        """A title in it is none of the collection, and stays in its place."""
+        text = f"Comment:\nTitle: none\nComment-End:\n{ONE}"
+        self.assertIn(text.encode(), self.convert(text)[1])
 
     def test_attribution(self) -> None:
         rows = "".join(f"<L>{row}</L>" for row in ONE.split())

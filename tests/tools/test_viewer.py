@@ -89,6 +89,13 @@ class Eye(Page):
         self.assertEqual(self.all(".letters .bad"), ["R"])
         self.assertEqual(self.all("#copy"), ["copy"])
 
+    def test_refused_letter_is_not_played(self) -> None:
+        self.walk("#1:end")
+        self.assertEqual(self.all(".count b"), ["3", "1", "1"])
+        shared.press("ArrowRight", "End")
+        self.holds(HASH, "#1:3")
+        self.assertEqual(self.all(".count b"), ["3", "1", "1"])
+
     def test_cut_title_has_a_tooltip(self) -> None:
         title = "A title that is longer than any card is wide"
         self.page(f"{title}\n{ONE}")
