@@ -98,12 +98,13 @@ def at_once(cases: Cases) -> None:
     # an interrupt ends the parts; what is in the background would ignore it
     ends = "begin 1 bash -c 'echo $$ >{0}; exec sleep 61'\n"
     waits = "(until [ -s one ] && [ -s two ]; do sleep 0.1; done; kill -INT $$) &\nawait"
-    ended = shell(f"{source}\n{ends.format('one')}{ends.format('two')}{waits}",
+    write("ends", f"{source}\n{ends.format('one')}{ends.format('two')}{waits}")
+    ended = shell("bash ends >said 2>&1",  # what goes on keeps no pipe open
                   preexec_fn=lambda: signal.signal(signal.SIGINT, signal.SIG_DFL))
     cases.same("an interrupt", "status 130\n", ended)
     for it in ("one", "two"):
-        left = shell(f"while kill -0 $(cat {it}) 2>/dev/null; do sleep 0.1; done")
-        cases.same(f"it ends part {it}", "status 0\n", left)
+        left = shell(f"for it in {{1..99}}; do kill -0 $(cat {it}) || exit; sleep 0.1; done 2>&-")
+        cases.same(f"it ends part {it}", "status 1\n", left)
 
 
 def whole(cases: Cases) -> None:

@@ -6,6 +6,7 @@ import os
 import shutil
 import sys
 import tempfile
+import time
 import unittest
 from typing import Any, Callable, Dict, List, NamedTuple, Tuple, Union
 
@@ -24,6 +25,7 @@ needs_a_memory_limit = unittest.skipIf(LACKING, "there is no limit of memory")
 PROGRAM = os.path.join(TOP, "crates/sokoaudit/out/sokoaudit")
 SAMPLES = os.path.join(TOP, "samples")
 ONE = "#####\n#@$.#\n#####\n"
+PIECE = 0.016  # the processor seconds of a piece of work on an idle machine
 
 
 def plain_variables() -> Dict[str, str]:
@@ -31,12 +33,12 @@ def plain_variables() -> Dict[str, str]:
     return {name: it for name, it in os.environ.items() if name != "PYTHONUNBUFFERED"}
 
 
-def piece() -> object:
-    """A fixed piece of work."""
-    return sorted(map(str, range(100_000)))
-
-
-PIECE = 0.019  # the processor seconds of `piece` on an idle machine
+def pace() -> float:
+    """Returns how many times as much processor time a fixed piece of work takes as on an idle
+    machine."""
+    began = time.process_time()
+    sorted(map(str, range(100_000)))
+    return (time.process_time() - began) / PIECE
 
 
 def used() -> float:
@@ -103,16 +105,14 @@ class Case(unittest.TestCase):
         return runner.call([PROGRAM, "audit", levels, answers], joined=True).output
 
     def takes_less(self, most: float, work: Callable[[], object]) -> None:
-        """Some work takes fewer processor seconds than `most` on an idle machine. On a busy or slow
-        one a piece of work beside it takes as many times as long; the best of four tries counts."""
+        """Some work takes fewer processor seconds than `most`, as on an idle machine. Others may use
+        this one, so the best of four tries counts."""
         tries: List[float] = []
         while not tries or tries[-1] >= most and len(tries) < 4:
-            times = [used()]
-            for it in (piece, work, piece):
-                it()
-                times.append(used())
-            before, taken, after = (end - begin for begin, end in zip(times, times[1:]))
-            tries.append(2 * PIECE * taken / (before + after))
+            before, began = pace(), used()
+            work()
+            taken = used() - began
+            tries.append(2 * taken / (before + pace()))
         self.assertLess(tries[-1], most, tries)
 
     def convert(self, text: Union[str, bytes], name: str = "mine.txt") -> Converted:

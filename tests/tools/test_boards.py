@@ -89,7 +89,7 @@ def text_of(pictures: Sequence[Rows]) -> str:
     return "\n".join("\n".join(rows) + "\n" for rows in pictures)
 
 
-class Forms(unittest.TestCase):
+class Forms(Case):
     def test_turns(self) -> None:
         """A turn takes each cell of a level to the equal cell of the other, and its inverse back.
         """

@@ -8,7 +8,7 @@ from typing import List, Tuple, Union
 
 from tests.runner import call
 from tests.tools.helping import ONE, SAMPLES, TOP, Case
-from sokotool import main
+from sokotool import levels, main
 
 SEARCH = os.path.join(TOP, "examples/search.py")
 
@@ -130,6 +130,8 @@ class Named(Case):
         self.assertEqual(result.out.decode().split("\n")[:2],
                          ["level 1 missing\ta.xsb:2\tIts room: first",
                           "level 2 missing\ta.xsb:7\tThird"])
+        for lines in ("; by Ben\n; Real\n", "; Real\n; by Ben\n"):
+            self.assertEqual(levels.read((lines + ONE).encode())[0].title, "Real")
 
     def test_report_of_another_collection(self) -> None:
         self.write("a.xsb", ONE)
