@@ -21,12 +21,13 @@ import resource
 import shutil
 import signal
 import subprocess
+import sys
 import tempfile
 import time
 from collections import defaultdict
 from concurrent.futures import ThreadPoolExecutor
 from queue import Queue
-from typing import Dict, Iterable, List, NamedTuple, Tuple
+from typing import Dict, Iterable, List, NamedTuple, Set, Tuple
 
 from tests.runner import (TOP, Cases, arguments, decode, processes, read, run, share_of,
                           write)
@@ -113,6 +114,7 @@ class Trees:
 
     def __init__(self, program: str, room: str):
         self.program, self.free = program, Queue()  # type: ignore[var-annotated]
+        self.running: Set[int] = set()
         self.count = processes()
         for i in range(self.count):
             self.free.put(copied(f"{room}/{i}"))
@@ -128,32 +130,37 @@ class Trees:
                 make_page(tree)
             filled = [{"PROGRAM": self.program, "PAGE": f"{tree}/sokoaudit.html"}.get(it, it)
                       for it in words.split()]
-            return ended(tree, [f"{tree}/tests/run", "--first", *filled])
+            return self.ended(tree, [f"{tree}/tests/run", "--first", *filled])
         finally:
             for name in [file, "sokoaudit.html"] if file else []:
                 shutil.copy2(f"{TOP}/{name}", f"{tree}/{name}")
             self.free.put(tree)
 
 
-def ended(tree: str, words: List[str]) -> Tuple[str, str]:
-    """Runs a test of a copy to its end, with all that it started. Returns what it printed, and its
-    numbers."""
-    with tempfile.TemporaryFile() as file:
-        ran = subprocess.Popen(words, stdin=subprocess.DEVNULL, stdout=file, stderr=file,
-                               cwd=tree, start_new_session=True)
-        try:
-            ran.wait(LIMIT)
-        except subprocess.TimeoutExpired:
-            pass
-        with contextlib.suppress(ProcessLookupError):
-            os.killpg(ran.pid, signal.SIGKILL)
-        ran.wait()
-        file.seek(0)
-        said = decode(file.read())
-    last = said.splitlines()[-1:] or [""]
-    counts = COUNTS.fullmatch(last[0])
-    is_so = counts and ran.returncode == int(counts[2] != "0")
-    return said, last[0] if is_so else ""
+    def ended(self, tree: str, words: List[str]) -> Tuple[str, str]:
+        """Runs a test of a copy to its end, with all that it started. Returns what it printed, and
+        its numbers."""
+        with tempfile.TemporaryFile() as file:
+            ran = subprocess.Popen(words, stdin=subprocess.DEVNULL, stdout=file, stderr=file,
+                                   cwd=tree, start_new_session=True)
+            self.running.add(ran.pid)
+            with contextlib.suppress(subprocess.TimeoutExpired):
+                ran.wait(LIMIT)
+            self.running.remove(ran.pid)
+            end(ran.pid)
+            ran.wait()
+            file.seek(0)
+            said = decode(file.read())
+        last = said.splitlines()[-1:] or [""]
+        counts = COUNTS.fullmatch(last[0])
+        is_so = counts and ran.returncode == int(counts[2] != "0")
+        return said, last[0] if is_so else ""
+
+
+def end(group: int) -> None:
+    """Ends a group of processes."""
+    with contextlib.suppress(ProcessLookupError):
+        os.killpg(group, signal.SIGKILL)
 
 
 def together(tests: Iterable[str]) -> List[str]:
@@ -202,6 +209,7 @@ def judge_whole(cases: Cases, test: str, result: Tuple[str, str]) -> None:
 def main() -> None:
     """Runs the part."""
     began = time.monotonic()
+    signal.signal(signal.SIGTERM, lambda *_: sys.exit(143))
     program, *named = arguments("mutants PROGRAM [EDIT..]")
     cases, edits, texts = Cases("mutants"), [], {}
     for path in picked(named):
@@ -221,10 +229,17 @@ def main() -> None:
         with ThreadPoolExecutor(trees.count) as pool:
             before = {it: pool.submit(trees.test, it) for it in together(it.test for it in edits)}
             after = [pool.submit(trees.test, it.test, it.file, texts[it.name]) for it in edits]
-            for test, result in before.items():
-                judge_whole(cases, test, result.result())
-            for edit, result in zip(edits, after):
-                judge(cases, edit, result.result())
+            try:
+                for test, result in before.items():
+                    judge_whole(cases, test, result.result())
+                for edit, result in zip(edits, after):
+                    judge(cases, edit, result.result())
+            except BaseException:  # an interrupt, or the gate ends
+                for result in [*before.values(), *after]:
+                    result.cancel()
+                for group in [*trees.running]:
+                    end(group)
+                raise
     used = resource.getrusage(resource.RUSAGE_CHILDREN)
     cases.say(f"{len(edits)} edits in {time.monotonic() - began:.0f} s, with "
               f"{used.ru_utime + used.ru_stime:.0f} s of the processors")
