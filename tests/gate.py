@@ -1,5 +1,6 @@
-"""tests/run gate: tests how the gate counts and how it runs parts at once, by planted parts; that it
-runs each part and each share of one; and what tests/bare hands on. Ends in 'N passed, M failed'."""
+"""tests/run gate: tests how the gate counts and how it runs parts at once, by planted parts; that
+it runs each part and each share of one; and what tests/bare hands on. Ends in 'N passed, M failed'.
+"""
 import glob
 import os
 import re
@@ -34,18 +35,19 @@ RUN = f'cd {TOP} && . tests/counts && part "$@" && finish'
 BUSY = "i=0; while [ $i != 200000 ]; do i=$((i + 1)); done; "
 # parts on two processors in bash, each in a line, and the numbers that the gate prints; those of a
 # part that failed once more at the end. Where it runs one too early or too late, a part has none
-UNTIL = "until [ -e {} ]; do sleep 0.05; done; "
+UNTIL = "until [ -e {} ]; do sleep 0.05; done"
+MEETS = f"touch {{}}; {UNTIL}; {UNTIL.format('go')}; echo 1 passed, 0 failed"
 LOCKS = "mkdir lock && sleep 0.5 && rmdir lock && echo 1 passed, 0 failed"
 AT_ONCE = {
     "parts are printed as they end": (f"""
-        begin 1 bash -c '{UNTIL.format("counted")}echo 5 passed, 1 failed; exit 1'
+        begin 1 bash -c '{UNTIL.format("counted")}; echo 5 passed, 1 failed; exit 1'
         begin 1 bash -c 'echo 2 passed, 0 failed'
         while [ ${{#names[@]}} = 2 ]; do count_ended; done
         touch counted
         """, "2 passed, 0 failed" + "/5 passed, 1 failed" * 2 + "/7 passed, 1 failed"),
     "two run at once, and the third waits": (f"""
-        begin 1 bash -c 'touch one; {UNTIL.format("two")}{UNTIL.format("go")}echo 1 passed, 0 failed'
-        begin 1 bash -c 'touch two; {UNTIL.format("one")}{UNTIL.format("go")}echo 1 passed, 0 failed'
+        begin 1 bash -c '{MEETS.format("one", "two")}'
+        begin 1 bash -c '{MEETS.format("two", "one")}'
         (sleep 0.5; touch go) &
         begin 1 bash -c 'echo 1 passed, 0 failed'
         [ ${{#names[@]}} -le 2 ] || echo three
@@ -92,7 +94,7 @@ def at_once(cases: Cases) -> None:
     source = f". {TOP}/tests/counts; processors=2"
     for name, (lines, wanted) in AT_ONCE.items():
         os.mkdir(name)
-        said = shell(f"{source}\n{lines}\nawait; finish", cwd=name).splitlines()
+        said = shell(f"{source}\n{lines}\nfinish", cwd=name).splitlines()
         printed = [it for it in said if re.fullmatch(r"\d+ passed, \d+ failed|three", it)]
         cases.same(name, wanted, "/".join(printed))
     # an interrupt ends the parts; what is in the background would ignore it
@@ -131,8 +133,9 @@ def whole(cases: Cases) -> None:
         count = len(shares[part])
         wanted = [f"{it}/{count}" for it in range(1, count + 1)]
         cases.same(f"and each share of {part}", str(wanted), str(shares[part]))
-    found = {f"{module}.{method}" for word in shares["tools"] for suite in dealing.tests_of([word])
-             for it in suite for *_, module, _, method in [it.id().split(".")]}
+    found = {f"{module}.{method}" for word in shares["tools"]
+             for it in dealing.names_of(dealing.tests_of([word]))
+             for *_, module, _, method in [it.split(".")]}
     wanted = [f"{os.path.basename(it)[:-3]}.{method}" for it in glob.glob(f"{TOP}/tests/tools/*.py")
               for method in re.findall(r"(?m)^    def (test_\w+)", read(it))]
     cases.same("the shares have all tests", str(sorted({*wanted})), str(sorted(found)))

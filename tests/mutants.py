@@ -136,7 +136,6 @@ class Trees:
                 shutil.copy2(f"{TOP}/{name}", f"{tree}/{name}")
             self.free.put(tree)
 
-
     def ended(self, tree: str, words: List[str]) -> Tuple[str, str]:
         """Runs a test of a copy to its end, with all that it started. Returns what it printed, and
         its numbers."""

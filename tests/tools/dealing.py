@@ -1,6 +1,6 @@
 """Loads the tests of sokotool: all, those of some names, or a share of their classes."""
 import unittest
-from typing import List, Sequence
+from typing import Iterator, List, Sequence
 
 from tests.runner import TOP, share_of
 
@@ -19,3 +19,12 @@ def classes(tests: unittest.TestSuite) -> List[unittest.TestSuite]:
     """The suites of single classes."""
     inner = [it for it in tests if isinstance(it, unittest.TestSuite)]
     return [it for suite in inner for it in classes(suite)] if inner else [tests]
+
+
+def names_of(tests: unittest.TestSuite) -> Iterator[str]:
+    """The names of the single tests, with their modules and classes."""
+    for it in tests:
+        if isinstance(it, unittest.TestSuite):
+            yield from names_of(it)
+        else:
+            yield it.id()

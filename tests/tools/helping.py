@@ -105,8 +105,8 @@ class Case(unittest.TestCase):
         return runner.call([PROGRAM, "audit", levels, answers], joined=True).output
 
     def takes_less(self, most: float, work: Callable[[], object]) -> None:
-        """Some work takes fewer processor seconds than `most`, as on an idle machine. Others may use
-        this one, so the best of four tries counts."""
+        """Some work takes fewer processor seconds than `most`, as on an idle machine. The best of
+        four tries counts, since others may use this one."""
         tries: List[float] = []
         while not tries or tries[-1] >= most and len(tries) < 4:
             before, began = pace(), used()

@@ -38,7 +38,7 @@ def line_of(it: Any, said: str) -> Any:
     """What a line of a report says after the number of its level, as the module's type."""
     kind, *words = said.split()
     names, numbers = words[::2], [int(word) for word in words if word.isdecimal()]
-    status, found = kind, dict.fromkeys(it.Line._fields, 0)
+    status, found = kind, {name: 0 for name in it.Line._fields}  # type: str, Dict[str, Any]
     if kind == "solved":
         found.update(zip(names, numbers))
     elif kind == "unsolvable":

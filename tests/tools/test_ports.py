@@ -43,7 +43,8 @@ class Retarget(Case):
         self.assertEqual(re.findall(r"\w+toptr i64 \S+|ptrto\w+ ptr \S+", made),
                          ["inttoptr i64 %q.wide", "ptrtoint ptr %q"])
         said = self.made("wasm32", "  store { i8, i8, ptr } %v, ptr %p, align 8\n")[0]
-        self.assertRegex(said, "retarget: line 11 keeps a pointer in an unknown form: (.|\n)*status 1")
+        self.assertRegex(said, "retarget: line 11 keeps a pointer in an unknown form: (.|\n)*"
+                               "status 1")
 
     def test_bytes_that_are_looked_up(self) -> None:
         """Of an index the highest bit and the lowest four count, as on x86-64."""
