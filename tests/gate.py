@@ -35,7 +35,7 @@ RUN = f'cd {TOP} && . tests/counts && part "$@" && finish'
 BUSY = "i=0; while [ $i != 200000 ]; do i=$((i + 1)); done; "
 # parts on two processors in bash, each in a line, and the numbers that the gate prints; those of a
 # part that failed once more at the end. Where it runs one too early or too late, a part has none
-UNTIL = "until [ -e {} ]; do sleep 0.05; done"
+UNTIL = "for it in $(seq 600); do [ ! -e {} ] || break; sleep 0.1; done"
 MEETS = f"touch {{}}; {UNTIL}; {UNTIL.format('go')}; echo 1 passed, 0 failed"
 LOCKS = "mkdir lock && sleep 0.5 && rmdir lock && echo 1 passed, 0 failed"
 AT_ONCE = {

@@ -241,7 +241,7 @@ class Signs(Case):
         while not re.search(rb"found: level 2 for \d+ s\r", said):  # it alone is at work
             said += os.read(ours, 65536)
         os.killpg(running.pid, signal.SIGINT)
-        self.assertEqual(running.wait(), 130)
+        self.assertEqual(running.wait(600), 130)
         said += os.read(ours, 65536)
         record = "level %d\nunsolvable\npattern 2,2 @ *\nend\n"
         self.assertEqual(self.read("answers").decode(), "sokoban-answers 1\n" + record % 1 +
@@ -253,7 +253,7 @@ class Signs(Case):
         self.write("levels", hall(60, 60))
         import pty  # which Windows lacks
         ours, theirs = pty.openpty()
-        self.find("levels", "--seconds", "5", stdout=subprocess.DEVNULL, stderr=theirs).wait()
+        self.find("levels", "--seconds", "5", stdout=subprocess.DEVNULL, stderr=theirs).wait(600)
         os.close(theirs)
         said = os.read(ours, 65536).decode()
         self.assertRegex(said, " \rfind: 0 of 1 done, 0 found: level 1 for [1-4] s")
