@@ -268,7 +268,7 @@ class Signs(Case):
         time.sleep(1)
         running.kill()
         # The pipe ends when no process has it open.
-        self.assertEqual(running.communicate(timeout=100)[0], b"")
+        self.assertEqual(running.communicate(timeout=30)[0], b"")
 
 
 class Search(Case):
