@@ -62,9 +62,9 @@ AT_ONCE = {
         """, "1 passed, 0 failed/2 passed, 0 failed/3 passed, 0 failed"),
     "one has no numbers": ("""
         begin 1 bash -c 'exit 0'
-        begin 1 bash -c 'sleep 0.5; echo 2 passed, 0 failed'
-        begin 1 bash -c 'sleep 1; echo 3 passed, 0 failed'
-        """, "2 passed, 0 failed/3 passed, 0 failed/5 passed, 1 failed"),
+        begin 1 bash -c 'echo 2 passed, 0 failed'
+        begin 1 bash -c 'echo 2 passed, 0 failed'
+        """, "2 passed, 0 failed/2 passed, 0 failed/4 passed, 1 failed"),
 }
 # what stands for tests/counts and says what the gate begins
 STUB = """
