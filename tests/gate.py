@@ -87,6 +87,9 @@ def counting(cases: Cases) -> None:
     line = shell(RUN, "bash", "1", "bash", "-c", command).splitlines()[-3]
     row = re.fullmatch(r"bash -c i=0; .* 2       0        1 +([\d.]+)  why", line)
     cases.holds("the table says seconds and reasons", row and float(row[1]) > 0.1, line)
+    words = "echo", "crates/a/out/b", "crates/c/out/d", "2/3"
+    line = shell(RUN, "bash", "0", *words).splitlines()[-3]
+    cases.holds("and programs without their folders", line.startswith("echo b d 2/3 "), line)
 
 
 def at_once(cases: Cases) -> None:
