@@ -1,10 +1,16 @@
-"""tests/run gate: tests how the gate counts, by planted parts, and what tests/bare hands on. Ends
-in 'N passed, M failed'."""
+"""tests/run gate: tests how the gate counts and how it runs parts at once, by planted parts; that
+it runs each part and each share of one; and what tests/bare hands on. Ends in 'N passed, M failed'.
+"""
+import glob
 import os
 import re
 import signal
+from collections import Counter, defaultdict
+from typing import Dict, List
 
-from tests.runner import TOP, Cases, call, decode, enter_folder, shell
+from tests import mutants
+from tests.runner import TOP, Cases, call, decode, enter_folder, read, shell, write
+from tests.tools import dealing
 
 # a part as a command of bash, the least number of its cases, and the numbers that the gate counts
 PLANTED = (
@@ -23,9 +29,50 @@ PLANTED = (
     ("echo 5 passed, 0 failed; echo more", 5, "0 passed, 1 failed"),
     ("exit 0", 0, "0 passed, 1 failed"),
     ("echo Traceback; exit 1", 0, "0 passed, 1 failed"),
+    ("kill -KILL $PPID; exit 0", 0, "0 passed, 1 failed"),
 )
 RUN = f'cd {TOP} && . tests/counts && part "$@" && finish'
 BUSY = "i=0; while [ $i != 200000 ]; do i=$((i + 1)); done; "
+# parts on two processors in bash, each in a line, and the numbers that the gate prints; those of a
+# part that failed once more at the end. Where it runs one too early or too late, a part has none
+UNTIL = "for it in $(seq 600); do [ ! -e {} ] || break; sleep 0.1; done"
+MEETS = f"touch {{}}; {UNTIL}; {UNTIL.format('go')}; echo 1 passed, 0 failed"
+LOCKS = "mkdir lock && sleep 0.5 && rmdir lock && echo 1 passed, 0 failed"
+AT_ONCE = {
+    "parts are printed as they end": (f"""
+        begin 1 bash -c '{UNTIL.format("counted")}; echo 5 passed, 1 failed; exit 1'
+        begin 1 bash -c 'echo 2 passed, 0 failed'
+        while [ ${{#names[@]}} = 2 ]; do count_ended; done
+        touch counted
+        """, "2 passed, 0 failed" + "/5 passed, 1 failed" * 2 + "/7 passed, 1 failed"),
+    "two run at once, and the third waits": (f"""
+        begin 1 bash -c '{MEETS.format("one", "two")}'
+        begin 1 bash -c '{MEETS.format("two", "one")}'
+        (sleep 0.5; touch go) &
+        begin 1 bash -c 'echo 1 passed, 0 failed'
+        [ ${{#names[@]}} -le 2 ] || echo three
+        """, "1 passed, 0 failed/1 passed, 0 failed/1 passed, 0 failed/3 passed, 0 failed"),
+    "some take turns": (f"""
+        begin 1 turns bash -c '{LOCKS}'
+        begin 1 turns bash -c '{LOCKS}'
+        """, "1 passed, 0 failed/1 passed, 0 failed/2 passed, 0 failed"),
+    "one runs alone": ("""
+        begin 1 bash -c 'sleep 0.5; touch end; echo 1 passed, 0 failed'
+        part 1 bash -c '[ -e end ] && echo 2 passed, 0 failed'
+        """, "1 passed, 0 failed/2 passed, 0 failed/3 passed, 0 failed"),
+    "one has no numbers": ("""
+        begin 1 bash -c 'exit 0'
+        begin 1 bash -c 'echo 2 passed, 0 failed'
+        begin 1 bash -c 'echo 2 passed, 0 failed'
+        """, "2 passed, 0 failed/2 passed, 0 failed/4 passed, 1 failed"),
+}
+# what stands for tests/counts and says what the gate begins
+STUB = """
+log=said failed=0
+begin() { shift; [ "$1" != turns ] || shift; echo "$*"; }
+part() { begin "$@"; touch said.0.said; }
+finish() { :; }
+"""
 GIVEN = {"HOME": "/a b", "PATH": "/usr/bin:/bin", "TERM": '"', "https_proxy": "$x"}
 
 
@@ -36,26 +83,67 @@ def counting(cases: Cases) -> None:
         cases.same(f"at least {least}: {command}", wanted, said[-2])
         status = int(" 0 failed" not in wanted)
         cases.same(f"the status of: {command}", f"status {status}", said[-1])
-    two = 'part 1 bash -c "echo 5 passed, 0 failed"; part 1 bash -c "echo 2 passed, 0 failed"; '
-    both = shell(f"cd {TOP} && . tests/counts; {two}finish")
-    cases.same("two parts", "7 passed, 0 failed\nstatus 0\n", both[-28:])
-    two = ('begin 1 bash -c "sleep 0.2; echo 5 passed, 1 failed; exit 1"; '
-           'begin 1 bash -c "echo 2 passed, 0 failed"; ')
-    said = shell(f"cd {TOP} && . tests/counts; {two}await; finish").splitlines()
-    cases.same("two at once", "7 passed, 1 failed/status 1", "/".join(said[-2:]))
-    cases.same("they are in order", "5 passed, 1 failed/2 passed, 0 failed", "/".join(said[:2]))
-    # an interrupt ends the parts too; what is in the background would ignore it
-    part = os.path.abspath("part")
-    ends = (f"begin 1 bash -c 'echo $$ >{part}; exec sleep 61'; "
-            f"(until [ -s {part} ]; do sleep 0.1; done; kill -INT $$) & await")
-    ended = shell(f"cd {TOP} && . tests/counts; {ends}",
-                  preexec_fn=lambda: signal.signal(signal.SIGINT, signal.SIG_DFL))
-    left = shell("for it in {1..99}; do kill -0 $(cat part) 2>/dev/null || exit 1; sleep 0.1; done")
-    cases.same("an interrupt", "status 130\nstatus 1\n", ended + left)
     command = f"{BUSY}echo p: skipped: what: why; echo 2 passed, 0 failed, 1 skipped"
     line = shell(RUN, "bash", "1", "bash", "-c", command).splitlines()[-3]
     row = re.fullmatch(r"bash -c i=0; .* 2       0        1 +([\d.]+)  why", line)
     cases.holds("the table says seconds and reasons", row and float(row[1]) > 0.1, line)
+    words = "echo", "crates/a/out/b", "crates/c/out/d", "2/3"
+    line = shell(RUN, "bash", "0", *words).splitlines()[-3]
+    cases.holds("and programs without their folders", line.startswith("echo b d 2/3 "), line)
+
+
+def at_once(cases: Cases) -> None:
+    """A case for each of the runs of several parts, and one for an interrupt."""
+    source = f". {TOP}/tests/counts; processors=2"
+    for name, (lines, wanted) in AT_ONCE.items():
+        os.mkdir(name)
+        said = shell(f"{source}\n{lines}\nfinish", cwd=name).splitlines()
+        printed = [it for it in said if re.fullmatch(r"\d+ passed, \d+ failed|three", it)]
+        cases.same(name, wanted, "/".join(printed))
+    # an interrupt ends the parts; what is in the background would ignore it
+    ends = "begin 1 bash -c 'echo $$ >{0}; exec sleep 61'\n"
+    waits = "(until [ -s one ] && [ -s two ]; do sleep 0.1; done; kill -INT $$) &\nawait"
+    write("ends", f"{source}\n{ends.format('one')}{ends.format('two')}{waits}")
+    ended = shell("bash ends >said 2>&1",  # what goes on keeps no pipe open
+                  preexec_fn=lambda: signal.signal(signal.SIGINT, signal.SIG_DFL))
+    cases.same("an interrupt", "status 130\n", ended)
+    for it in ("one", "two"):
+        left = shell(f"for it in {{1..99}}; do kill -0 $(cat {it}) || exit; sleep 0.1; done 2>&-")
+        cases.same(f"it ends part {it}", "status 1\n", left)
+
+
+def whole(cases: Cases) -> None:
+    """Cases: the gate runs each part, and each share of one; the shares are all tests and edits."""
+    for name in (".ci/run", "tests/bare"):
+        os.makedirs(os.path.dirname(name), exist_ok=True)
+        write(name, read(f"{TOP}/{name}"))
+    os.chmod("tests/bare", 0o755)
+    write("tests/counts", STUB)
+    os.mkdir("packaging")
+    for name in ("sources", "needs", "build"):
+        os.symlink("/bin/true", f"packaging/{name}")
+    said = shell("bash .ci/run").splitlines()
+    begun = [it.split()[1:] for it in said if it.startswith("tests/run ")]
+    heads = (re.match(r'"""tests/run (\w+)', read(it))
+             for it in glob.glob(f"{TOP}/tests/*.py") + glob.glob(f"{TOP}/tests/*/__main__.py"))
+    parts = {it[1] for it in heads if it}
+    cases.same("the gate runs each part", str(sorted(parts)), str(sorted({it[0] for it in begun})))
+    cases.same("and no part twice", "[]", str([it for it, n in Counter(said).items() if n > 1]))
+    shares: Dict[str, List[str]] = defaultdict(list)
+    for part, *words in begun:
+        shares[part] += [it for it in words if re.fullmatch(r"\d/\d", it)]
+    for part in ("tools", "mutants"):
+        count = len(shares[part])
+        wanted = [f"{it}/{count}" for it in range(1, count + 1)]
+        cases.same(f"and each share of {part}", str(wanted), str(shares[part]))
+    found = {f"{module}.{method}" for word in shares["tools"]
+             for it in dealing.names_of(dealing.tests_of([word]))
+             for *_, module, _, method in [it.split(".")]}
+    wanted = [f"{os.path.basename(it)[:-3]}.{method}" for it in glob.glob(f"{TOP}/tests/tools/*.py")
+              for method in re.findall(r"(?m)^    def (test_\w+)", read(it))]
+    cases.same("the shares have all tests", str(sorted({*wanted})), str(sorted(found)))
+    edits = [it for word in [*shares["mutants"], "timed"] for it in mutants.picked([word])]
+    cases.same("the shares have all edits", str(mutants.picked([])), str(sorted(edits)))
 
 
 def variables(cases: Cases) -> None:
@@ -66,7 +154,10 @@ def variables(cases: Cases) -> None:
     cases.same("tests/bare", str(sorted(GIVEN.items())), str(sorted(found.items())))
 
 
-cases, _folder = Cases("gate"), enter_folder()
-counting(cases)
-variables(cases)
-cases.finish()
+if __name__ == "__main__":
+    cases, _folder = Cases("gate"), enter_folder()
+    counting(cases)
+    at_once(cases)
+    whole(cases)
+    variables(cases)
+    cases.finish()

@@ -1,6 +1,6 @@
 """tests/run mutants PROGRAM [EDIT..]: plants the faults of tests/must-fail, or those named, one at
-a time in a copy of this tree, and runs the part or the test that has to fail there. Ends in 'N
-passed, M failed'.
+a time in a copy of this tree, and runs the part or the test that has to fail there. 'timed' names
+those whose test measures time, and 2/3 a share of the others. Ends in 'N passed, M failed'.
 
 An edit is a file NAME.edit, named after what the broken code does, with the lines
 
@@ -21,14 +21,16 @@ import resource
 import shutil
 import signal
 import subprocess
+import sys
 import tempfile
 import time
 from collections import defaultdict
 from concurrent.futures import ThreadPoolExecutor
 from queue import Queue
-from typing import Dict, Iterable, List, NamedTuple, Tuple
+from typing import Dict, Iterable, List, NamedTuple, Set, Tuple
 
-from tests.runner import TOP, Cases, arguments, decode, read, run, write
+from tests.runner import (TOP, Cases, arguments, decode, processes, read, run, share_of,
+                          write)
 
 COUNTS = re.compile(r"(\d+) passed, (\d+) failed(?:, (\d+) skipped)?")
 LIMIT = 1200  # seconds, on a machine that others keep busy too
@@ -108,11 +110,12 @@ def make_page(tree: str) -> None:
 
 
 class Trees:
-    """Copies of this tree, one for each processor, in which tests run."""
+    """Copies of this tree, one for each process, in which tests run."""
 
     def __init__(self, program: str, room: str):
         self.program, self.free = program, Queue()  # type: ignore[var-annotated]
-        self.count = len(os.sched_getaffinity(0))
+        self.running: Set[int] = set()
+        self.count = processes()
         for i in range(self.count):
             self.free.put(copied(f"{room}/{i}"))
 
@@ -127,32 +130,36 @@ class Trees:
                 make_page(tree)
             filled = [{"PROGRAM": self.program, "PAGE": f"{tree}/sokoaudit.html"}.get(it, it)
                       for it in words.split()]
-            return ended(tree, [f"{tree}/tests/run", "--first", *filled])
+            return self.ended(tree, [f"{tree}/tests/run", "--first", *filled])
         finally:
             for name in [file, "sokoaudit.html"] if file else []:
                 shutil.copy2(f"{TOP}/{name}", f"{tree}/{name}")
             self.free.put(tree)
 
+    def ended(self, tree: str, words: List[str]) -> Tuple[str, str]:
+        """Runs a test of a copy to its end, with all that it started. Returns what it printed, and
+        its numbers."""
+        with tempfile.TemporaryFile() as file:
+            ran = subprocess.Popen(words, stdin=subprocess.DEVNULL, stdout=file, stderr=file,
+                                   cwd=tree, start_new_session=True)
+            self.running.add(ran.pid)
+            with contextlib.suppress(subprocess.TimeoutExpired):
+                ran.wait(LIMIT)
+            self.running.remove(ran.pid)
+            end(ran.pid)
+            ran.wait()
+            file.seek(0)
+            said = decode(file.read())
+        last = said.splitlines()[-1:] or [""]
+        counts = COUNTS.fullmatch(last[0])
+        is_so = counts and ran.returncode == int(counts[2] != "0")
+        return said, last[0] if is_so else ""
 
-def ended(tree: str, words: List[str]) -> Tuple[str, str]:
-    """Runs a test of a copy to its end, with all that it started. Returns what it printed, and its
-    numbers."""
-    with tempfile.TemporaryFile() as file:
-        ran = subprocess.Popen(words, stdin=subprocess.DEVNULL, stdout=file, stderr=file,
-                               cwd=tree, start_new_session=True)
-        try:
-            ran.wait(LIMIT)
-        except subprocess.TimeoutExpired:
-            pass
-        with contextlib.suppress(ProcessLookupError):
-            os.killpg(ran.pid, signal.SIGKILL)
-        ran.wait()
-        file.seek(0)
-        said = decode(file.read())
-    last = said.splitlines()[-1:] or [""]
-    counts = COUNTS.fullmatch(last[0])
-    is_so = counts and ran.returncode == int(counts[2] != "0")
-    return said, last[0] if is_so else ""
+
+def end(group: int) -> None:
+    """Ends a group of processes."""
+    with contextlib.suppress(ProcessLookupError):
+        os.killpg(group, signal.SIGKILL)
 
 
 def together(tests: Iterable[str]) -> List[str]:
@@ -165,6 +172,18 @@ def together(tests: Iterable[str]) -> List[str]:
     return [" ".join([part, *(it for it in names if not any(it.startswith(f"{whole}.")
                                                             for whole in names))])
             for part, names in parts.items()]
+
+
+def picked(words: List[str]) -> List[str]:
+    """The files of the edits that are named. Those with the same test are in one share."""
+    if words != ["timed"] and not re.fullmatch(r"\d+/\d+", "".join(words[:1])):
+        return words or sorted(glob.glob(f"{TOP}/tests/must-fail/*"))
+    tests: Dict[str, List[str]] = defaultdict(list)
+    for path in picked([]):
+        tests["".join(re.findall("(?m)^test: (.*)", read(path)))].append(path)
+    timed = [it for it in tests if it.startswith("speed ")]
+    names = timed if words == ["timed"] else share_of(sorted({*tests} - {*timed}), words[0])
+    return [path for it in names for path in tests[it]]
 
 
 def judge(cases: Cases, edit: Edit, result: Tuple[str, str]) -> None:
@@ -189,9 +208,10 @@ def judge_whole(cases: Cases, test: str, result: Tuple[str, str]) -> None:
 def main() -> None:
     """Runs the part."""
     began = time.monotonic()
+    signal.signal(signal.SIGTERM, lambda *_: sys.exit(143))
     program, *named = arguments("mutants PROGRAM [EDIT..]")
     cases, edits, texts = Cases("mutants"), [], {}
-    for path in named or sorted(glob.glob(f"{TOP}/tests/must-fail/*")):
+    for path in picked(named):
         try:
             edit = read_edit(path)
             texts[edit.name] = apply(edit)
@@ -208,10 +228,17 @@ def main() -> None:
         with ThreadPoolExecutor(trees.count) as pool:
             before = {it: pool.submit(trees.test, it) for it in together(it.test for it in edits)}
             after = [pool.submit(trees.test, it.test, it.file, texts[it.name]) for it in edits]
-            for test, result in before.items():
-                judge_whole(cases, test, result.result())
-            for edit, result in zip(edits, after):
-                judge(cases, edit, result.result())
+            try:
+                for test, result in before.items():
+                    judge_whole(cases, test, result.result())
+                for edit, result in zip(edits, after):
+                    judge(cases, edit, result.result())
+            except BaseException:  # an interrupt, or the gate ends
+                for result in [*before.values(), *after]:
+                    result.cancel()
+                for group in [*trees.running]:
+                    end(group)
+                raise
     used = resource.getrusage(resource.RUSAGE_CHILDREN)
     cases.say(f"{len(edits)} edits in {time.monotonic() - began:.0f} s, with "
               f"{used.ru_utime + used.ru_stime:.0f} s of the processors")

@@ -137,11 +137,12 @@ class Cases:
         return is_soon
 
     def side_by_side(self, parts: Mapping[str, Sequence[Any]]) -> Dict[str, Any]:
-        """Runs parts at once, by their names, each in a process and a folder of its own, and adds
-        their cases. A part is a function, which gets its cases first, and more arguments. Returns
-        what the functions return."""
+        """Runs parts by their names, at once if there are processors, each in a process and a
+        folder of its own, and adds their cases. A part is a function, which gets its cases first,
+        and more arguments. Returns what the functions return."""
         returned = {}
-        with ProcessPoolExecutor(mp_context=multiprocessing.get_context("fork")) as pool:
+        forks = multiprocessing.get_context("fork")
+        with ProcessPoolExecutor(processes(), mp_context=forks) as pool:
             waiting = {name: pool.submit(_part, f"{self.part}: {name}", *part)
                        for name, part in parts.items()}
             for name, it in waiting.items():
@@ -194,6 +195,18 @@ def arguments(usage: str) -> List[str]:
         sys.exit(f"usage: tests/run {usage}; 'make' builds the program of these sources, "
                  "crates/sokoaudit/out/sokoaudit")
     return [os.path.realpath(it) if os.path.exists(it) else it for it in words]
+
+
+def processes() -> int:
+    """How many processes a part may use: as many as the gate says, or one for each processor."""
+    return int(os.environ.get("RT_JOBS") or len(os.sched_getaffinity(0)))
+
+
+def share_of(every: Sequence[Any], word: str) -> Sequence[Any]:
+    """The share that a word such as 2/3 names: each third one, from the second on."""
+    number, count = map(int, word.split("/"))
+    assert 0 < number <= count, word
+    return every[number - 1::count]
 
 
 def enter_folder() -> "tempfile.TemporaryDirectory[str]":

@@ -1,8 +1,10 @@
-"""Whether the page answers within a tenth of a second while it works, on the largest texts."""
+"""Whether the page answers within a tenth of a second while it works, on the largest texts, as on
+an idle machine."""
 from typing import Callable, List, Tuple
 
 from tests.page.comparing import HEADER, Comparison
 from tests.page.driving import HIDE, IDLE, Tab
+from tests.tools.helping import pace
 
 LONGEST, TRIES = 100, 8
 LEVEL = b"#####\n#@$.#\n#####\n"
@@ -15,11 +17,11 @@ BOARD = b"#" * 100 + b"\n#@" + b" " * 97 + b"#\n" + ROW * 16 + b"".join(
 
 
 def answers(check: Comparison, tab: Tab, name: str, work: Callable[[], None]) -> None:
-    """A case: the page answers while it works. The best of some tries counts, since a busy machine
-    makes the processor slower too."""
+    """A case: the page answers while it works. The best of some tries counts, since others may use
+    the machine."""
     found: List[float] = []
     while not found or found[-1] >= LONGEST and len(found) < TRIES:
-        found.append(round(tab.longest(work)))
+        found.append(round(tab.longest(work) / pace()))
     check.cases.holds(f"answers within {LONGEST} ms: {name}", found[-1] < LONGEST, f"{found} ms")
 
 

@@ -1,20 +1,16 @@
 """tests/run tools PROGRAM [TEST..]: the tests of sokotool, all or some by their names, such as
-test_find. PROGRAM is the sokoaudit that they run. Ends in 'N passed, M failed'."""
+test_find, or a share of their classes, such as 2/3. PROGRAM is the sokoaudit that they run. Ends in
+'N passed, M failed'."""
 import sys
 import unittest
 
 from tests.runner import Cases, arguments
-from tests.tools import helping
+from tests.tools import dealing, helping
 
 helping.PROGRAM, *names = arguments("tools PROGRAM [TEST..]")
-loader = unittest.defaultTestLoader
-if names:
-    tests = loader.loadTestsFromNames([f"tests.tools.{it}" for it in names])
-else:
-    tests = loader.discover("tests/tools", top_level_dir=".")
 cases = Cases("tools")
 runner = unittest.TextTestRunner(stream=sys.stdout, verbosity=0, failfast=cases.ends_first)
-result = runner.run(tests)
+result = runner.run(dealing.tests_of(names))
 for test, why in result.skipped:
     cases.skip(str(test), why)
 failed = len(result.failures) + len(result.errors)

@@ -6,8 +6,9 @@ import os
 import shutil
 import sys
 import tempfile
+import time
 import unittest
-from typing import Any, Dict, NamedTuple, Tuple, Union
+from typing import Any, Callable, Dict, List, NamedTuple, Tuple, Union
 
 from sokotool.main import main
 
@@ -24,11 +25,20 @@ needs_a_memory_limit = unittest.skipIf(LACKING, "there is no limit of memory")
 PROGRAM = os.path.join(TOP, "crates/sokoaudit/out/sokoaudit")
 SAMPLES = os.path.join(TOP, "samples")
 ONE = "#####\n#@$.#\n#####\n"
+PIECE = 0.016  # the processor seconds of a piece of work on an idle machine
 
 
 def plain_variables() -> Dict[str, str]:
     """Returns the variables of this process, without one by which Python keeps nothing back."""
     return {name: it for name, it in os.environ.items() if name != "PYTHONUNBUFFERED"}
+
+
+def pace() -> float:
+    """Returns how many times as much processor time a fixed piece of work takes as on an idle
+    machine."""
+    began = time.process_time()
+    sorted(map(str, range(100_000)))
+    return (time.process_time() - began) / PIECE
 
 
 def used() -> float:
@@ -93,6 +103,17 @@ class Case(unittest.TestCase):
     def audit(self, levels: str, answers: str) -> bytes:
         """Runs sokoaudit, and returns its report."""
         return runner.call([PROGRAM, "audit", levels, answers], joined=True).output
+
+    def takes_less(self, most: float, work: Callable[[], object]) -> None:
+        """Some work takes fewer processor seconds than `most`, as on an idle machine. The best of
+        four tries counts, since others may use this one."""
+        tries: List[float] = []
+        while not tries or tries[-1] >= most and len(tries) < 4:
+            before, began = pace(), used()
+            work()
+            taken = used() - began
+            tries.append(2 * taken / (before + pace()))
+        self.assertLess(tries[-1], most, tries)
 
     def convert(self, text: Union[str, bytes], name: str = "mine.txt") -> Converted:
         """Converts one file, and returns the run, the levels' text and the answers' text."""

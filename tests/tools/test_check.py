@@ -701,6 +701,7 @@ class Unchanged(Check):
         self.assertLess(min(times[1]), min(times[0]), times)
 
 
+@is_slow
 @unittest.skipUnless(os.path.isdir(MAPS), "Debian's cavepacker-data isn't installed")
 class Maps(Check):
     def test_maps_in_a_minute(self) -> None:

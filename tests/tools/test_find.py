@@ -2,6 +2,7 @@
 import contextlib
 import os
 import random
+import re
 import signal
 import subprocess
 import time
@@ -230,28 +231,32 @@ class Signs(Case):
     @not_on_windows
     def test_interrupt_keeps_what_was_found(self) -> None:
         self.write("levels", "\n".join([CORNER, hall(60, 60), CORNER]))
-        with open("answers", "wb") as answers, open("said", "wb") as said:
+        import pty  # which Windows lacks
+        ours, theirs = pty.openpty()
+        with open("answers", "wb") as answers:
             running = self.find("levels", "--seconds", "100", "--jobs", "3", stdout=answers,
-                                stderr=said)
-            while b"level 1" not in self.read("said"):
-                time.sleep(0.05)
-            time.sleep(3)
-            os.killpg(running.pid, signal.SIGINT)
-            self.assertEqual(running.wait(60), 130)
+                                stderr=theirs)
+        os.close(theirs)
+        said = b""
+        while not re.search(rb"found: level 2 for \d+ s\r", said):  # it alone is at work
+            said += os.read(ours, 65536)
+        os.killpg(running.pid, signal.SIGINT)
+        self.assertEqual(running.wait(600), 130)
+        said += os.read(ours, 65536)
         record = "level %d\nunsolvable\npattern 2,2 @ *\nend\n"
         self.assertEqual(self.read("answers").decode(), "sokoban-answers 1\n" + record % 1 +
                          record % 3)
-        self.assertEqual(self.read("said").decode().splitlines()[-1], total(3, found=2, left=1))
+        self.assertEqual(said.decode().splitlines()[-1], total(3, found=2, left=1))
 
     @not_on_windows
     def test_terminal_names_the_level_at_work(self) -> None:
         self.write("levels", hall(60, 60))
         import pty  # which Windows lacks
         ours, theirs = pty.openpty()
-        self.find("levels", "--seconds", "3", stdout=subprocess.DEVNULL, stderr=theirs).wait(60)
+        self.find("levels", "--seconds", "5", stdout=subprocess.DEVNULL, stderr=theirs).wait(600)
         os.close(theirs)
         said = os.read(ours, 65536).decode()
-        self.assertIn(" \rfind: 0 of 1 done, 0 found: level 1 for 1 s", said)
+        self.assertRegex(said, " \rfind: 0 of 1 done, 0 found: level 1 for [1-4] s")
         self.assertTrue(said.rstrip().endswith(total(1, stopped=1)), said)
 
     def test_searches_end_with_their_parent(self) -> None:
@@ -263,7 +268,7 @@ class Signs(Case):
         time.sleep(1)
         running.kill()
         # The pipe ends when no process has it open.
-        self.assertEqual(running.communicate(timeout=20)[0], b"")
+        self.assertEqual(running.communicate(timeout=30)[0], b"")
 
 
 class Search(Case):

@@ -170,8 +170,8 @@ class Lists(Case):
 
     @unittest.skipUnless(os.path.isdir(MAPS), "there is no cavepacker-data")
     def test_cavepacker(self) -> None:
-        """Lists of a thousand solutions, by title and by number."""
-        files = sorted(glob.glob(MAPS + "/*.so[kl]"))
+        """Lists of hundreds of solutions, by title and by number."""
+        files = sorted(glob.glob(MAPS + "/*.so[kl]"))[:700]
         self.tool("convert", "mine", *files)
         found = levels.read(self.read("mine.xsb"))
         letters = solved(self.read("mine.answers"))

@@ -1,7 +1,7 @@
 """The page in a real browser: what is drawn, and its address."""
 import re
 
-from tests.tools.helping import ONE
+from tests.tools.helping import ONE, pace
 from tests.tools.test_page import TITLES
 from tests.tools.viewing import CORRIDOR, HASH, SAID, Page, shared
 
@@ -88,6 +88,13 @@ class Eye(Page):
         self.open("#2")
         self.assertEqual(self.all(".letters .bad"), ["R"])
         self.assertEqual(self.all("#copy"), ["copy"])
+
+    def test_refused_letter_is_not_played(self) -> None:
+        self.walk("#1:end")
+        self.assertEqual(self.all(".count b"), ["3", "1", "1"])
+        shared.press("ArrowRight", "End")
+        self.holds(HASH, "#1:3")
+        self.assertEqual(self.all(".count b"), ["3", "1", "1"])
 
     def test_cut_title_has_a_tooltip(self) -> None:
         title = "A title that is longer than any card is wide"
@@ -183,15 +190,15 @@ class Large(Page):
     """What is large: the page answers while it works."""
 
     def answers_during(self, work: str, done: str) -> None:
-        """The page is never silent for more than a tenth of a second. The least of three runs
-        counts, since others may slow it down."""
+        """The page is never silent for more than a tenth of a second, as on an idle machine. Others
+        may use this one, so the best of four tries counts."""
         def watched() -> None:
             shared.ask(f"{{ {work}; }} 0")  # a block, since it may run again
             shared.until(done)
 
         longest = 0.0
-        for _ in range(3):
-            longest = shared.longest(watched)
+        for _ in range(4):
+            longest = shared.longest(watched) / pace()
             if longest < LONGEST:
                 break
         self.assertLess(longest, LONGEST)
