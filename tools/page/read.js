@@ -17,7 +17,8 @@ class Reading {
             for (const it of part.faults) this.say(part, it.number, it.words, it.isNote);
         }
         this.text = utf8(`${this.lines.join("\n")}\n`);
-        this.levels = levelsIn(this.text, spansOf(this.text));
+        this.spans = spansOf(this.text);
+        this.levels = levelsIn(this.text, this.spans);
         this.boards = [];
         // of each level, the letters for it, and whether some of them solve it
         this.chosen = this.levels.map(() => []);
@@ -32,14 +33,18 @@ class Reading {
         this.lines.push(line);
         this.from.push(it);
     }
-    putLine({ row, line, number, starts }, part) {
+    putLine({ row, line, number, starts, isLeftOut }, part) {
         const it = { part, number };
+        if (isLeftOut) this.isChanged = true;
+        if (isLeftOut) return;
         if (starts && this.lines.length && isRow(this.lines.at(-1))) this.put("", it), this.isChanged = true;
         const made = row?.rows ?? [isRow(line) ? `; ${line}` : line];
         this.isChanged ||= made.length > 1 || made[0] !== line;
         for (const text of made) this.put(text, row ? it : { ...it, line: text });
-        if (row?.rest?.trim()) this.put(row.rest.trim(), { ...it, line: row.rest });
-        if (row?.kind === "quoted") part.faults.push({ number, words: "what stands beside the row was left out", isNote: true });
+        if (row?.title) this.put(`Title: ${row.title}`, it);
+        if (row?.rest) this.put(isRow(row.rest) ? `; ${row.rest}` : row.rest, { ...it, line: row.rest });
+        if (row?.words) it.words = row.words;
+        if (row?.kind === "beside") part.faults.push({ number, words: "what is beside the row was left out", isNote: true });
     }
     partOf(i) {
         return this.from[this.places[i].first].part;
@@ -50,6 +55,11 @@ class Reading {
     add(i, ...some) {
         this.chosen[i].push(...some);
         if (some.some(({ solution }) => !solution.why)) this.isSolved[i] = 1;
+    }
+
+    // says that lines belong to solutions, so that they are no titles
+    use(lines) {
+        for (const line of lines) line.isUsed = this.isUsed = true;
     }
 
     // ---- letters
@@ -71,11 +81,12 @@ class Reading {
     }
     // Tries a group of letters on the level above it. Returns those that don't solve it.
     tryGroup(i, group, left, heads) {
-        const { isHeaded, isSaved, isWords, isTitle, pieces, number, part, odd } = group;
+        const { isHeaded, isSaved, isWords, isTitle, pieces, number, part, odd, heading } = group;
         const none = { found: [], failed: [{ number, pieces, solution: { letters: "", why: "no level is above" } }] };
         const { found, failed } = i < 0 ? none : solutionsIn(group, this.boardAt(i));
         if (i >= 0) this.add(i, ...found.map(it => ({ ...it, part, isSaved })));
-        if (found[0]?.isFront) left.splice(0, left.length, ...left.filter(it => it.number !== group.head));
+        if (found[0]?.isFront) left.splice(0, left.length, ...left.filter(it => it.number !== group.front.number));
+        this.use([heading, ...found.flatMap(({ lines }) => lines)].filter(it => it && found.length));
         if (!pieces.length) heads.push(group);
         if (found.length && odd) this.say(part, number, `${odd} were read as letters`, true);
         if (found.length && isTitle) this.say(part, number, `the title has letters that solve level ${i + 1}, and was taken as its solution too`, true);
@@ -90,6 +101,7 @@ class Reading {
         const solution = played(this.boardAt(i), joined(alone.flatMap(it => it.pieces)));
         if (solution.why) return false;
         this.add(i, { solution, number: alone[0].number, part: alone[0].part });
+        this.use(alone.flatMap(({ pieces }) => pieces.map(({ line }) => line)));
         return true;
     }
     // Tries letters, whole and line by line, on the level below and on all that have no solution. If they solve none and are meant for the
@@ -104,6 +116,7 @@ class Reading {
                 if (it.part === this.partOf(Math.max(0, it.level))) this.say(it.part, some.number, `letters that solve level ${i + 1}`, true);
                 isPlaced = true;
             }
+            if (isPlaced) this.use((some === whole ? it.pieces : [some]).map(({ line }) => line));
             if (isPlaced && some === whole) break;
         }
         if (!it.isSure || isPlaced) return;
@@ -147,6 +160,17 @@ class Reading {
         }
         return ["sokoban-answers 1", ...records, ""].join("\n");
     }
+    // Says in which lines words beside rows were no title, no letters that solve the level, and no names of a program.
+    sayBeside() {
+        const numbers = new Map(this.parts.map(part => [part, []]));
+        for (const [i, { first }] of this.places.entries()) {
+            const { part, number, words = "" } = this.from[first], isUsed = this.chosen[i].some(it => it.number === number && !it.solution.why);
+            if (/[\p{L}#]/u.test(isUsed ? words.replace(AMONG_WORDS, "") : words)) numbers.get(part).push(number);
+        }
+        for (const [part, some] of numbers) {
+            if (some.length) this.say(part, 0, `what is beside the rows is read as text: line${some.length > 1 ? "s" : ""} ${few(some)}`, true);
+        }
+    }
     // Whether the bytes of the only part are the level text as they are.
     isSame() {
         const [{ isAlone, encoding, text }] = this.parts;
@@ -158,7 +182,9 @@ class Reading {
             const { boxes, off } = this.boardAt(i), { part, number } = this.from[this.places[i].first];
             if (boxes && !off) this.say(part, number, `level ${i + 1} is solved as it stands`, true);
         }
+        this.sayBeside();
         const answers = this.answers(), isSame = this.isSame(), isOne = this.parts.length === 1;
+        if (this.isUsed) this.levels = levelsIn(this.text, this.spans, number => this.from[number - 1]?.isUsed);
         for (const [i, level] of this.levels.entries()) {
             const { number, part } = this.from[this.places[i].first];
             Object.assign(level, { line: number, file: isOne ? undefined : part.name });

@@ -154,8 +154,8 @@ function sayingOf(line) {
     return { title, name, above, isBlank: isBlank(line), isShort: isPlain && !above && !isBlank(line) && ONLY_LETTERS.test(line) };
 }
 
-// the levels at these spans of a text: number, first line, title and span
-function levelsIn(text, spans) {
+// The levels at these spans of a text: number, first line, title and span. Some lines, given by their numbers, are no titles without a key.
+function levelsIn(text, spans, isNoTitle = () => false) {
     const levels = [], gaps = [new Gap(true)], sayings = new Map();
     const start = text.startsWith("\xef\xbb\xbf") ? 3 : 0;
     eachLine(text, (line, number, at, _, count) => {
@@ -169,7 +169,8 @@ function levelsIn(text, spans) {
                 saying = sayingOf(line);
                 if (sayings.size < MOST_CACHED) sayings.set(line, saying);
             }
-            gaps.at(-1).add(line, count, saying);
+            const { title, name } = saying;
+            if (title !== null || name !== null || !isNoTitle(number)) gaps.at(-1).add(line, count, saying);
         }
     }, start, true);
     const titles = gaps.map(gap => gap.keyed), last = titles.at(-1);
