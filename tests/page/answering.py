@@ -4,7 +4,7 @@ from typing import Callable, List, Tuple
 from tests.page.comparing import HEADER, Comparison
 from tests.page.driving import HIDE, IDLE, Tab
 
-LONGEST, TRIES = 100, 8
+LONGEST, TRIES = 100, 3
 LEVEL = b"#####\n#@$.#\n#####\n"
 MOST = 33554432
 INSIDE = "$('page').contentDocument"

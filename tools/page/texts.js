@@ -282,7 +282,7 @@ class RecordData {
         this.#span = [at, end];
     }
     get bytes() {
-        return this.#bytes.slice(...this.#span);
+        return this.#bytes.subarray(...this.#span);
     }
     get body() {
         return this.#body ??= bodyIn(textOf(this.bytes), this.line);
@@ -295,7 +295,23 @@ class RecordData {
     }
 }
 
-const SLICE = 500;
+const SLICE = 500, LONGEST_PIECE = 1 << 16;
+// The lines of a record in slices, so that no message is long to read. A long line of letters is cut into several with the same number.
+function slicesOfBody(body, kind) {
+    const slices = [];
+    let left = 0;
+    for (const [number, line] of body) {
+        for (let at = 0; at < line.length; at += LONGEST_PIECE) {
+            const piece = kind === "solution" ? line.slice(at, at + LONGEST_PIECE) : line;
+            if (left <= 0) slices.push([]), left = LONGEST_PIECE;
+            left -= piece.length + 100;
+            slices.at(-1).push([number, piece]);
+            if (piece === line) break;
+        }
+    }
+    return slices;
+}
+
 // A result in slices, so that no message is long to read: some levels, the records of some, and the verdicts on some.
 function slicesOf({ found, records, report }) {
     const all = [...records], verdicts = Object.entries(verdictsIn(report)), slices = [];

@@ -179,7 +179,7 @@ const tasks = {
     async judged({ rows, kind, bytes, first, body = bodyIn(textOf(bytes), first) }) {
         const machine = await Machine.start(), lines = bytesOf(body.map(([, line]) => `${line}\n`).join(""));
         return { line: machine.judged(bytesOf(rows.join("\n")), kind === "unsolvable" ? CERTIFICATE_KIND : SOLUTION_KIND, lines,
-            body.map(([number]) => number)), body };
+            body.map(([number]) => number)), slices: bytes ? slicesOfBody(body, kind) : [] };
     },
     // The page of a result, to keep. No text may end the block of its data: '<' is escaped.
     async page({ parts: [before, after], result }) {
