@@ -8,7 +8,7 @@ const placeOf = (parts, part, number) => [parts.length > 1 || !number ? part.nam
 class Reading {
     constructor(parts, spansOf, tell) {
         // of each line of the made level text, what it is made of: { part, number }, and { line } if it is no row
-        Object.assign(this, { parts, tell, lines: [], from: [], said: [], isChanged: false });
+        Object.assign(this, { parts, tell, lines: [], from: [], beside: [], said: [], isChanged: false });
         for (const [p, part] of parts.entries()) {
             tell(`Looking for rows in ${part.name}`);
             findRows(part);
@@ -42,8 +42,10 @@ class Reading {
         this.isChanged ||= made.length > 1 || made[0] !== line;
         for (const text of made) this.put(text, row ? it : { ...it, line: text });
         if (row?.title) this.put(`Title: ${row.title}`, it);
-        if (row?.rest) this.put(isRow(row.rest) ? `; ${row.rest}` : row.rest, { ...it, line: row.rest });
-        if (row?.words) it.words = row.words;
+        if (row?.rest) {
+            this.beside.push({ ...it, line: row.rest, words: row.words });
+            this.put(isRow(row.rest) ? `; ${row.rest}` : row.rest, this.beside.at(-1));
+        }
         if (row?.kind === "beside") part.faults.push({ number, words: "what is beside the row was left out", isNote: true });
     }
     partOf(i) {
@@ -71,11 +73,11 @@ class Reading {
             this.tell(`Trying the letters of level ${i + 1} of ${levels.length}`);
             const gap = from.slice(i < 0 ? 0 : places[i].end, places[i + 1]?.first).filter(it => it?.line !== undefined);
             const left = [], heads = [];
-            for (const group of lettersIn(gap)) left.push(...this.tryGroup(i, group, left, heads));
+            for (const group of lettersIn(gap)) for (const it of this.tryGroup(i, group, left, heads)) left.push(it);
             for (const { part, number } of this.chosen[i]?.length === 0 ? heads : []) {
                 this.say(part, number, "a heading of a solution without letters that are read");
             }
-            if (i < 0 || !this.tryWhole(i, left)) loose.push(...left);
+            if (i < 0 || !this.tryWhole(i, left)) for (const it of left) loose.push(it);
         }
         return loose;
     }
@@ -85,7 +87,7 @@ class Reading {
         const none = { found: [], failed: [{ number, pieces, solution: { letters: "", why: "no level is above" } }] };
         const { found, failed } = i < 0 ? none : solutionsIn(group, this.boardAt(i));
         if (i >= 0) this.add(i, ...found.map(it => ({ ...it, part, isSaved })));
-        if (found[0]?.isFront) left.splice(0, left.length, ...left.filter(it => it.number !== group.front.number));
+        while (found[0]?.isFront && left.at(-1)?.number === group.front.number) left.pop();
         this.use([heading, ...found.flatMap(({ lines }) => lines)].filter(it => it && found.length));
         if (!pieces.length) heads.push(group);
         if (found.length && odd) this.say(part, number, `${odd} were read as letters`, true);
@@ -163,8 +165,7 @@ class Reading {
     // Says in which lines words beside rows were no title, no letters that solve the level, and no names of a program.
     sayBeside() {
         const numbers = new Map(this.parts.map(part => [part, []]));
-        for (const [i, { first }] of this.places.entries()) {
-            const { part, number, words = "" } = this.from[first], isUsed = this.chosen[i].some(it => it.number === number && !it.solution.why);
+        for (const { part, number, words, isUsed } of this.beside) {
             if (/[\p{L}#]/u.test(isUsed ? words.replace(AMONG_WORDS, "") : words)) numbers.get(part).push(number);
         }
         for (const [part, some] of numbers) {

@@ -1,7 +1,7 @@
 // Finds the rows of levels in lines: plain, run-length coded, quoted, in a table or in one line. Makes them plain.
 
 const MOST_ROWS = 65536, LONGEST_LINE = 20000, LONGEST_STRING = 1000, LONGEST_JOINED = 1 << 20, MOST_BLANKS = 64;
-const PLAIN = /^[-#@+$*._ ]*$/, CELLS = /^[-#@+$*._ 0-9bBpPo()]*$/;
+const PLAIN = /^[-#@+$*._ ]*$/, CELL = "#-@+$*._ 0123456789bBpPo()", CELLS = /^[-#@+$*._ 0-9bBpPo()]*$/;
 const PIECES = { b: "$", B: "*", p: "@", P: "+", o: "." }, MAZE = { X: "#", "*": "$", "&": "*" };
 const BREAK = /(\r{0,2}\n(?:\r(?!\n))?|\r)|[\v\f\x85\u2028\u2029]|\ufeff/;
 // what parts the rows of a level that stands in one line
@@ -66,7 +66,7 @@ function spelled(parts) {
 // the characters of coded rows at the end of a text
 function cellsAtEnd(text) {
     let at = text.length;
-    while (at && CELLS.test(text[at - 1])) at--;
+    while (at && CELL.includes(text[at - 1])) at--;
     return text.slice(at);
 }
 
