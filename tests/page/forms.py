@@ -170,6 +170,11 @@ def exports(check: Comparison, tab: Tab) -> None:
         tab.paste("levels", text)
         check.same(f"the title in a line of {len(rows)}", [title, bool(title)], [
             tab.ask("shownData.levels.at(-1).title"), not tab.told()])
+    listed = [{"title": it, "rows": ALPHA.split("\n"), "solution": "rRR"} for it in ("One", "Two")]
+    tab.paste("levels", json.dumps(listed, indent=2))
+    check.same("titles and letters in a list of some lines", [["One", "Two"], "solved 2", []], [
+        tab.ask("shownData.levels.map(({ title }) => title)"), tab.text("total")[8:16],
+        tab.told()])
     tab.paste("levels", f"{ALPHA}\n// Sol 1 - r\nRR,\n\n{BETA}\n")
     check.same("a heading of a solution and its letters are no title", ["", ""], tab.ask(
         "shownData.levels.map(({ title }) => title)"))

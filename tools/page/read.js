@@ -38,9 +38,12 @@ class Reading {
         if (isLeftOut) this.isChanged = true;
         if (isLeftOut) return;
         if (starts && this.lines.length && isRow(this.lines.at(-1))) this.put("", it), this.isChanged = true;
-        const made = row?.rows ?? [isRow(line) ? `; ${line}` : line];
+        const named = row ? null : TITLE_LINE.exec(line);
+        const made = row?.rows ?? [named ? `Title: ${named[2]}` : isRow(line) ? `; ${line}` : line];
+        // the line that opens a list of rows is no title
+        if (!row && /[[{(]\s*$|=\s*["'`]+\s*$/.test(line)) this.use([it]);
         this.isChanged ||= made.length > 1 || made[0] !== line;
-        for (const text of made) this.put(text, row ? it : { ...it, line: text });
+        for (const text of made) this.put(text, row ? it : Object.assign(it, { line: text }));
         if (row?.title) this.put(`Title: ${row.title}`, it);
         if (row?.rest) {
             this.beside.push({ ...it, line: row.rest, words: row.words });
@@ -169,7 +172,8 @@ class Reading {
             if (/[\p{L}#]/u.test(isUsed ? words.replace(AMONG_WORDS, "") : words)) numbers.get(part).push(number);
         }
         for (const [part, some] of numbers) {
-            if (some.length) this.say(part, 0, `what is beside the rows is read as text: line${some.length > 1 ? "s" : ""} ${few(some)}`, true);
+            const place = `${this.parts.length > 1 ? `${part.name} ` : ""}line${some.length > 1 ? "s" : ""} ${few(some)}`;
+            if (some.length) this.said.push({ place, words: "what is beside the rows is read as text", isNote: true });
         }
     }
     // Whether the bytes of the only part are the level text as they are.

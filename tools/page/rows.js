@@ -70,7 +70,7 @@ function cellsAtEnd(text) {
     return text.slice(at);
 }
 
-const KEYED_TITLE = /["'](?:title|name)["']\s*:\s*(["'])(.+?)\1/i;
+const KEYED_TITLE = /["'](?:title|name)["']\s*:\s*(["'])(.+?)\1/i, TITLE_LINE = new RegExp(`^\\W*?${KEYED_TITLE.source},?\\s*$`, "i");
 
 // What is beside the levels in a line, given the text around each: the title if a key names it, the text that is kept, and the words that are
 // neither the name of a list nor a key.
@@ -91,7 +91,8 @@ function joinedIn(line) {
             const begin = cellsAtEnd(parts[first]), end = /^[-#@+$*._ 0-9bBpPo()]*/.exec(parts[last] ?? "")[0];
             const some = [begin, ...parts.slice(first + 1, last), end].filter(it => it.includes("#"));
             const found = some.length > 2 && begin.includes("#") ? spelled(some) : null;
-            around[around.length - 1] += found ? parts[first].slice(0, -begin.length) : parts.slice(first, last).join(mark) + mark;
+            around[around.length - 1] += found ? parts[first].slice(0, -begin.length)
+                : parts.slice(first, last).join(mark) + (last < parts.length ? mark : "");
             if (!found) continue;
             rows.push(...rows.length ? [""] : [], ...found);
             around.push("");
