@@ -86,7 +86,7 @@ class Groups {
                 isPlain: IS_PLAIN_HEAD.test(line) && !isRemark } : null;
         }
         const isFront = some.length && line.replace(/[\s,.'"`*\\-]+$/, "").endsWith(some.at(-1).slice(-1));
-        this.front = isFront ? { number, piece: some.at(-1), line: this.line, isFront } : null;
+        this.front = isFront ? { number, piece: some.at(-1), line: this.line, isFront, isHead } : null;
         const group = { part: this.part, number, front: null, isHeaded: isHead && /[:=]/.test(line), isSaved: Boolean(this.head?.isSaved), isWords: true,
             isTitle: IS_TITLE.test(line) };
         for (const piece of new Set(some)) this.found.push({ ...group, pieces: [{ number, piece, line: this.line }], odd });
@@ -221,7 +221,8 @@ const NOT_TRIED = { letters: "", ends: [], why: "not tried, after too many other
 // The solutions of a board in a group, one after the other, and what is none: { found, failed }.
 function solutionsIn({ pieces, front }, board) {
     const found = [], failed = [];
-    let left = front ? [front, ...pieces] : pieces;
+    // the end of other words than a heading counts only if nothing else solves
+    let left = front && (front.isHead || steps >= MOST_STEPS || !firstSolution(pieces, board).count) ? [front, ...pieces] : pieces;
     for (let tries = 0; left.length; tries++) {
         const isTried = tries < MOST_TRIES && steps < MOST_STEPS, [{ number, isFront }] = left;
         const { solution, count } = isTried ? firstSolution(left, board) : { solution: NOT_TRIED, count: 0 };
