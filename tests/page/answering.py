@@ -6,7 +6,7 @@ from tests.page.comparing import HEADER, Comparison
 from tests.page.driving import HIDE, IDLE, Tab
 from tests.tools.helping import pace
 
-LONGEST, TRIES = 100, 8
+LONGEST, TRIES = 100, 3
 LEVEL = b"#####\n#@$.#\n#####\n"
 MOST = 33554432
 INSIDE = "$('page').contentDocument"

@@ -14,7 +14,7 @@ from tests.page.comparing import HEADER, Comparison
 from tests.page.driving import Tab
 from tests.page.using import ANSWERS, CORNER, LETTERS, LEVEL, LINE
 from tests.runner import TOP, encode, read, run, write
-from tests.tools.exports import ALL
+from tests.tools.exports import ALL, ALPHA, BETA
 from tests.tools.test_exports import made_by, plain
 
 
@@ -157,14 +157,27 @@ def exports(check: Comparison, tab: Tab) -> None:
             file.write(export.text if isinstance(export.text, bytes) else export.text.encode())
         tab.ask("clear(); 0")
         found, letters, is_told = found_in(tab, tab.give(export.file))
-        is_right = found == export.levels and letters == export.solutions
-        counts["right" if is_right else "told"] += 1
-        if export.levels and export.name not in UNREAD:
-            check.same(f"export {export.name}: read", [export.levels, export.solutions],
-                       [found, letters])
-        elif export.name not in READ:
-            check.same(f"export {export.name}: told", [True, False], [is_told, is_right])
+        wanted = (export.levels, export.solutions) if export.levels else READ.get(export.name)
+        counts["right" if (found, letters) == wanted else "told"] += 1
+        if wanted:
+            check.same(f"export {export.name}: read", [*wanted], [found, letters])
+        else:
+            check.same(f"export {export.name}: told", True, is_told)
     print(f"exports: {len(ALL)} tried, {counts}", flush=True)
+    tab.ask("clear(); 0")
+    for rows, title in (([ALPHA], "One"), ([ALPHA, BETA], "")):
+        text = json.dumps([{"title": "One", "rows": it.split("\n")} for it in rows])
+        tab.paste("levels", text)
+        check.same(f"the title in a line of {len(rows)}", [title, bool(title)], [
+            tab.ask("shownData.levels.at(-1).title"), not tab.told()])
+    listed = [{"title": it, "rows": ALPHA.split("\n"), "solution": "rRR"} for it in ("One", "Two")]
+    tab.paste("levels", json.dumps(listed, indent=2))
+    check.same("titles and letters in a list of some lines", [["One", "Two"], "solved 2", []], [
+        tab.ask("shownData.levels.map(({ title }) => title)"), tab.text("total")[8:16],
+        tab.told()])
+    tab.paste("levels", f"{ALPHA}\n// Sol 1 - r\nRR,\n\n{BETA}\n")
+    check.same("a heading of a solution and its letters are no title", ["", ""], tab.ask(
+        "shownData.levels.map(({ title }) => title)"))
 
 
 def both(check: Comparison, tab: Tab) -> None:
@@ -189,11 +202,12 @@ def both(check: Comparison, tab: Tab) -> None:
     check.same("most are right", True, counts["right"] > 9 * counts["told"])
 
 
-# exports that sokotool alone reads, and those of which only the page takes the rows: they have two
-# meanings, something more in the line, or the head of another game
-UNREAD = {"dressed by Python's bytes", "dressed by Java", "dressed by Java, one string",
-          "dressed by YAML", "dressed by SokoSolve", "dressed, two"}
-READ = {"heading between", "SLC rows in no L", "dressed, a title in the line",
-        "dressed, letters in the line", "other game: Gnu Robbo", "other game: xsok",
-        "other game: Boulder Dash", "other game: PuzzleScript", "other game: a picture"}
+# what the page reads in exports of which sokotool only reports that they can't be read
+READ: Dict[str, Tuple[List[str], Dict[int, str]]] = {
+    "SLC rows in no L": ([ALPHA], {}), "dressed, a title in the line": ([ALPHA], {}),
+    "dressed, letters in the line": ([ALPHA], {1: "rRR"}), "above the level": ([ALPHA], {1: "rRR"}),
+    "other letters": ([ALPHA], {1: "rRR"}), "arrows": ([ALPHA], {1: "rRR"}),
+    "two that differ": ([ALPHA], {1: "rRR"}), "rows a line apart": ([ALPHA], {}),
+    "number between": ([ALPHA, BETA], {}), "UTF-32": ([ALPHA, BETA], {1: "rRR"}),
+    "blocks": ([ALPHA, "#####\n#@$.#\n#####"], {})}
 PARTS = (forms, others, exports, both)

@@ -150,7 +150,7 @@ def hostile(check: Comparison, tab: Tab) -> None:
     asked = tab.requests
     check.same("nothing is asked for", [], [it for it in asked if it[:5] not in ("file:", "blob:")])
     tab.open("file://" + os.path.abspath("saved.html"))
-    check.same("nor becomes it markup in the saved page", [0, 7, False], tab.ask(
+    check.same("nor becomes it markup in the saved page", [0, 8, False], tab.ask(
         "[document.images.length, document.scripts.length, document.title === 'run']"))
     tab.ask("document.body.append(Object.assign(document.createElement('script'), "
             "{ textContent: \"document.title = 'run'\" }))")

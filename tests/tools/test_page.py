@@ -101,15 +101,15 @@ class Texts(Case):
         self.write("r", "level 1 missing\nlevel 2 missing\n"
                    "total 2 solved 0 unsolvable 0 refused 0 missing 2\n")
         result, data = self.page("a.xsb", "a", "r")
-        # the data and the script end, and nothing else
-        self.assertEqual(result.out.count(b"</script>"), 2)
+        # the data, the script and its start end, and nothing else
+        self.assertEqual(result.out.count(b"</script>"), 3)
         self.assertEqual([level["title"] for level in data["levels"]],
                          ['</script><b>bold</b> "quoted" \\ back', "@DATA@ @game.js@"])
 
     @unittest.skipUnless(NODE, "node is not installed")
     def test_script_parses(self) -> None:
         page = self.samples("first.xsb", "first.answers", "first.report")[0].out.decode()
-        script, = re.findall(r"<script>\n(.*)</script>", page, re.S)
+        script, = re.findall(r"<script>\n(.*?)</script>", page, re.S)
         self.write("page.js", script)
         self.assertEqual(call([str(NODE), "--check", "page.js"]), (b"", b"", 0))
 

@@ -52,7 +52,7 @@ class Eye(Page):
             self.open()
             for number, lines in LISTED.findall(report):
                 shared.ask(f"location.hash = '#{number}'")
-                self.holds("view.lines?.length", int(lines))
+                self.holds("view.patterns?.length", int(lines))
                 self.assertEqual(shared.ask(OPEN_PUSHES), [], (name, number))
 
     def test_push_into_the_boxes_of_a_pattern_but_not_its_region(self) -> None:

@@ -164,7 +164,7 @@ async function ask(words, task, values) {
 async function inSlices(work) {
     let step = work.next();
     while (!step.done) {
-        await new Promise(done => setTimeout(done));
+        await pause();
         step = work.next();
     }
     return step.value;

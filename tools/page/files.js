@@ -1,6 +1,6 @@
 // Turns the bytes of files into texts: archives, encodings, and SLC as plain lines. All of it runs in the program's thread.
 
-const MOST_UNPACKED = MOST_BYTES, MOST_NESTED = 2;
+const MOST_UNPACKED = MOST_BYTES, MOST_NESTED = 2, LONGEST_HEAD = 1 << 20;
 const ENTITIES = { nbsp: " ", lt: "<", gt: ">", quot: "\"", amp: "&", apos: "'" };
 
 // ---- archives
@@ -168,6 +168,17 @@ function slcLines(text, faults) {
 
 // ---- parts
 
+// what all heads of the files of other games have
+const GAMES = Object.entries({
+    "Gnu Robbo": [/^\[last_level\][ \t]*\r?\n[ \t]*[0-9]/im, /^\[size\][ \t]*\r?\n[0-9]+\.[0-9]+/im], "Boulder Dash": [/^\s*\[BDCFF\]/i],
+    XPM: [/^\/\* XPM \*\//i], PuzzleScript: [/^LEGEND[ \t]*\r?$/im, /^COLLISIONLAYERS[ \t]*\r?$/im],
+});
+// The game that a file is for, or "". A file of xsok is for Sokoban if no line of its sections begins with a character that is none of Sokoban.
+function gameOf(text) {
+    const kinds = [...text.matchAll(/^;(?:WALLS|OBJECTS)[^;\n]*\n((?:[^;\n].*\n)*)/gm)].flatMap(([, lines]) => lines.split("\n").slice(0, -1));
+    return GAMES.find(([, heads]) => heads.every(it => it.test(text)))?.[0] ?? (kinds.some(it => !/^[ #.@$]/.test(it)) ? "xsok" : "");
+}
+
 const FORMS = [["an archive", /^(?:PK|7z|Rar)/], ["a picture", /^(?:\x89PNG|\xff\xd8\xff|GIF8)/], ["a document", /^(?:%PDF|\{\\rtf)/]];
 const note = words => ({ number: 0, words, isNote: true });
 
@@ -197,6 +208,7 @@ function partOf(name, bytes, head, isAlone) {
     if (form) faults.push({ number: 0, words: `is ${form}, no text` });
     else if (zero >= 0) faults.push({ number: text.slice(0, zero).split("\n").length, words: "a zero byte: what comes from here on isn't read" });
     if (!form && /^(?:windows|gb|utf-32)/.test(encoding)) faults.push(note(`isn't UTF-8: read as ${encoding}`));
-    const whole = zero < 0 ? text.replace(/[\0\x1a]+$/, "") : text.slice(0, zero);
+    const game = form ? "" : gameOf(text.slice(0, LONGEST_HEAD)), whole = game ? "" : zero < 0 ? text.replace(/[\0\x1a]+$/, "") : text.slice(0, zero);
+    if (game) faults.push({ number: 0, words: `is a file of ${game}, which is not read`, isNote: !isAlone });
     return { name, faults, encoding, text: whole, isAlone, lines: isXml(whole) ? slcLines(whole, faults) : null };
 }

@@ -74,7 +74,7 @@
         if (event.key !== "d" || event.ctrlKey || event.metaKey || event.altKey || isTaken(event)) return;
         toggle();
     });
-    if (globalThis.deadSquares) $("keys").querySelector("dl").append(html("dt", {}, "d"), html("dd", {}, "in a level: show its dead squares"));
+    if (globalThis.deadSquares) KEYS.push(["d", "in a level: show its dead squares"]);
     // a level that is opened with Ctrl gets a window of its own, since the page's address doesn't name it
     const open = event => {
         const number = Number(event.target.closest?.("a[href^='#']")?.hash.slice(1));
@@ -91,10 +91,5 @@
             const { top } = frameElement.getBoundingClientRect();
             return [-top, parent.innerHeight - top];
         };
-        overview();
-    }
-    if (shownLevel) {
-        routed = null;
-        route();
     }
 }

@@ -35,16 +35,19 @@ const bareLine = line => line.length > LONGEST_LINE ? line
     : narrow(untagged(line.replace(/<[^<>]*>/g, tag => `${tag} ${(tag.match(/"[^"]*"/g) ?? []).join(" ")} `)))
         .replace(/[\u2190-\u2193]/g, it => ARROWS[it]).replace(/^[>;\s|]*(?:[[(]?\d+[.):\]]\s+)?/, "");
 
-// The groups of letters in some lines. Each is { part, number, pieces, front, head, isHeaded, isSaved, isWords, odd }: its first line; its
-// letters line by line, with `isNew` after a blank line; the letters at the end of its heading, and where that is; and whether it stands below
-// a heading, in a saved game, or among other words. `odd` says which unusual letters it has. A heading without letters is a group without any.
+// The groups of letters in some lines. Each is { part, number, pieces, front, heading, isHeaded, isSaved, isWords, odd }: its first line; its
+// letters line by line, with `isNew` after a blank line; the letters at the end of the words above; the line of its heading; and whether it
+// is below a heading, in a saved game, or among other words. `odd` says which unusual letters it has. A heading without letters is a group
+// without any.
 class Groups {
     found = [];
     open = null;
     head = null;
+    front = null;
     blanks = 0;
     part = null;
-    add({ number, line, part }) {
+    add(it) {
+        const { number, line, part } = this.line = it;
         if (part !== this.part) this.end();
         this.part = part;
         if (!line.trim()) {
@@ -62,37 +65,39 @@ class Groups {
     addLetters(number, { piece, words: odd }) {
         if (this.open && (this.open.pieces.length >= MOST_PIECES || this.open.odd !== odd)) this.open = null;
         if (!this.open) {
-            const { head } = this;
-            this.open = { part: this.part, number, pieces: [], front: head?.front ?? "", head: head?.number, isSaved: Boolean(head?.isSaved), odd,
-                isHeaded: Boolean(head && !head.isSaved && (!head.isUsed || head.front)) };
+            const { head, front } = this;
+            this.open = { part: this.part, number, pieces: [], front, heading: head?.line, isSaved: Boolean(head?.isSaved), odd,
+                isHeaded: Boolean(head && !head.isSaved && (!head.isUsed || front?.number === head.number)) };
             this.found.push(this.open);
-            if (head) this.head = { ...head, isUsed: true, front: "" };
+            this.front = null;
+            if (head) this.head = { ...head, isUsed: true };
         }
-        this.open.pieces.push({ number, piece, isNew: this.blanks > 0 && this.open.pieces.length > 0 });
+        this.open.pieces.push({ number, piece, line: this.line, isNew: this.blanks > 0 && this.open.pieces.length > 0 });
     }
     addWords(number, line, odd) {
         const isRemark = IS_REMARK.test(line), isHead = IS_HEAD.test(line) && !isRemark, isSaved = IS_SAVED.test(line);
         const other = isHead ? stepsIn(/[^:=]*$/.exec(line)[0].trim()) : null;
-        const some = line.length > LONGEST_LINE ? [] : [...line.replace(/\blurd\s*[:=]/i, " ").matchAll(AMONG_WORDS)]
+        const some = line.length > LONGEST_LINE ? [] : [...line.replace(/\blurd\b(?=\s*[:=]|\W*\w)/i, " ").matchAll(AMONG_WORDS)]
             .map(it => packed(it[0])).filter(it => /[lurd]/i.test(it));
         this.open = null;
         if (isHead || isSaved || this.head?.isUsed || !isRemark && !/^[\w -]{1,30}[:=]/.test(line)) {
             this.endHead();
-            const isFront = isHead && some.length && line.replace(/[\s,.'"`*\\-]+$/, "").endsWith(some.at(-1).slice(-1));
-            this.head = isHead || isSaved ? { number, isSaved, front: isFront ? some.at(-1) : "", isUsed: some.length > 0 || other !== null,
+            this.head = isHead || isSaved ? { number, line: this.line, isSaved, isUsed: some.length > 0 || other !== null,
                 isPlain: IS_PLAIN_HEAD.test(line) && !isRemark } : null;
         }
-        const group = { part: this.part, number, front: "", isHeaded: isHead && /[:=]/.test(line), isSaved: Boolean(this.head?.isSaved), isWords: true,
+        const isFront = some.length && line.replace(/[\s,.'"`*\\-]+$/, "").endsWith(some.at(-1).slice(-1));
+        this.front = isFront ? { number, piece: some.at(-1), line: this.line, isFront, isHead } : null;
+        const group = { part: this.part, number, front: null, isHeaded: isHead && /[:=]/.test(line), isSaved: Boolean(this.head?.isSaved), isWords: true,
             isTitle: IS_TITLE.test(line) };
-        for (const piece of new Set(some)) this.found.push({ ...group, pieces: [{ number, piece }], odd });
-        if (other) this.found.push({ ...group, pieces: [{ number, piece: other.piece }], odd: other.words });
+        for (const piece of new Set(some)) this.found.push({ ...group, pieces: [{ number, piece, line: this.line }], odd });
+        if (other) this.found.push({ ...group, pieces: [{ number, piece: other.piece, line: this.line }], odd: other.words });
     }
     endHead() {
         if (this.head?.isPlain && !this.head.isUsed) this.found.push({ number: this.head.number, pieces: [], isHeaded: true, part: this.part });
     }
     end() {
         this.endHead();
-        this.open = this.head = null;
+        this.open = this.head = this.front = null;
         return this.found;
     }
 }
@@ -216,12 +221,13 @@ const NOT_TRIED = { letters: "", ends: [], why: "not tried, after too many other
 // The solutions of a board in a group, one after the other, and what is none: { found, failed }.
 function solutionsIn({ pieces, front }, board) {
     const found = [], failed = [];
-    let left = front ? [{ piece: front, number: pieces[0].number, isFront: true }, ...pieces] : pieces;
+    // the end of other words than a heading counts only if nothing else solves
+    let left = front && (front.isHead || steps >= MOST_STEPS || !firstSolution(pieces, board).count) ? [front, ...pieces] : pieces;
     for (let tries = 0; left.length; tries++) {
         const isTried = tries < MOST_TRIES && steps < MOST_STEPS, [{ number, isFront }] = left;
         const { solution, count } = isTried ? firstSolution(left, board) : { solution: NOT_TRIED, count: 0 };
         if (count) {
-            found.push({ solution, number, isFront });
+            found.push({ solution, number, isFront, lines: left.slice(0, count).map(({ line }) => line) });
             left = left.slice(count);
         } else if (isFront) {
             left = left.slice(1);

@@ -8,7 +8,7 @@ const placeOf = (parts, part, number) => [parts.length > 1 || !number ? part.nam
 class Reading {
     constructor(parts, spansOf, tell) {
         // of each line of the made level text, what it is made of: { part, number }, and { line } if it is no row
-        Object.assign(this, { parts, tell, lines: [], from: [], said: [], isChanged: false });
+        Object.assign(this, { parts, tell, lines: [], from: [], beside: [], said: [], isChanged: false });
         for (const [p, part] of parts.entries()) {
             tell(`Looking for rows in ${part.name}`);
             findRows(part);
@@ -17,7 +17,8 @@ class Reading {
             for (const it of part.faults) this.say(part, it.number, it.words, it.isNote);
         }
         this.text = utf8(`${this.lines.join("\n")}\n`);
-        this.levels = levelsIn(this.text, spansOf(this.text));
+        this.spans = spansOf(this.text);
+        this.levels = levelsIn(this.text, this.spans);
         this.boards = [];
         // of each level, the letters for it, and whether some of them solve it
         this.chosen = this.levels.map(() => []);
@@ -32,14 +33,23 @@ class Reading {
         this.lines.push(line);
         this.from.push(it);
     }
-    putLine({ row, line, number, starts }, part) {
+    putLine({ row, line, number, starts, isLeftOut }, part) {
         const it = { part, number };
+        if (isLeftOut) this.isChanged = true;
+        if (isLeftOut) return;
         if (starts && this.lines.length && isRow(this.lines.at(-1))) this.put("", it), this.isChanged = true;
-        const made = row?.rows ?? [isRow(line) ? `; ${line}` : line];
+        const named = row ? null : TITLE_LINE.exec(line);
+        const made = row?.rows ?? [named ? `Title: ${named[2]}` : isRow(line) ? `; ${line}` : line];
+        // the line that opens a list of rows is no title
+        if (!row && /[[{(]\s*$|=\s*["'`]+\s*$/.test(line)) this.use([it]);
         this.isChanged ||= made.length > 1 || made[0] !== line;
-        for (const text of made) this.put(text, row ? it : { ...it, line: text });
-        if (row?.rest?.trim()) this.put(row.rest.trim(), { ...it, line: row.rest });
-        if (row?.kind === "quoted") part.faults.push({ number, words: "what stands beside the row was left out", isNote: true });
+        for (const text of made) this.put(text, row ? it : Object.assign(it, { line: text }));
+        if (row?.title) this.put(`Title: ${row.title}`, it);
+        if (row?.rest) {
+            this.beside.push({ ...it, line: row.rest, words: row.words });
+            this.put(isRow(row.rest) ? `; ${row.rest}` : row.rest, this.beside.at(-1));
+        }
+        if (row?.kind === "beside") part.faults.push({ number, words: "what is beside the row was left out", isNote: true });
     }
     partOf(i) {
         return this.from[this.places[i].first].part;
@@ -52,6 +62,11 @@ class Reading {
         if (some.some(({ solution }) => !solution.why)) this.isSolved[i] = 1;
     }
 
+    // says that lines belong to solutions, so that they are no titles
+    use(lines) {
+        for (const line of lines) line.isUsed = this.isUsed = true;
+    }
+
     // ---- letters
 
     // Tries the letters below each level on it. Returns those that solve nothing.
@@ -61,21 +76,22 @@ class Reading {
             this.tell(`Trying the letters of level ${i + 1} of ${levels.length}`);
             const gap = from.slice(i < 0 ? 0 : places[i].end, places[i + 1]?.first).filter(it => it?.line !== undefined);
             const left = [], heads = [];
-            for (const group of lettersIn(gap)) left.push(...this.tryGroup(i, group, left, heads));
+            for (const group of lettersIn(gap)) for (const it of this.tryGroup(i, group, left, heads)) left.push(it);
             for (const { part, number } of this.chosen[i]?.length === 0 ? heads : []) {
                 this.say(part, number, "a heading of a solution without letters that are read");
             }
-            if (i < 0 || !this.tryWhole(i, left)) loose.push(...left);
+            if (i < 0 || !this.tryWhole(i, left)) for (const it of left) loose.push(it);
         }
         return loose;
     }
     // Tries a group of letters on the level above it. Returns those that don't solve it.
     tryGroup(i, group, left, heads) {
-        const { isHeaded, isSaved, isWords, isTitle, pieces, number, part, odd } = group;
+        const { isHeaded, isSaved, isWords, isTitle, pieces, number, part, odd, heading } = group;
         const none = { found: [], failed: [{ number, pieces, solution: { letters: "", why: "no level is above" } }] };
         const { found, failed } = i < 0 ? none : solutionsIn(group, this.boardAt(i));
         if (i >= 0) this.add(i, ...found.map(it => ({ ...it, part, isSaved })));
-        if (found[0]?.isFront) left.splice(0, left.length, ...left.filter(it => it.number !== group.head));
+        while (found[0]?.isFront && left.at(-1)?.number === group.front.number) left.pop();
+        this.use([heading, ...found.flatMap(({ lines }) => lines)].filter(it => it && found.length));
         if (!pieces.length) heads.push(group);
         if (found.length && odd) this.say(part, number, `${odd} were read as letters`, true);
         if (found.length && isTitle) this.say(part, number, `the title has letters that solve level ${i + 1}, and was taken as its solution too`, true);
@@ -90,6 +106,7 @@ class Reading {
         const solution = played(this.boardAt(i), joined(alone.flatMap(it => it.pieces)));
         if (solution.why) return false;
         this.add(i, { solution, number: alone[0].number, part: alone[0].part });
+        this.use(alone.flatMap(({ pieces }) => pieces.map(({ line }) => line)));
         return true;
     }
     // Tries letters, whole and line by line, on the level below and on all that have no solution. If they solve none and are meant for the
@@ -104,6 +121,7 @@ class Reading {
                 if (it.part === this.partOf(Math.max(0, it.level))) this.say(it.part, some.number, `letters that solve level ${i + 1}`, true);
                 isPlaced = true;
             }
+            if (isPlaced) this.use((some === whole ? it.pieces : [some]).map(({ line }) => line));
             if (isPlaced && some === whole) break;
         }
         if (!it.isSure || isPlaced) return;
@@ -147,6 +165,17 @@ class Reading {
         }
         return ["sokoban-answers 1", ...records, ""].join("\n");
     }
+    // Says in which lines words beside rows were no title, no letters that solve the level, and no names of a program.
+    sayBeside() {
+        const numbers = new Map(this.parts.map(part => [part, []]));
+        for (const { part, number, words, isUsed } of this.beside) {
+            if (/[\p{L}#]/u.test(isUsed ? words.replace(AMONG_WORDS, "") : words)) numbers.get(part).push(number);
+        }
+        for (const [part, some] of numbers) {
+            const place = `${this.parts.length > 1 ? `${part.name} ` : ""}line${some.length > 1 ? "s" : ""} ${few(some)}`;
+            if (some.length) this.said.push({ place, words: "what is beside the rows is read as text", isNote: true });
+        }
+    }
     // Whether the bytes of the only part are the level text as they are.
     isSame() {
         const [{ isAlone, encoding, text }] = this.parts;
@@ -158,7 +187,9 @@ class Reading {
             const { boxes, off } = this.boardAt(i), { part, number } = this.from[this.places[i].first];
             if (boxes && !off) this.say(part, number, `level ${i + 1} is solved as it stands`, true);
         }
+        this.sayBeside();
         const answers = this.answers(), isSame = this.isSame(), isOne = this.parts.length === 1;
+        if (this.isUsed) this.levels = levelsIn(this.text, this.spans, number => this.from[number - 1]?.isUsed);
         for (const [i, level] of this.levels.entries()) {
             const { number, part } = this.from[this.places[i].first];
             Object.assign(level, { line: number, file: isOne ? undefined : part.name });

@@ -1,7 +1,7 @@
 // Finds the rows of levels in lines: plain, run-length coded, quoted, in a table or in one line. Makes them plain.
 
-const MOST_ROWS = 65536, LONGEST_LINE = 20000, MOST_BLANKS = 64;
-const PLAIN = /^[-#@+$*._ ]*$/, CELLS = /^[-#@+$*._ 0-9bBpPo()]*$/;
+const MOST_ROWS = 65536, LONGEST_LINE = 20000, LONGEST_STRING = 1000, LONGEST_JOINED = 1 << 20, MOST_BLANKS = 64;
+const PLAIN = /^[-#@+$*._ ]*$/, CELL = "#-@+$*._ 0123456789bBpPo()", CELLS = /^[-#@+$*._ 0-9bBpPo()]*$/;
 const PIECES = { b: "$", B: "*", p: "@", P: "+", o: "." }, MAZE = { X: "#", "*": "$", "&": "*" };
 const BREAK = /(\r{0,2}\n(?:\r(?!\n))?|\r)|[\v\f\x85\u2028\u2029]|\ufeff/;
 // what parts the rows of a level that stands in one line
@@ -34,11 +34,11 @@ function numbered(text) {
 const isEnclosed = row => row.length < MOST_ROWS && /^[-_ ]*#/.test(row) && /#[-_ ]*$/.test(row);
 const isWalls = rows => rows.every(row => !/[@+$*.]/.test(row));
 // a line without the marks of terminals, HTML and forums
-const untagged = line => /[<[&\x1b]/.test(line) ? unescaped(line.replace(/\x1b\[[\d;]*m/g, "").replace(/<br *\/?>(?=.)/gi, "|")
-    .replace(/<\/?[A-Za-z!][^<>]*>|\[\/?[A-Za-z]+\]/g, "")) : line;
+const untagged = line => /[<[&`\x1b]/.test(line) ? unescaped(line.replace(/\x1b\[[\d;]*m/g, "").replace(/<br *\/?>(?=.)/gi, "|")
+    .replace(/<\/?[A-Za-z!][^<>]*>|\[\/?[A-Za-z]+\]|^\s*```|```\s*$/g, "")) : line;
 // a line with plain characters for those that some programs put in their place
 const narrow = line => /[^\0-\x7f]/.test(line)
-    ? line.replace(/[\u200b-\u200d\u2060\u00ad]/g, "").replace(/[\u2010-\u2012\u2212]/g, "-").normalize("NFKC") : line;
+    ? line.replace(/[\u200b-\u200d\u2060\u00ad]/g, "").replace(/[\u2010-\u2012\u2212]/g, "-").replace(/\u2588/g, "#").normalize("NFKC") : line;
 
 // A text with its run-length coding written out, such as rrr for 3r, and rUrU for 2(rU); null if it is wrong or gets too long.
 function expanded(text, most) {
@@ -63,33 +63,68 @@ function spelled(parts) {
     return rows?.length && rows.every(isEnclosed) && rows.some(row => row.trim().length > 2) ? rows.map(row => row.trimEnd()) : null;
 }
 
-// The level within one line, as in a table, between other words: its rows, and the rest of the line.
+// the characters of coded rows at the end of a text
+function cellsAtEnd(text) {
+    let at = text.length;
+    while (at && CELL.includes(text[at - 1])) at--;
+    return text.slice(at);
+}
+
+const KEYED_TITLE = /["'](?:title|name)["']\s*:\s*(["'])(.+?)\1/i, TITLE_LINE = new RegExp(`^\\W*?${KEYED_TITLE.source},?\\s*$`, "i");
+
+// What is beside the levels in a line, given the text around each: the title if a key names it, the text that is kept, and the words that are
+// neither the name of a list nor a key.
+function besideIn([before, ...after]) {
+    const end = after.join(" "), named = after.length > 1 ? null : KEYED_TITLE.exec(before) ?? KEYED_TITLE.exec(end);
+    const [head, tail] = [before, end].map(it => it.replace(named?.[0], ""));
+    const words = [BEFORE.test(head.replace(/["'`]\s*$/, "")) ? "" : head, tail].join(" ").replace(/(["'])\w+\1\s*:/g, "");
+    return { title: named?.[2] ?? "", rest: `${head} ${tail}`.trim(), words };
+}
+
+// The levels within one line, as in a table, between other words: their rows, with a blank one between two levels, and what is beside them.
 function joinedIn(line) {
-    for (const mark of line.length > LONGEST_LINE ? [] : ROW_ENDS) {
-        const parts = line.split(mark);
-        for (let first = 0, last; first < parts.length - 2; first = last) {
+    for (const mark of ROW_ENDS) {
+        const parts = line.split(mark), rows = [], around = [""];
+        for (let first = 0, last; first < parts.length; first = last) {
             last = first + 1;
             while (last < parts.length - 1 && parts[last].includes("#") && CELLS.test(parts[last])) last++;
-            const begin = /[-#@+$*._ 0-9bBpPo()]*$/.exec(parts[first])[0], end = /^[-#@+$*._ 0-9bBpPo()]*/.exec(parts[last])[0];
+            const begin = cellsAtEnd(parts[first]), end = /^[-#@+$*._ 0-9bBpPo()]*/.exec(parts[last] ?? "")[0];
             const some = [begin, ...parts.slice(first + 1, last), end].filter(it => it.includes("#"));
-            const rows = some.length > 2 && begin.includes("#") ? spelled(some) : null;
-            if (!rows) continue;
-            const after = end.includes("#") ? parts[last].slice(end.length) : parts[last];
-            return { kind: "joined", lead: "", rows,
-                rest: [...parts.slice(0, first), parts[first].slice(0, -begin.length), after, ...parts.slice(last + 1)].join(" ") };
+            const found = some.length > 2 && begin.includes("#") ? spelled(some) : null;
+            around[around.length - 1] += found ? parts[first].slice(0, -begin.length)
+                : parts.slice(first, last).join(mark) + (last < parts.length ? mark : "");
+            if (!found) continue;
+            rows.push(...rows.length ? [""] : [], ...found);
+            around.push("");
+            if (end.includes("#")) parts[last] = parts[last].slice(end.length);
         }
+        if (rows.length) return { kind: "joined", lead: "", rows, ...besideIn(around) };
     }
     return null;
 }
 
-const QUOTED = /^\s*(["'|]|`{1,3}|: )?([-_ ]*#[-#@+$*._ ]*?#)[-_ ]*(?:(?:\\n)?(?:["'|]|`{1,3})?[,;\\]*|\s+(?:<|;|\/\/|\(|!|\u2190).*)$/;
+// A row with something beside it.
+const BESIDE = /^\s*["'|`]?([-_ ]*#[-#@+$*._ ]*?#)[-_ ]*(?:(?:\\n)?["'|`]?[,;\\]*|\s+(?:<|;|\/\/|\(|!|\u2190).*)$/;
+// A row in a string of a program. Before it may be a comma, the mark of a list, and for the first row of a level a name; but no comment.
+const STRING = /^(.*?)(["'`])([-#@+$*._ ]+)(?:\\r)?(?:\\n)?\2([^\w"'`]*)$/;
+const BEFORE = /^(?!\s*(?:[;#]|\/\/))[^\w"'`]*(?:[^"'`]*[=:({[]\s*|("|')\w+\1\s*:[^\w"'`]*)?[rbfuRBFU]?$/;
+const BETWEEN_ROWS = /^[^\w({["'`]*[rbfuRBFU]?$/;
+// the tag of a row in SokoSolve, and what its characters are
+const TAGGED = /^\s*<Row>([~#.OXP$*]+)<\/Row>\s*$/, SOKOSOLVE = { "~": " ", ".": " ", O: ".", X: "$", P: "@", "$": "*", "*": "+" };
+
+// The row that a line has as a string, or null. `lead` is its mark, since the rows of a level are strings of the same kind.
+function stringIn(line) {
+    const [, before, mark, row, after] = STRING.exec(line) ?? [];
+    return row?.includes("#") && BEFORE.test(before)
+        ? { kind: "string", rows: [row], lead: mark, begins: !BETWEEN_ROWS.test(before), ends: /[\])};]/.test(after) } : null;
+}
 
 // The row that a line may be: { kind, rows, lead }, or null. A bare line has no marks of other programs left.
 function rowIn(line, isBare = false) {
-    if (!/[#&\uff03]/.test(line) || /^\s*::/.test(line)) return null;
+    if (!/[#&\uff03\u2588]/.test(line) || /^\s*::/.test(line)) return null;
     if (PLAIN.test(line)) return { kind: "plain", rows: [line], lead: "" };
-    if (line.length > LONGEST_LINE) return null;
-    const lead = /^(?:\t+|(?:> ?)+)?/.exec(line)[0], core = line.slice(lead.length).trimEnd();
+    if (line.length > LONGEST_LINE) return line.length > LONGEST_JOINED ? null : joinedIn(line);
+    const lead = /^(?:\t+|: (?=[-_ ]*#)|(?:> ?)+)?/.exec(line)[0], core = line.slice(lead.length).trimEnd();
     if (PLAIN.test(core)) return { kind: "plain", rows: [core], lead };
     if (CELLS.test(core)) {
         const rows = spelled([core]);
@@ -99,8 +134,9 @@ function rowIn(line, isBare = false) {
     if (end) return { kind: "joined", rows: end, lead, goesOn: true };
     const marked = core.replace(/^[~x^ ]+(?=#)|(?<=#)[~x^ ]+$/g, it => " ".repeat(it.length));
     if (marked !== core && PLAIN.test(marked)) return { kind: "marked", rows: [marked.trimEnd()], lead };
-    const quoted = QUOTED.exec(core);
-    if (quoted) return { kind: "quoted", rows: [quoted[2]], lead: "" };
+    const string = core.length < LONGEST_STRING ? stringIn(core) : null, beside = string ? null : BESIDE.exec(core);
+    if (string) return string;
+    if (beside) return { kind: "beside", rows: [beside[1]], lead: "" };
     const bare = isBare ? line : narrow(untagged(line));
     return bare !== line ? rowIn(bare, true) : joinedIn(core);
 }
@@ -109,6 +145,7 @@ function rowIn(line, isBare = false) {
 
 // Sets the row of each line that may be one. A game with other letters and a comment are known by their own lines.
 function rowsOfLines(lines, faults) {
+    const isSokoSolve = lines.some(({ line }) => /^\s*<Row>[^<]*[OXP]/.test(line));
     let isMaze = false, comment = -1;
     for (const [at, it] of lines.entries()) {
         const { line, number } = it, game = OTHER_GAME.exec(line);
@@ -117,6 +154,8 @@ function rowsOfLines(lines, faults) {
         if (isMaze && /X/.test(line) && /^[X *.&@+]*$/.test(line)) {
             it.row = { kind: "plain", lead: "maze", rows: [line.trimEnd().replace(/[X*&]/g, one => MAZE[one])] };
         }
+        const tagged = isSokoSolve ? TAGGED.exec(line) : null;
+        if (tagged) it.row = { kind: "plain", lead: "tagged", rows: [tagged[1].replace(/[~.OXP$*]/g, one => SOKOSOLVE[one])] };
         if (game) faults.push({ number, words: `names another game, ${game[1]}: its levels are judged by the rules of Sokoban here` });
         if (/^[\s;]*comment[\s:;]*$/i.test(line)) comment = at;
         if (comment >= 0 && /^[\s;]*comment[-_ ]end/i.test(line)) {
@@ -130,13 +169,14 @@ function rowsOfLines(lines, faults) {
 // fault.
 function findRows(part) {
     const lines = part.lines ??= numbered(part.text), { faults } = part;
-    const goesOn = ({ row }, { row: next }) => row && next && row.lead === next.lead
+    const goesOn = ({ row }, { row: next }) => row && next && row.lead === next.lead && !row.ends && !next.begins
         && (row.goesOn || row.kind !== "joined" && next.kind !== "joined");
     const isHeading = ({ row }) => row.kind === "coded" && !isWalls(row.rows);
     rowsOfLines(lines, faults);
     for (let first = 0, end; first < lines.length; first = end) {
         for (end = first + 1; end < lines.length && goesOn(lines[end - 1], lines[end]);) end++;
         if (!lines[first].row) continue;
+        if (end === first + 1) end = endOfApart(lines, first, goesOn, faults);
         let last = end - 1;
         while (first < last && isHeading(lines[first])) lines[first++].row = null;
         while (last > first && isHeading(lines[last])) lines[last--].row = null;
@@ -150,15 +190,28 @@ function findRows(part) {
     faults.sort((a, b) => a.number - b.number);
 }
 
+// The end of a level whose rows are a line apart, each alone; otherwise that of its first row. One row alone is never a level.
+function endOfApart(lines, first, goesOn, faults) {
+    const isNext = at => lines[at + 1]?.line.trim() === "" && lines[at + 2] && goesOn(lines[at], lines[at + 2]) && !lines[at + 3]?.row;
+    let last = first;
+    while (isNext(last)) last += 2;
+    if (last < first + 4) return first + 1;
+    for (let at = first + 1; at < last; at += 2) lines[at].isLeftOut = true;
+    faults.push({ number: lines[first].number, words: "blank lines between rows were left out", isNote: true });
+    return last + 1;
+}
+
 // Decides whether a run of rows is a level.
 function findLevel(lines, first, last, faults) {
-    const run = lines.slice(first, last + 1), [{ row: { kind }, number }] = run, count = run.reduce((sum, { row }) => sum + row.rows.length, 0);
-    const isSingle = run.length === 1 && kind !== "plain" && count < 3, areWalls = !isSingle && run.every(({ row }) => isWalls(row.rows));
+    const run = lines.slice(first, last + 1).filter(({ row }) => row), [{ row: { kind }, number }] = run;
+    const count = run.reduce((sum, { row }) => sum + row.rows.length, 0);
+    const areFew = (kind === "string" || run.length === 1 && kind !== "plain") && count < 3;
+    const areWalls = !areFew && run.every(({ row }) => isWalls(row.rows));
     if (areWalls) {
         const isAlone = run.length === 1 && [first - 1, last + 1].every(at => !lines[at]?.line.trim());
         faults.push({ number, words: "walls alone, and no level", isNote: isAlone });
     }
-    if (isSingle || areWalls) for (const it of run) it.row = null;
+    if (areFew || areWalls) for (const it of run) it.row = null;
     else lines[first].starts = true;
 }
 

@@ -31,9 +31,10 @@ function show({ totals, notes, report, status, took, data }) {
     draw(totals.count === 1);
 }
 
+const START = "<script>start();<\/script>";
 const viewerText = JSON.parse($("viewer").textContent);
 // the viewer as a page around its data, and what it has more
-const viewerParts = more => viewerText.replace("</body>", () => `${more}</body>`).split("@DATA@");
+const viewerParts = more => viewerText.replace(START, () => more + START).split("@DATA@");
 const scriptOf = (id, type = "") => `<script${type}>${$(id).textContent}<\/script>`;
 
 // Writes the viewer into a window. It isn't loaded from an address, since a browser lets a page from a file follow no link within such a one.

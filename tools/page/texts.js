@@ -154,8 +154,8 @@ function sayingOf(line) {
     return { title, name, above, isBlank: isBlank(line), isShort: isPlain && !above && !isBlank(line) && ONLY_LETTERS.test(line) };
 }
 
-// the levels at these spans of a text: number, first line, title and span
-function levelsIn(text, spans) {
+// The levels at these spans of a text: number, first line, title and span. Some lines, given by their numbers, are no titles without a key.
+function levelsIn(text, spans, isNoTitle = () => false) {
     const levels = [], gaps = [new Gap(true)], sayings = new Map();
     const start = text.startsWith("\xef\xbb\xbf") ? 3 : 0;
     eachLine(text, (line, number, at, _, count) => {
@@ -169,7 +169,8 @@ function levelsIn(text, spans) {
                 saying = sayingOf(line);
                 if (sayings.size < MOST_CACHED) sayings.set(line, saying);
             }
-            gaps.at(-1).add(line, count, saying);
+            const { title, name } = saying;
+            if (title !== null || name !== null || !isNoTitle(number)) gaps.at(-1).add(line, count, saying);
         }
     }, start, true);
     const titles = gaps.map(gap => gap.keyed), last = titles.at(-1);
@@ -281,7 +282,7 @@ class RecordData {
         this.#span = [at, end];
     }
     get bytes() {
-        return this.#bytes.slice(...this.#span);
+        return this.#bytes.subarray(...this.#span);
     }
     get body() {
         return this.#body ??= bodyIn(textOf(this.bytes), this.line);
@@ -294,7 +295,23 @@ class RecordData {
     }
 }
 
-const SLICE = 500;
+const SLICE = 500, LONGEST_PIECE = 1 << 16;
+// The lines of a record in slices, so that no message is long to read. A long line of letters is cut into several with the same number.
+function slicesOfBody(body, kind) {
+    const slices = [];
+    let left = 0;
+    for (const [number, line] of body) {
+        for (let at = 0; at < line.length; at += LONGEST_PIECE) {
+            const piece = kind === "solution" ? line.slice(at, at + LONGEST_PIECE) : line;
+            if (left <= 0) slices.push([]), left = LONGEST_PIECE;
+            left -= piece.length + 100;
+            slices.at(-1).push([number, piece]);
+            if (piece === line) break;
+        }
+    }
+    return slices;
+}
+
 // A result in slices, so that no message is long to read: some levels, the records of some, and the verdicts on some.
 function slicesOf({ found, records, report }) {
     const all = [...records], verdicts = Object.entries(verdictsIn(report)), slices = [];

@@ -53,16 +53,27 @@ class Thread {
     }
 }
 
-const judge = new Thread();
+const judge = new Thread(), COPIED_AT_ONCE = 1 << 21;
+const pause = () => new Promise(done => setTimeout(done));
+
+// a copy of bytes, made in parts between which the page answers
+async function copied(bytes) {
+    const copy = new Uint8Array(bytes.length);
+    for (let at = 0; at < bytes.length; at += COPIED_AT_ONCE) {
+        copy.set(bytes.subarray(at, at + COPIED_AT_ONCE), at);
+        await pause();
+    }
+    return copy;
+}
 
 // The program's verdict on rows and a record as they are drawn: { line, body }, the words of the report after the level's number, or "" if there
 // is no verdict, and the lines of the record.
 async function judged(rows, record) {
     // the page draws what it has first, since a record may be long
-    await new Promise(done => setTimeout(done));
-    const { kind = "solution", bytes, line: first } = record ?? {};
+    await pause();
+    const { kind = "solution", bytes: all, line: first } = record ?? {}, bytes = all && await copied(all);
     const said = bytes ? await judge.ask("judged", { rows, kind, bytes, first }, [bytes.buffer])
         : await judge.ask("judged", { rows, kind, body: record?.body ?? [] });
     if (said.error) judge.stop();
-    return { line: said.line ?? "", body: said.body ?? record?.body ?? [] };
+    return { line: said.line ?? "", body: bytes ? (said.slices ?? []).flat() : record?.body ?? [] };
 }

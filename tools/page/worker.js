@@ -125,7 +125,8 @@ async function textsOf({ levels: source, lists, answers: given, names }, tell) {
     if (!found.length) return { levels, answers, names, said, notes: ["No level is found."] };
     if (!answers) notes.push(`${many(taken, "solution")} found for ${many(found.length, "level")}.`);
     else if (taken) notes.push(`${LEFT_OUT}: of ${many(taken, "level")}.`);
-    return { levels: isSame ? levels : bytesOf(text), found: isSame ? null : found, answers: answers ?? bytesOf(made),
+    const own = isSame ? machine.spans(machine.put(levels)) : found;
+    return { levels: isSame ? levels : bytesOf(text), found: found.map((it, i) => ({ ...it, at: own[i].at, end: own[i].end })), answers: answers ?? bytesOf(made),
         names: answers ? names : [names[0], "the solutions in it"], notes, said };
 }
 
@@ -178,7 +179,7 @@ const tasks = {
     async judged({ rows, kind, bytes, first, body = bodyIn(textOf(bytes), first) }) {
         const machine = await Machine.start(), lines = bytesOf(body.map(([, line]) => `${line}\n`).join(""));
         return { line: machine.judged(bytesOf(rows.join("\n")), kind === "unsolvable" ? CERTIFICATE_KIND : SOLUTION_KIND, lines,
-            body.map(([number]) => number)), body };
+            body.map(([number]) => number)), slices: bytes ? slicesOfBody(body, kind) : [] };
     },
     // The page of a result, to keep. No text may end the block of its data: '<' is escaped.
     async page({ parts: [before, after], result }) {

@@ -6,38 +6,38 @@ const LEGEND = "Shaded: where the player may be. Faint: the other boxes, where t
 
 class PatternsView {
     constructor(view) {
-        Object.assign(this, view, { work: new Parts(), startWork: new Parts(), lines: [] });
-        this.work.run(patternsIn(this.record.body), lines => this.begin(lines));
+        Object.assign(this, view, { work: new Parts(), startWork: new Parts(), patterns: [] });
+        this.work.run(patternsIn(this.board, this.record.body), patterns => this.begin(patterns));
     }
-    begin(lines) {
-        this.lines = lines;
+    begin(patterns) {
+        this.patterns = patterns;
         const { status, words: [what, number, why, at, dir] } = this.verdict;
         const refused = status === "refused" && what === "line" ? Number(number) : -1;
-        this.certificate = new Certificate(this.board, this.lines);
-        this.refused = this.lines.findIndex(({ line }) => line === refused);
+        this.certificate = new Certificate(this.board, patterns);
+        this.refused = this.patterns.findIndex(({ line }) => line === refused);
         this.push = this.refused >= 0 && why === "push" ? { at, dir } : null;
         this.build();
         this.go(Number(this.at) || this.refused + 1 || 1);
     }
     get keys() {
-        if (!this.lines.length) return {};
+        if (!this.patterns.length) return {};
         const on = () => this.step(1), back = () => this.step(-1);
         return { ArrowRight: on, ArrowDown: on, ArrowLeft: back, ArrowUp: back,
             PageDown: () => this.step(10), PageUp: () => this.step(-10),
-            Home: () => this.show(1), End: () => this.show(this.lines.length) };
+            Home: () => this.show(1), End: () => this.show(this.patterns.length) };
     }
     build() {
         this.note = html("p", { class: "note", tabindex: -1 });
         this.moves = html("ol", { class: "pushes" });
         const input = () => this.number.value && this.show(this.number.value);
-        this.number = html("input", { type: "number", min: 1, max: this.lines.length,
+        this.number = html("input", { type: "number", min: 1, max: this.patterns.length,
             "aria-label": "pattern", oninput: input });
         const toStart = html("span");
         const button = (name, label, act) =>
             html("button", { "aria-label": label, onclick: act }, name);
         this.side.append(html("p", { class: "controls" },
             button("previous", "previous pattern", () => this.step(-1)),
-            html("label", {}, "pattern ", this.number, ` of ${this.lines.length}`),
+            html("label", {}, "pattern ", this.number, ` of ${this.patterns.length}`),
             button("next", "next pattern", () => this.step(1)),
             toStart), this.note, this.moves, html("p", { class: "key" }, LEGEND));
         const { board: { players, boxes } } = this;
@@ -46,8 +46,8 @@ class PatternsView {
     }
     // draws a pattern, counted from 1, and the pushes out of it once they are found
     go(to) {
-        this.now = Math.max(1, Math.min(this.lines.length, Number(to) || 1));
-        const pattern = this.certificate.patterns[this.now - 1];
+        this.now = Math.max(1, Math.min(this.patterns.length, Number(to) || 1));
+        const pattern = this.patterns[this.now - 1];
         const isOnBoard = ![...pattern.boxes].some(box => box < 0);
         if (Number(this.number.value) !== this.now) this.number.value = this.now;
         if (!isOnBoard) {
@@ -99,7 +99,7 @@ class PatternsView {
     }
     show(to) {
         this.go(to);
-        settle(this.now, `Pattern ${this.now} of ${this.lines.length}. ${this.note.textContent}`);
+        settle(this.now, `Pattern ${this.now} of ${this.patterns.length}. ${this.note.textContent}`);
     }
     step(by) {
         this.show(this.now + by);

@@ -6,7 +6,7 @@ const MOST_NAMED = 60;
 // how many cells are filled between two pauses
 const FILLED_AT_ONCE = 2000;
 // how many milliseconds a part of long work takes
-const LONGEST_PART = 20;
+const LONGEST_PART = 10;
 
 function svg(name, attributes, parent) {
     const element = document.createElementNS(SVG, name);
@@ -22,6 +22,11 @@ class Parts {
     run(work, done) {
         this.stop();
         return this.part(work, done, false);
+    }
+    // does the same once what runs now is done
+    later(work, done) {
+        this.stop();
+        this.timer = setTimeout(() => this.part(work, done, true));
     }
     part(work, done, isLate) {
         const end = performance.now() + LONGEST_PART;

@@ -4,7 +4,7 @@ const STEPS = { l: [-1, 0], u: [0, -1], r: [1, 0], d: [0, 1] };
 const BACK = { l: "r", u: "d", r: "l", d: "u" };
 const NAMES = { l: "left", u: "up", r: "right", d: "down" };
 // how many letters are read at once, after how many a state is kept, and after how many the work pauses
-const MOST_AT_ONCE = 1 << 18, KEPT_EVERY = 1 << 16, PAUSE_EVERY = 1 << 9;
+const MOST_AT_ONCE = 1 << 16, KEPT_EVERY = 1 << 16, PAUSE_EVERY = 1 << 9;
 
 class Board {
     constructor(rows) {
@@ -64,16 +64,37 @@ class Board {
     }
 }
 
+// The letters of a solution as bytes, since a string of millions would be made in one long step.
+class Letters {
+    constructor(most) {
+        this.bytes = new Uint8Array(most);
+        this.length = 0;
+    }
+    add(text) {
+        for (let i = 0; i < text.length; i++) {
+            const byte = text.charCodeAt(i);
+            if (byte > 32 || !/[ \t\r\n]/.test(text[i])) this.bytes[this.length++] = byte;
+        }
+    }
+    // the letter after some others, or undefined after the last
+    at(i) {
+        return i >= 0 && i < this.length ? String.fromCharCode(this.bytes[i]) : undefined;
+    }
+    slice(from, to) {
+        return Array.from(this.bytes.subarray(from, Math.min(to, this.length)), byte => String.fromCharCode(byte));
+    }
+}
+
 // The letters in a record's body without blanks. Pauses often, since they may be millions.
 function* lettersIn(body) {
-    const parts = [];
+    const letters = new Letters(body.reduce((sum, [, line]) => sum + line.length, 0));
     for (const [, line] of body) {
         for (let at = 0; at < line.length; at += MOST_AT_ONCE) {
-            parts.push(line.slice(at, at + MOST_AT_ONCE).replace(/[ \t\r\n]+/g, ""));
+            letters.add(line.slice(at, at + MOST_AT_ONCE));
             yield;
         }
     }
-    return parts.join("");
+    return letters;
 }
 
 // A solution while it plays: the state after some letters. Stops before the first letter that is refused. Going back starts from the last
@@ -93,7 +114,7 @@ class Play {
     }
     // why the next letter is refused, or ""
     fault() {
-        const letter = this.letters[this.at], dir = letter?.toLowerCase();
+        const letter = this.letters.at(this.at), dir = letter?.toLowerCase();
         if (!(dir in STEPS)) return "letter";
         const { board, boxes } = this, next = board.next(this.player, dir);
         if (board.isWall(next)) return "wall";
@@ -103,7 +124,7 @@ class Play {
     }
     next() {
         if (this.at >= this.letters.length || this.fault()) return false;
-        const dir = this.letters[this.at].toLowerCase(), from = this.board.next(this.player, dir);
+        const dir = this.letters.at(this.at).toLowerCase(), from = this.board.next(this.player, dir);
         if (this.boxes.has(from)) {
             const to = this.board.next(from, dir);
             this.boxes.delete(from);
@@ -140,17 +161,6 @@ function certificateLine([line, text]) {
     return zone ? { line, text, zone: cellsOf(zone[1]) } : { line, text };
 }
 
-// The lines of a record's body that are patterns. Pauses often, since a list may be long.
-function* patternsIn(body) {
-    const lines = [];
-    for (const it of body) {
-        const line = certificateLine(it);
-        if (line.boxes) lines.push(line);
-        yield;
-    }
-    return lines;
-}
-
 // A pattern on a board, whose words are read when they are asked for.
 class Pattern {
     constructor(board, { line, boxes, seeds }) {
@@ -173,12 +183,22 @@ class Pattern {
     }
 }
 
+// The patterns of a record's body on a board. Pauses often, since a list may be long.
+function* patternsIn(board, body) {
+    const patterns = [];
+    for (const it of body) {
+        const line = certificateLine(it);
+        if (line.boxes) patterns.push(new Pattern(board, line));
+        yield;
+    }
+    return patterns;
+}
+
 // A list of patterns on a board: the pushes out of them, and the patterns that cover the results.
 // Its generators pause often, since a list may be long.
 class Certificate {
-    constructor(board, lines) {
-        this.board = board;
-        this.patterns = lines.map(line => new Pattern(board, line));
+    constructor(board, patterns) {
+        Object.assign(this, { board, patterns });
         // the numbers of the patterns, by their first boxes
         this.byBox = new Map();
         this.read = 0;

@@ -12,7 +12,7 @@ const SLIDER_KEYS = /^(Arrow|Page|Home|End)/;
 const PAUSE = 250;
 // what is shown, and the address that it was shown for
 let shownLevel = null, view = STILL, routed = null;
-let settling = 0;
+let settling = 0, drawnWidth = innerWidth;
 
 function say(words) {
     $("said").textContent = words;
@@ -99,6 +99,13 @@ function redraw() {
     if (!shownLevel) overview(true);
 }
 
+// shows other cards if the window is higher than before, and draws them again if it is wider
+function resized() {
+    if (drawnWidth === innerWidth) return seen();
+    drawnWidth = innerWidth;
+    redraw();
+}
+
 function start() {
     $("keys").querySelector("dl").append(
         ...KEYS.flatMap(([key, does]) => [html("dt", {}, key), html("dd", {}, does)]));
@@ -108,7 +115,7 @@ function start() {
     addEventListener("keydown", press);
     addEventListener("hashchange", route);
     addEventListener("scroll", seen, { passive: true });
-    addEventListener("resize", redraw);
+    addEventListener("resize", resized);
     addEventListener("beforeprint", () => shownLevel || $("overview").append(html("div", { id: "printed" }, ...allCards())));
     addEventListener("afterprint", () => $("printed")?.remove());
     matchMedia("(prefers-color-scheme: dark)").addEventListener("change", redraw);
@@ -118,5 +125,3 @@ function start() {
     chips();
     route();
 }
-
-start();

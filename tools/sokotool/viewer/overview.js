@@ -93,7 +93,7 @@ function overview(all = false) {
         if (isNew || all) undrawn.add(level);
         return card;
     }, $("nothing"));
-    drawing.run(sketches(places.map(i => found[i])), () => {});
+    drawing.later(sketches(places.map(i => found[i])), () => {});
 }
 
 // draws the cards that aren't drawn yet, the ones in view first
@@ -121,10 +121,10 @@ function chips() {
     for (const status of ["", ...Object.keys(STATUSES)]) {
         const count = LEVELS.filter(level => !status || level.verdict.status === status).length;
         $("totals").append(html("button", { class: `chip ${status || "all"}`, "data-status": status,
-            onclick: () => showLevels(wanted === status ? "" : status) },
+            "aria-pressed": String(!status), onclick: () => showLevels(wanted === status ? "" : status) },
         `${STATUSES[status] ?? ""} ${status || "levels"} ${count}`));
     }
-    showLevels("");
+    $("nothing").hidden = LEVELS.length > 0;
 }
 
 // shows the levels of a status, or all for "", that have the words of the field

@@ -47,7 +47,7 @@ class SolutionView {
     }
     render() {
         const { board, play, refusedAt } = this;
-        const next = play.letters[refusedAt]?.toLowerCase();
+        const next = play.letters.at(refusedAt)?.toLowerCase();
         const arrows = play.at === refusedAt && play.player >= 0 && next in STEPS
             ? [{ from: play.player, dir: next, kind: "refused", length: .9,
                 title: "the letter that is refused" }] : [];
@@ -67,7 +67,7 @@ class SolutionView {
         const from = Math.max(0, Math.min(play.at - MOST_LETTERS / 2, this.end - MOST_LETTERS));
         const kind = i =>
             i === refusedAt ? "bad" : i < play.at ? "done" : i === play.at ? "here" : "";
-        const some = [...play.letters.slice(from, from + MOST_LETTERS)].map((letter, i) =>
+        const some = play.letters.slice(from, from + MOST_LETTERS).map((letter, i) =>
             html("span", { class: kind(from + i) }, /[!-~]/.test(letter) ? letter : "\u00b7"));
         this.letters.replaceChildren(from ? "\u2026" : "", ...some,
             from + MOST_LETTERS < this.end ? "\u2026" : "");
@@ -79,7 +79,7 @@ class SolutionView {
     }
     // what the step is, in words
     words() {
-        const { at, letters } = this.play, letter = letters[at - 1];
+        const { at, letters } = this.play, letter = letters.at(at - 1);
         const step = at ? `${letter === letter.toLowerCase() ? "step" : "push"} `
             + NAMES[letter.toLowerCase()] : "start";
         return `Letter ${at} of ${this.end}: ${step}. ${this.state()}. ${this.note.textContent}`;
@@ -124,8 +124,10 @@ function wholeOf(body) {
         copy.textContent = document.execCommand("copy") ? "copied" : "press Ctrl+C";
     } }, "copy");
     let length = 0;
-    const some = body.filter(([, line]) => (length += line.length + 1) - line.length <= MOST_TO_COPY);
+    // a long line is cut into several with the same number
+    const some = body.filter(([, line]) => (length += line.length + 1) - line.length <= MOST_TO_COPY)
+        .map(([number, line], i) => i && body[i - 1][0] !== number ? `\n${line}` : line);
     const words = length > MOST_TO_COPY ? "the first letters, to copy" : "all letters, to copy";
-    return html("details", { class: "whole", ontoggle: () => area.value ||= some.map(([, line]) => line).join("\n").slice(0, MOST_TO_COPY) },
+    return html("details", { class: "whole", ontoggle: () => area.value ||= some.join("").slice(0, MOST_TO_COPY) },
         html("summary", {}, words), area, copy);
 }
