@@ -637,7 +637,8 @@ class Unchanged(Check):
         self.converts("a.txt")
         memory = self.read("mine.memory")
         whole = json.loads(memory)
-        for exports in (5, {}, {**whole["exports"], "files": 5}, {**whole["exports"], "notes": [1]}):
+        for exports in (5, {}, {**whole["exports"], "files": 5},
+                        {**whole["exports"], "notes": [1]}):
             self.write("mine.memory", json.dumps({**whole, "exports": exports}))
             self.assertTrue(self.converts("a.txt"), exports)
             self.assertEqual(self.read("mine.memory"), memory)
