@@ -8,7 +8,7 @@ came.
 import re
 from typing import Dict, List, NamedTuple, Optional, Sequence, Set, Tuple
 
-from . import answers, blocks, boards, by_hand, changes, texts
+from . import answers, blocks, boards, changes, merging, texts
 from .blocks import Block
 
 _HEAD = b"; kept"
@@ -39,7 +39,7 @@ class Kept(NamedTuple):
 
     def collection(self) -> changes.Snapshot:
         """Returns the levels."""
-        return by_hand.collection([entry.block for entry in self.entries])
+        return merging.collection([entry.block for entry in self.entries])
 
     def records(self) -> List[answers.Record]:
         """Returns the answers, numbered by the places of the levels from 1."""
