@@ -1,9 +1,11 @@
 """The command check beside others: what is typed while it runs, other runs, older files, slips."""
+import contextlib
+import itertools
 import os
 import subprocess
 import threading
 import unittest.mock
-from typing import Callable, Dict, Optional
+from typing import Any, Callable, Dict, Optional
 
 from sokotool import auditor, boards, levels, own_files
 from tests.tools.ending import Meanwhile
@@ -44,6 +46,39 @@ class Beside(Check):
                     result = self.check("mine", "a.txt")
                 self.assertIn("edited by hand: level", result.out.decode())
                 self.assertIn(f"{moment} {calls}\n".encode(), self.read("mine.xsb"))
+
+    def test_saved_right_before_any_move_of_a_file(self) -> None:
+        """Whatever is renamed, linked or removed next: what an editor saves is there afterwards."""
+        self.write("a.txt", CORNER)
+        self.check("mine", "a.txt")
+        self.write("a.txt", LONG)
+        files = {name: self.read(name) for name in os.listdir()}
+        saved = files["mine.xsb"] + b"typed now\n"
+        for moment in itertools.count(1):
+            for name in os.listdir():
+                os.remove(name)
+            for name, data in files.items():
+                self.write(name, data)
+            calls = 0
+
+            def saving(real: Callable[..., None]) -> Callable[..., None]:
+                def call(*words: Any, **named: Any) -> None:
+                    nonlocal calls
+                    calls += 1
+                    if calls == moment:
+                        self.write("mine.xsb", saved)
+                    real(*words, **named)
+                return call
+            with contextlib.ExitStack() as patches:
+                for name in {"replace", "link", "rename", "unlink"} & {*dir(os)}:
+                    patches.enter_context(unittest.mock.patch.object(
+                        os, name, saving(getattr(os, name))))
+                self.check("mine", "a.txt")
+            if calls < moment:
+                break
+            self.assertTrue(any(b"typed now\n" in self.read(name) for name in os.listdir()
+                                if name in ("mine.xsb", "mine.kept.xsb")), f"moment {moment}")
+        self.assertGreater(moment, 10)
 
     def test_file_that_changes_again_and_again(self) -> None:
         """After three rounds the run ends, and all files are whole."""

@@ -405,6 +405,26 @@ class Typed(Check):
         self.assertIn(b"Better B\nCorner\n######\n", self.read("mine.xsb"))
         self.assertNotIn(b"Better B", self.read("mine.kept.xsb"))
 
+    def test_title_over_a_kept_text_that_no_level_has_any_more(self) -> None:
+        """It may have been typed: it stays when the text comes back. One that a level has goes."""
+        for title, left in (("Old", None), ("New", b"; kept from level 1, Old\n")):
+            self.write("a.txt", ONE + "Title: Old\n")
+            self.write("b.txt", LONG)
+            self.check("mine", "a.txt", "b.txt")
+            self.write("mine.xsb", b"a note\n" + self.read("mine.xsb"))
+            self.check("mine", "b.txt")
+            self.assertIn(b"; kept from level 1, Old\na note\n", self.read("mine.kept.xsb"))
+            self.write("a.txt", ONE + f"Title: {title}\n")
+            result = self.check("mine", "a.txt", "b.txt")
+            self.assertIn(b"a note\n", self.read("mine.xsb"))
+            self.assertEqual(os.path.exists("mine.kept.xsb"), bool(left))
+            self.assertEqual("kept in mine.kept.xsb: 1 comment of levels that are back"
+                             in self.lines(result), bool(left))
+            if left:
+                self.assertTrue(self.read("mine.kept.xsb").startswith(left))
+            for name in [name for name in os.listdir() if name.startswith("mine")]:
+                os.remove(name)
+
     def test_order_of_the_levels(self) -> None:
         """An order that the keeper chose stays, and a new level comes after the one that it follows
         in the exports."""
@@ -637,7 +657,8 @@ class Unchanged(Check):
         self.converts("a.txt")
         memory = self.read("mine.memory")
         whole = json.loads(memory)
-        for exports in (5, {}, {**whole["exports"], "files": 5}, {**whole["exports"], "notes": [1]}):
+        for exports in (5, {}, {**whole["exports"], "files": 5},
+                        {**whole["exports"], "notes": [1]}):
             self.write("mine.memory", json.dumps({**whole, "exports": exports}))
             self.assertTrue(self.converts("a.txt"), exports)
             self.assertEqual(self.read("mine.memory"), memory)

@@ -1,8 +1,10 @@
 """Folders with other files than exports: collections of sokotool with their answers, and files that
 have no level."""
 import os
+import re
 import shutil
 import zipfile
+from typing import Dict
 
 from sokotool import answers, levels
 from tests.tools.helping import SAMPLES
@@ -51,7 +53,7 @@ class Answers(Check):
             "both: 4 levels, 3 solved, 1 unsolvable, 0 refused, 0 missing",
             "twins: level 4 is level 1, as it is"]))
         self.assertIn(b"; by hand\nlevel 1\nsolution\nRurD\nend\n", self.read("both.answers"))
-        files = {name: self.read(name) for name in os.listdir() if name.startswith("both")}
+        files = self.files("both")
         os.remove("a.txt")
         os.remove("b.txt")
         os.remove("own")
@@ -59,7 +61,13 @@ class Answers(Check):
             os.remove(name)
         result = self.check("both", ".")
         self.assertEqual((result.status, result.err), (0, ""))
-        self.assertEqual(files, {name: self.read(name) for name in files})
+        self.assertEqual(files, self.files("both"))
+
+    def files(self, name: str) -> Dict[str, bytes]:
+        """Returns the files of a collection, without the digest of what was read, which has whether
+        a file was named or found in a folder."""
+        return {it: re.sub(rb'"digest": "\w+"', b"", self.read(it)) for it in os.listdir()
+                if it.startswith(name)}
 
     def test_levels_of_answers(self) -> None:
         """Those of the same name, or the only ones beside them; otherwise it is said what is

@@ -28,19 +28,10 @@ class Export(NamedTuple):
     is_found: bool = True
 
     @property
-    def is_solution(self) -> bool:
-        """Whether its name is that of a solution."""
-        return self.name.lower().endswith(".sol")
-
-    @property
-    def is_answers(self) -> bool:
-        """Whether its name is that of answers."""
-        return self.name.lower().endswith(".answers")
-
-    @property
-    def is_levels(self) -> bool:
-        """Whether its name is that of levels as sokotool writes them."""
-        return self.name.lower().endswith(".xsb")
+    def end(self) -> str:
+        """The end of its name in small letters: .sol for solutions, .answers for answers, and .xsb
+        for levels as sokotool writes them."""
+        return os.path.splitext(self.name)[1].lower()
 
     @property
     def stem(self) -> str:
@@ -63,12 +54,12 @@ def listed(names: Sequence[str], is_own: IsOut = lambda _: False) -> List[Export
     """
     seen: Set[Tuple[int, int]] = set()
     found = [export for name in names for export in _of(name, seen, is_own)]
-    stems = [export.stem for export in found if not export.is_answers]
-    for solution in [export for export in found if export.is_solution]:
+    stems = [export.stem for export in found if export.end != ".answers"]
+    for solution in [export for export in found if export.end == ".sol"]:
         if stems.count(solution.stem) == 2:
             found.remove(solution)
             at = next((at for at, it in enumerate(found)
-                       if it.stem == solution.stem and not it.is_answers), len(found) - 1)
+                       if it.stem == solution.stem and it.end != ".answers"), len(found) - 1)
             found.insert(at + 1, solution)
     return found
 
@@ -76,7 +67,7 @@ def listed(names: Sequence[str], is_own: IsOut = lambda _: False) -> List[Export
 def levels_of(export: Export, every: Sequence[Export]) -> Optional[Export]:
     """Returns the levels that a file of answers is for: those of its name, or the only ones that
     lie beside it."""
-    beside = [it for it in every if it.is_levels
+    beside = [it for it in every if it.end == ".xsb"
               and os.path.dirname(it.name) == os.path.dirname(export.name)]
     name = export.levels_name
     same = [it for it in beside if it.name == name] or [

@@ -8,7 +8,7 @@ came.
 import re
 from typing import Dict, List, NamedTuple, Optional, Sequence, Set, Tuple
 
-from . import answers, blocks, boards, by_hand, changes, texts
+from . import answers, blocks, boards, changes, merging, texts
 from .blocks import Block
 
 _HEAD = b"; kept"
@@ -22,12 +22,17 @@ class Entry(NamedTuple):
     block: Block
     record: Optional[answers.Record] = None
 
+    @property
+    def has_text(self) -> bool:
+        """Whether text was typed for the level."""
+        return bool(self.block.above or self.block.below)
+
     def stays(self, titles: Set[bytes]) -> bool:
         """Returns whether the comment or the text says something else than one of these titles.
         Then it stays, although there is no answer any more."""
         written = _WRITTEN.fullmatch(self.head)
         said = written[1] if written else self.head
-        return bool(self.block.above or self.block.below or said and said not in titles)
+        return self.has_text or bool(said) and said not in titles
 
 
 class Kept(NamedTuple):
@@ -39,7 +44,7 @@ class Kept(NamedTuple):
 
     def collection(self) -> changes.Snapshot:
         """Returns the levels."""
-        return by_hand.collection([entry.block for entry in self.entries])
+        return merging.collection([entry.block for entry in self.entries])
 
     def records(self) -> List[answers.Record]:
         """Returns the answers, numbered by the places of the levels from 1."""
@@ -52,13 +57,13 @@ class Kept(NamedTuple):
         are_there = [form.key in keys for form in self.collection().forms]
         count = {is_there: sum(bool(entry.record) for entry, it in zip(self.entries, are_there)
                                if it == is_there) for is_there in (False, True)}
-        typed = sum(bool(entry.block.above or entry.block.below) for entry in self.entries)
+        typed = [entry for entry in self.entries if entry.has_text]
+        alone = [entry for entry in self.entries
+                 if entry.head and not (entry.record or entry.has_text)]
         found = [(count[False], "answer", "of levels that are away"),
                  (count[True], "answer", "for which there are better ones"),
-                 (typed, "text", "of levels that are away"),
-                 (sum(bool(entry.head) and not (entry.record or entry.block.above
-                                                or entry.block.below) for entry in self.entries),
-                  "comment", "of answers that are back")]
+                 (len(typed), "text", "of levels that are away"),
+                 (len(alone), "comment", "of levels that are back")]
         return [f"{texts.count(number, noun)} {why}" for number, noun, why in found if number]
 
     def files(self) -> Tuple[Optional[bytes], Optional[bytes]]:

@@ -6,7 +6,7 @@ from typing import Any, Dict, List, Mapping, NamedTuple, Optional, Sequence, Tup
 
 from . import texts
 from .blocks import Block, Lines
-from .by_hand import Written, collection
+from .merging import Written, collection
 from .outcomes import Outcomes
 
 

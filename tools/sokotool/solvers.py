@@ -13,7 +13,7 @@ import tempfile
 import time
 from typing import IO, Callable, Iterator, List, NamedTuple, Optional, Sequence, Tuple
 
-from . import answers, printed, system, texts
+from . import answers, solver_output, system, texts
 from .formats import written
 from .jobs import Job, Jobs
 from .levels import Level
@@ -135,11 +135,11 @@ class Run(Job):
                 ) -> Tuple[str, bytes, List[str]]:
         """Returns the outcome, a record, and lines that tell what was printed and refused."""
         said = _shown(parts)
-        found, refused = printed.solution_in(self.level, parts)
+        found, refused = solver_output.solution_in(self.level, parts)
         said += refused
         if found is not None:
             return SOLVED, answers.solution(self.level.number, found), said
-        for lines in printed.certificates_in(heads):
+        for lines in solver_output.certificates_in(heads):
             why = self.solver.refusal(self.level, lines)
             if not why:
                 return REFUTED, answers.certificate(self.level.number, lines), said

@@ -3,7 +3,7 @@ exports, answers are taken over, and the best ones are audited."""
 import argparse
 from typing import Any, List, Optional, Sequence, Set, Tuple
 
-from . import (answers, auditor, blocks, boards, by_hand, carrying, kept, levels, memory, own_files,
+from . import (answers, auditor, blocks, boards, carrying, kept, levels, memory, merging, own_files,
                report, texts)
 from .audits import Audits
 from .changes import Snapshot
@@ -29,7 +29,7 @@ class Run:
                  ) -> None:
         self.options, self.shown, self.program = options, shown, program
         self.name: str = options.name
-        self.exports, self.origins = by_hand.collection([]), Origins([], [])
+        self.exports, self.origins = merging.collection([]), Origins([], [])
         self.conversion: Any = None
         self.records: List[answers.Record] = []
         self.more: List[Tuple[str, answers.Answers]] = []
@@ -81,7 +81,7 @@ class State:
             kept_text, self.files.answers(KEPT_ANSWERS, len(levels.read(kept_text))))
         written = self.memory.written.collection
         is_same = written.blocks and self.files.levels() == blocks.text(written.blocks)
-        self.mine = written if is_same else by_hand.collection(_own_blocks(self.files))
+        self.mine = written if is_same else merging.collection(_own_blocks(self.files))
         # the levels whose numbers NAME.answers has, and the highest number that it may have
         self.former = written if written.blocks else self.mine
         self.most = max(len(self.former.levels), len(self.mine.blocks))
@@ -90,7 +90,7 @@ class State:
             run.found += [
                 (boards.form_of(levels.Level(1, list(rows), 1)), answers.answer_of(record))
                 for rows, record in self.memory.found]
-        self.merged = by_hand.merged(self.memory.written, self.mine, run.exports,
+        self.merged = merging.merged(self.memory.written, self.mine, run.exports,
                                      [entry.block for entry in self.stored.entries])
         self.now = self.merged.written.collection
         self.text = noted(run.program, blocks.text(self.now.blocks))

@@ -17,7 +17,7 @@ import math
 import os
 from typing import Dict, List, Optional, Sequence, Tuple
 
-from .. import (__version__, answers, auditor, blocks, boards, by_hand, exports, memory, own_files,
+from .. import (__version__, answers, auditor, blocks, boards, exports, memory, merging, own_files,
                 places, sheet, summary, system, texts, transaction)
 from ..changes import Snapshot
 from ..collection import BOTH, MOVES, PUSHES, Collection
@@ -115,7 +115,7 @@ def read_exports(given: Run) -> None:
     found = found or converted(given, reading)
     given.conversion = found.data()
     text, exported, others = found.files
-    given.exports = by_hand.collection(blocks.read(text))
+    given.exports = merging.collection(blocks.read(text))
     given.origins = found.origins
     given.records = [record for it in (exported, others) for record in answers.read(it).records]
 

@@ -108,12 +108,12 @@ def read_files(collection: Collection, listed: Sequence[exports.Export]) -> None
         if own_files.is_made(export.name, data):
             continue
         name = names[export.name]
-        if not export.is_solution:
+        if export.end != ".sol":
             collection.end_level()
         collection.file, collection.published = export.name, name
         if answers.is_begun(data):
             _read_answers(collection, data, exports.levels_of(export, listed), waiting)
-        elif export.is_solution:
+        elif export.end == ".sol":
             _read_solution(collection, data, before, waiting)
         else:
             count = collection.total

@@ -5,8 +5,8 @@ from typing import List, Sequence
 
 from sokotool import blocks
 from sokotool.blocks import Block
-from sokotool.by_hand import Written, collection, merged
 from sokotool.changes import Snapshot
+from sokotool.merging import Written, collection, merged
 
 COUNT = 500
 
