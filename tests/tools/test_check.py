@@ -634,9 +634,24 @@ class Unchanged(Check):
             self.assertFalse(self.converts("inbox"))
         os.rename("inbox/b.txt", "inbox/c.txt")
         self.assertTrue(self.converts("inbox"))
-        with unittest.mock.patch("sokotool.conversion.__version__", "another"):
+        with unittest.mock.patch("sokotool.conversion.code", return_value="another"):
             self.assertTrue(self.converts("inbox"))
         self.assertTrue(self.converts("inbox"))
+
+    def test_code_counts(self) -> None:
+        """The modules of formats and commands are part of the code, in a zip as in a folder."""
+        zipped = os.path.abspath("sokotool.pyz")
+        subprocess.run([sys.executable, f"{TOP}/packaging/pyz", zipped], check=True,
+                       stdout=subprocess.DEVNULL)
+        asked = ("import pkgutil, sys; sys.path[0] = sys.argv[1]; from sokotool import conversion; "
+                 "read = pkgutil.get_data; got = []; pkgutil.get_data = lambda *it: ("
+                 "got.append(it[1]), read(*it))[1]; print(conversion.code(), *got)")
+        whole, packed = (subprocess.run([sys.executable, "-c", asked, path], check=True,
+                                        stdout=subprocess.PIPE).stdout.decode().split()
+                         for path in (f"{TOP}/tools", zipped))
+        self.assertEqual(whole[0], packed[0])
+        for name in ("levels.py", "commands/convert.py", "formats/plain.py"):
+            self.assertIn(name, whole)
 
     def test_what_is_converted_each_time(self) -> None:
         """That is what has no digest: levels beside answers, standard input, what can't be read."""

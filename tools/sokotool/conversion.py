@@ -1,10 +1,12 @@
 """What the exports give, with a digest of all that was read. NAME.memory has it, so exports that
 didn't change aren't converted again."""
 import contextlib
+import functools
 import json
+import pkgutil
 from typing import Any, Callable, Dict, List, NamedTuple, Optional, Sequence
 
-from . import __version__, answers, exports, texts
+from . import __path__, answers, exports, texts
 from .places import Origins, Place, Problem
 
 
@@ -33,7 +35,7 @@ class Reading:
     def __init__(self, listed: Sequence[exports.Export], *how: Any) -> None:
         self.listed = [export._replace(read=self._reader(export)) for export in listed]
         self._names = exports.published([export.name for export in listed])
-        self._how = [__version__, *how]
+        self._how = [code(), *how]
         self._digests: Dict[str, str] = {}
 
     def _reader(self, export: exports.Export) -> Callable[[], bytes]:
@@ -75,6 +77,15 @@ class Reading:
                     Origins([place(*it) for it in data["places"]], problems("problems")),
                     problems("notes"))
         return None
+
+
+@functools.lru_cache(maxsize=None)
+def code() -> str:
+    """Returns a digest of the modules that read exports and write files."""
+    names = [f"{folder}/{module.name}.py"[1:] for folder in ("", "/commands", "/formats")
+             for module in pkgutil.iter_modules([path + folder for path in __path__])
+             if not module.ispkg]
+    return texts.digest(b"".join(pkgutil.get_data("sokotool", name) or b"" for name in names))
 
 
 def _decoded(data: bytes) -> str:

@@ -17,11 +17,11 @@ import math
 import os
 from typing import Dict, List, Optional, Sequence, Tuple
 
-from .. import (__version__, answers, auditor, blocks, boards, exports, memory, merging, own_files,
+from .. import (answers, auditor, blocks, boards, exports, memory, merging, own_files,
                 places, sheet, summary, system, texts, transaction)
 from ..changes import Snapshot
 from ..collection import BOTH, MOVES, PUSHES, Collection
-from ..conversion import Conversion, Reading
+from ..conversion import Conversion, Reading, code
 from ..outcomes import Result
 from ..own_files import (ANSWERS, KEPT_ANSWERS, KEPT_XSB, MEMORY, OTHER, PAGE, REPORT, SHEET, XSB,
                          noted)
@@ -205,7 +205,7 @@ def contents(given: Run, state: State) -> Dict[str, Optional[bytes]]:
     files = [state.text, state.answers, state.report]
     froms = [(number, page.source_of(it)) for number, it in sources.items()]
     made_of = texts.digest(b"\n".join([ascii([
-        __version__, page.skeleton(), page_names(given), froms]).encode(), *files]))
+        code(), page.skeleton(), page_names(given), froms]).encode(), *files]))
     made = state.files.now.get(PAGE) or b""
     if state.memory.made.get(PAGE) != f"{made_of} {texts.digest(made)}":
         made = page_of(given, files, sources)
