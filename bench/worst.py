@@ -31,6 +31,7 @@ def worst() -> Iterator[Timed]:
     yield corridor(side=255, lines=1000, has_trap=True)
     yield decoys(side=120, boxes=60, big=60, lines=1500)
     yield decoys(side=120, boxes=60, big=60, lines=1500, ahead=True)
+    yield decoys(side=255, boxes=20, big=3000, lines=3000, last=True)
     yield halves(side=120, boxes=40, big=150, lines=3000)
     yield one_for_all(side=255, lines=12000)
     yield last_fails(side=60, lines=300, decoys=1000)
@@ -121,9 +122,11 @@ def corridor(side: int, lines: int, has_trap: bool = False) -> Timed:
          *(line([it]) for it in rest)]))
 
 
-def decoys(side: int, boxes: int, big: int, lines: int, ahead: bool = False) -> Timed:
+def decoys(side: int, boxes: int, big: int, lines: int, ahead: bool = False,
+           last: bool = False) -> Timed:
     """Patterns of many boxes, each of whose pushes a pattern of all boxes but the pushed one
-    covers, among decoys. With `ahead` the pattern that covers a push has the box where it goes."""
+    covers, among decoys. With `ahead` the pattern that covers a push has the box where it goes.
+    With `last` the one that covers the others comes last."""
     hall, every = Hall(side), grid(range(9, side - 4, 4), range(9, side - 4, 4))
     some, rest = every[:boxes], every[boxes:]
     kept = less_one(some)
@@ -131,9 +134,11 @@ def decoys(side: int, boxes: int, big: int, lines: int, ahead: bool = False) -> 
         kept = [[*it, to] for it, (x, y) in zip(kept, some)
                 for to in ((x, y - 1), (x - 1, y), (x + 1, y), (x, y + 1))]
     heads = [some, *([*some, it] for it in rest[:big]), *kept]
-    name = "lines that match every state and cover none" + ", with the box ahead" * ahead
+    name = ("lines that the last line covers" if last else
+            "lines that match every state and cover none" + ", with the box ahead" * ahead)
+    texts = [line([*it, hall.plug]) for it in heads]
     return Timed(name, AUDIT, hall.level([*some, hall.plug]), listed(
-        [*(line([*it, hall.plug]) for it in heads), *hall.decoys(some, lines)]))
+        [*texts[last:], *hall.decoys(some, lines), *texts[:last]]))
 
 
 def halves(side: int, boxes: int, big: int, lines: int) -> Timed:
