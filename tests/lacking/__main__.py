@@ -4,9 +4,9 @@ tests that need a browser, take long or measure time, and those that only work o
 Python 3.8 is used where there is one. Ends in 'N passed, M failed'.
 
 What is simulated: functions and modules that are missing, new processes that start anew, \\ as
-os.sep, commands by PATHEXT, names of devices, a file that can't be replaced for a moment, many
-processors, a closed pipe as EINVAL, decomposed names, ends of names in another case, and the lines
-that make commands of sokotool.pyz.
+os.sep, a rename that replaces no file, commands by PATHEXT, names of devices, a file that can't be
+replaced for a moment, many processors, a closed pipe as EINVAL, decomposed names, ends of names in
+another case, and the lines that make commands of sokotool.pyz.
 
 What isn't: os.path with drives and \\ (but for a few tests), files that can't be removed while they
 are open, names that differ only in case, paths of more than 260 characters, jobs of processes

@@ -96,6 +96,17 @@ def lock_as_windows() -> None:
     sys.modules["msvcrt"] = windows
 
 
+def rename_as_windows() -> None:
+    """Renames no file to the name of another one."""
+    rename = os.rename
+
+    def rename_new(old: Any, new: Any, **named: Any) -> None:
+        if os.path.lexists(new):
+            raise FileExistsError(errno.EEXIST, os.strerror(errno.EEXIST), new)
+        rename(old, new, **named)
+    setattr(os, "rename", rename_new)
+
+
 def no_library(name: object, *_: object, **__: object) -> None:
     """Refuses to load the C library, which has no name on Windows."""
     raise TypeError(f"bad argument type for built-in operation: {name}")
@@ -144,6 +155,7 @@ def become(system: str) -> None:
     setattr(ctypes, "CDLL", no_library)
     refuse_preexec()
     find_by_ends()
+    rename_as_windows()
 
 
 if os.environ.get("LACKING"):
