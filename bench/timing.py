@@ -4,10 +4,12 @@ the exit status, the bytes that it prints, and how the first line begins.
 
 The unit is work that is the same whatever the program does, and takes as many times as long on a
 machine that is as many times slower. So a program that is slower in everything is noticed too."""
+import os
 import resource
+import statistics
 import time
 import zlib
-from typing import Callable, Dict, NamedTuple, Tuple
+from typing import Callable, Dict, List, NamedTuple, Tuple
 
 from tests.runner import TOP, Cases, Ran, call, decode, read
 
@@ -45,17 +47,31 @@ def short(ran: Ran) -> str:
     return f"{ran.status} | {len(ran.output)} | {first[:50]}"
 
 
-def seconds(command: str, tries: int, unit: Work = work) -> Tuple[float, float]:
-    """The least processor seconds of some runs of a command, and of as many units between them."""
-    runs, units = [], []
+def pairs(command: str, tries: int, unit: Work = work) -> List[Tuple[float, float]]:
+    """The processor seconds of some runs of a command, each with those of a unit right before it.
+    All are on one processor, since another one may be faster for a while."""
+    found, processors = [], os.sched_getaffinity(0)
+    os.sched_setaffinity(0, {min(processors)})
     for _ in range(tries):
         before = time.process_time()
         unit()
-        units.append(time.process_time() - before)
+        one = time.process_time() - before
         used = _used()
         call(command.split())
-        runs.append(_used() - used)
-    return min(runs), min(units)
+        found.append((_used() - used, one))
+    os.sched_setaffinity(0, processors)
+    return found
+
+
+def units(found: List[Tuple[float, float]]) -> float:
+    """The units that runs took: half of them took less."""
+    return statistics.median(run / unit for run, unit in found)
+
+
+def seconds(command: str, tries: int) -> Tuple[float, float]:
+    """The least processor seconds of some runs of a command, and of as many units between them."""
+    runs, ones = zip(*pairs(command, tries))
+    return min(runs), min(ones)
 
 
 def _used() -> float:
@@ -81,8 +97,8 @@ def least_room(command: str) -> int:
 
 def measured(command: str) -> Limit:
     """What a command takes here."""
-    used, unit = seconds(command, 6 * TRIES)
-    return Limit(round(used / unit, 3), least_room(command), short(call(command.split())))
+    return Limit(round(units(pairs(command, 6 * TRIES)), 3), least_room(command),
+                 short(call(command.split())))
 
 
 def judge(cases: Cases, name: str, command: str, unit: Work = work) -> None:
@@ -93,12 +109,10 @@ def judge(cases: Cases, name: str, command: str, unit: Work = work) -> None:
     cases.same(f"{name}: what it prints", limit.said, short(found) + decode(found.errors))
     room = round(MORE_ROOM * limit.room)
     cases.holds(f"{name}: {room} KiB are enough", within(command, room) == found)
-    most, used, runs, units = MORE * limit.units, 0.0, [], []
+    most, used, found_pairs = MORE * limit.units, 0.0, []
     for _ in range(4):
-        run, one = seconds(command, TRIES, unit)
-        runs.append(run)
-        units.append(one)
-        used = min(runs) / min(units)
+        found_pairs += pairs(command, TRIES, unit)
+        used = units(found_pairs)
         if used <= most:
             break
     cases.holds(f"{name}: up to {most:.2f} units", used <= most, f"{used:.2f}")

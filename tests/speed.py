@@ -9,7 +9,7 @@ from tests.runner import Cases, arguments, enter_folder, write
 from tests.tables.rows import text
 
 # two cases, the second of which has the larger texts
-NAMES = "pairs of boxes in a room", "looked for in an open level"
+NAMES = "patterns with seeds on a board", "zones looked for in 10,000 levels"
 # what stands for $P, the program, and which of the three cases of each name fail
 IS_SECOND = '[ "$1" = make ]'
 PLANTED = {
