@@ -9,7 +9,8 @@ import re
 from tests.inputs import WHOLE_ANSWERS, WHOLE_LEVELS
 from tests.reference import fuzz
 from tests.refusals import refusing
-from tests.runner import TOP, Cases, arguments, enter_folder, read, run, run_apart, write
+from tests.runner import (TOP, Cases, arguments, enter_folder, read, run, run_apart, run_in_turn,
+                          write)
 from tests.tables.rows import text
 from tests.verdicts import constants, module_calls, verdicts
 
@@ -88,7 +89,7 @@ program, *library = arguments("library PROGRAM [LIBRARY]")
 cases, _room = Cases("library"), enter_folder()
 cases.demands("cc", "make")
 if not library:
-    said = run([f"{TOP}/packaging/module", "--quick"])
+    said = run_in_turn([f"{TOP}/packaging/module", "--quick"])
     if said.endswith("status 3\n"):
         cases.skip("the library for C", said.splitlines()[0], 22800)
         cases.finish()

@@ -6,7 +6,8 @@ import shutil
 import subprocess
 from typing import List
 
-from tests.runner import TOP, Cases, Ran, arguments, call, decode, enter_folder, run, write
+from tests.runner import (TOP, Cases, Ran, arguments, call, decode, enter_folder, run, run_in_turn,
+                          write)
 from tests.tables.rows import rows, text
 
 TEST = f"{TOP}/tests/run"
@@ -112,7 +113,7 @@ def compare_rows(cases: Cases, machine: str, other: str) -> None:
 def test(cases: Cases, machine: str, program: str) -> None:
     """Makes and tests the program for a machine."""
     name, runner, words = MACHINES[machine]
-    said = run([f"{TOP}/packaging/native", "--quick", machine, program, machine])
+    said = run_in_turn([f"{TOP}/packaging/native", "--quick", machine, program, machine])
     if said.endswith("status 3\n"):
         cases.skip(f"the program for {machine}", said.splitlines()[0], NUMBER)
         return

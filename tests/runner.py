@@ -43,6 +43,11 @@ def shell(command: str, *words: str, **how: Any) -> str:
     return run(["bash", "-c", command, *words], **how)
 
 
+def run_in_turn(words: Sequence[str]) -> str:
+    """The same of a command that makes the module of the library, while no other test makes it."""
+    return run(["flock", f"{TOP}/packaging", *words])
+
+
 def run_apart(words: Sequence[str], **how: Any) -> Tuple[str, str]:
     """What the command prints with its status as the last line, and what it prints on standard
     error."""

@@ -11,7 +11,8 @@ from tests.page import answering, forms, hostile, late, using
 from tests.page.comparing import HEADER, Comparison
 from tests.page.driving import Tab
 from tests.reference.fuzz import batches
-from tests.runner import TOP, Cases, arguments, encode, enter_folder, read, run, write
+from tests.runner import (TOP, Cases, arguments, encode, enter_folder, read, run, run_in_turn,
+                          write)
 from tests.tables.rows import rows, text
 from tests.tools import browser
 
@@ -99,7 +100,7 @@ def pages_of_the_sources() -> List[str]:
                run([make, "--sources"]))
     if not cases.needs("rt", "the page made anew"):
         return [kept]
-    said = run([make, "--quick", "made.html"])
+    said = run_in_turn([make, "--quick", "made.html"])
     if said.endswith("status 3\n"):
         cases.skip("the page made anew", said.splitlines()[0])
         return [kept]
