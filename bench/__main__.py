@@ -4,9 +4,9 @@ C is always the one of these sources. With --only it takes the cases alone whose
 word, and with --table it prints bench/times.table.
 
 With OTHER both programs run each case at about a hundredth of its size, and have to print the same.
-Of PROGRAM the cases at about a tenth of their size and the slowest known inputs are compared with
-bench/limits.table. Then the last line is 'N passed, M failed'. With --limits it prints that table
-anew."""
+With --judge the cases of PROGRAM at about a tenth of their size and the slowest known inputs are
+compared with bench/limits.table. For both the last line is 'N passed, M failed'. With --limits it
+prints that table anew."""
 import argparse
 import os
 import re
@@ -95,12 +95,18 @@ def print_limits(only: str) -> None:
 
 
 def compare(other: str, only: str) -> None:
-    """A case for each case: the program and the other one print the same. Then the limits."""
+    """A case for each case: the program and the other one print the same."""
     compared = Cases("bench")
     for name, _, command in written(Size(is_small=True), only):
         wanted = run_apart(["bash", "-c", command.replace("./sokoaudit", other)])
         found = run_apart(["bash", "-c", command])
         compared.same(f"a hundredth of: {name}", "".join(wanted), "".join(found))
+    compared.finish()
+
+
+def judge(only: str) -> None:
+    """The cases of the limits."""
+    compared = Cases("bench")
     for name, command in timed(only):
         timing.judge(compared, name, command)
     compared.finish()
@@ -112,6 +118,7 @@ def main() -> None:
                                      formatter_class=argparse.RawDescriptionHelpFormatter)
     parser.add_argument("--table", dest="what", action="store_const", const=print_table)
     parser.add_argument("--limits", dest="what", action="store_const", const=print_limits)
+    parser.add_argument("--judge", dest="what", action="store_const", const=judge)
     parser.add_argument("--only", metavar="WORD", default="")
     parser.add_argument("program", nargs="?")
     parser.add_argument("other", nargs="?")

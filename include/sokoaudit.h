@@ -1,8 +1,9 @@
 /* sokoaudit as a library: audits of Sokoban levels and their answers, made answers, and maps of dead squares.
  *
  * sokoaudit_judge gives a verdict on one level with one solution or certificate, and sokoaudit_lines on each level of a collection,
- * both in numbers. The other calls write a text, which is the program's, byte for byte. sokoaudit_audit, sokoaudit_lines, sokoaudit_make
- * and sokoaudit_dead return the exit status that the program 'sokoaudit' would have on files with these bytes.
+ * both in numbers. sokoaudit_levels and sokoaudit_records say where levels and records are. The other calls write a text, which is the
+ * program's, byte for byte. sokoaudit_audit, sokoaudit_lines, sokoaudit_make and sokoaudit_dead return the exit status that the program
+ * 'sokoaudit' would have on files with these bytes.
  *
  *   Texts     A pointer to bytes and their number, without a zero at the end. They are read and never written. Cast a 'char *' to
  *             'const uint8_t *'.
@@ -87,7 +88,7 @@ struct sokoaudit_outcome {
     size_t unsolvable;
     size_t refused;
     size_t missing;
-    size_t records;    /* number of records in made answers */
+    size_t records;    /* number of records in made answers, or in the answers of sokoaudit_records */
     size_t fault;      /* SOKOAUDIT_OUT_OF_MEMORY and so on if the call returns SOKOAUDIT_FAULT, otherwise 0 */
     size_t line;       /* line of the answers, from 1, if the fault is on one of them */
 };
@@ -150,10 +151,21 @@ struct sokoaudit_span {
     size_t end; /* of the byte after its last row, with the line end of that row */
 };
 
-/* What the body of sokoaudit_judge is. */
+/* What the body of a record is. */
 enum sokoaudit_kind {
     SOKOAUDIT_SOLUTION = 1,   /* lines of letters */
     SOKOAUDIT_CERTIFICATE = 2 /* pattern lines, or one zone line */
+};
+
+/* Where a record is in its text: offsets of bytes, from 0. */
+struct sokoaudit_record {
+    size_t level;    /* number of its level, from 1 */
+    size_t kind;     /* enum sokoaudit_kind */
+    size_t line;     /* line of the text with which the body begins, from 1 */
+    size_t at;       /* of its line 'level N' */
+    size_t body;     /* of the byte after its line 'solution' or 'unsolvable', with the line end of that line */
+    size_t body_end; /* of its line 'end' */
+    size_t end;      /* of the byte after its line 'end', with the line end of that line */
 };
 
 /* Gives a verdict on one level with one solution or certificate. 'kind' is SOKOAUDIT_SOLUTION or SOKOAUDIT_CERTIFICATE. The body is
@@ -177,6 +189,14 @@ uint32_t sokoaudit_lines(const uint8_t *levels, size_t levels_length, const uint
  * all levels. They are the ones that the other calls judge, but there may be more than SOKOAUDIT_MOST_LEVELS, and the text may have any
  * length. Takes no memory. */
 size_t sokoaudit_levels(const uint8_t *levels, size_t levels_length, struct sokoaudit_span *spans, size_t room);
+
+/* Writes where the records of an answers text are, in the order of their levels. 'levels' is the number of levels that the answers are to;
+ * with SIZE_MAX there may be any. Writes as many entries as there is room for; 'records' of the outcome is the number of all records.
+ * They are the ones that the other calls judge, but the text may have any length. The body of a record is the bytes from 'body' to
+ * 'body_end', as sokoaudit_judge takes it. Returns SOKOAUDIT_DONE, or SOKOAUDIT_FAULT: then no entry is written, and 'fault' of the
+ * outcome is SOKOAUDIT_OUT_OF_MEMORY or one of the faults of answers, with its line. */
+uint32_t sokoaudit_records(const uint8_t *answers, size_t answers_length, size_t levels, struct sokoaudit_record *records,
+                           size_t room, struct sokoaudit_outcome *outcome);
 
 /* Writes the report of an audit: 'sokoaudit audit LEVELS ANSWERS'. Unless the call returns SOKOAUDIT_FAULT, a level that the report
  * calls solved is solved by its own letters with exactly these counts, and no list of moves, of any length, solves one that it

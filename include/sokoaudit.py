@@ -46,6 +46,18 @@ class Span(typing.NamedTuple):
     end: int
 
 
+class Record(typing.NamedTuple):
+    """Where a record is in its text: its level and kind, the line with which its body begins, from
+    1, and from 0 the bytes where it begins, where its body begins and ends, and where it ends."""
+    level: int
+    kind: Kind
+    line: int
+    at: int
+    body: int
+    body_end: int
+    end: int
+
+
 class Counts(typing.NamedTuple):
     """How many levels there are, and how many of each kind."""
     levels: int
@@ -70,6 +82,10 @@ class _Span(ctypes.Structure):
     _fields_ = [(name, ctypes.c_size_t) for name in Span._fields]
 
 
+class _Record(ctypes.Structure):
+    _fields_ = [(name, ctypes.c_size_t) for name in Record._fields]
+
+
 class _Outcome(ctypes.Structure):
     _fields_ = [(name, ctypes.c_size_t)
                 for name in ("bytes", *Counts._fields, "records", "fault", "line")]
@@ -83,6 +99,7 @@ for _name, _types in {
         "judge": (*_TEXT, ctypes.c_uint32, *_TEXT, ctypes.POINTER(_Line)),
         "lines": (*_TEXT, *_TEXT, *_BUFFER, _OUTCOME),
         "levels": (*_TEXT, *_BUFFER),
+        "records": (*_TEXT, ctypes.c_size_t, *_BUFFER, _OUTCOME),
         "audit": (*_TEXT, *_TEXT, *_BUFFER, _OUTCOME),
         "make": (*_TEXT, *_BUFFER, _OUTCOME),
         "dead": (*_TEXT, ctypes.c_size_t, *_BUFFER, _OUTCOME),
@@ -163,6 +180,18 @@ def spans(levels):
     entries = (_Span * count)()
     _LIBRARY.sokoaudit_levels(*_given(levels), entries, count)
     return [Span(it.at, it.end) for it in entries]
+
+
+def records(answers, levels=ctypes.c_size_t(-1).value):
+    """Where the records of answers to this number of levels are, in order: a list of Record."""
+    outcome, room = _Outcome(records=1 << 8), 0
+    while outcome.records > room:
+        room = outcome.records
+        entries = (_Record * room)()
+        given = (*_given(answers), operator.index(levels), entries, room, ctypes.byref(outcome))
+        _check(_LIBRARY.sokoaudit_records(*given), outcome)
+    return [Record(it.level, Kind(it.kind), it.line, it.at, it.body, it.body_end, it.end)
+            for it in entries[:outcome.records]]
 
 
 def audit(levels, answers):

@@ -4,6 +4,7 @@ be applied or compiled, and counts as refused those that only take away a name o
 only meet a limit of the prover. These show nothing of a contract, so each is a failure here. Ends
 in 'N passed, M failed'."""
 import glob
+import os
 import re
 import sys
 from typing import List, Sequence, Tuple
@@ -40,6 +41,8 @@ def is_refused(edit: str, lines: List[str]) -> bool:
 
 def main() -> None:
     """Runs the part."""
+    if len(sys.argv) != 2 or not os.path.isfile(sys.argv[1]):
+        sys.exit("usage: tests/run edits LOG; LOG is a file with what 'rt ci' printed")
     cases, (_, name) = Cases("edits"), REFUSED.partition(":")[0].split()
     for line, is_weak in PLANTED:
         cases.holds(line, bool(weak([f"rt: {line}"])) == is_weak)

@@ -1,6 +1,6 @@
-"""tests/run gate: tests how the gate counts and how it runs parts at once, by planted parts; that
-it runs each part and each share of one; and what tests/bare hands on. Ends in 'N passed, M failed'.
-"""
+"""tests/run gate [FUNCTION..]: tests how the gate counts and how it runs parts at once, by planted
+parts; that it runs each part and each share of one; and what tests/bare hands on. Only the named
+functions of this file run. Ends in 'N passed, M failed'."""
 import glob
 import os
 import re
@@ -9,7 +9,7 @@ from collections import Counter, defaultdict
 from typing import Dict, List
 
 from tests import mutants
-from tests.runner import TOP, Cases, call, decode, enter_folder, read, shell, write
+from tests.runner import TOP, Cases, arguments, call, decode, enter_folder, read, shell, write
 from tests.tools import dealing
 
 # a part as a command of bash, the least number of its cases, and the numbers that the gate counts
@@ -132,7 +132,7 @@ def whole(cases: Cases) -> None:
     shares: Dict[str, List[str]] = defaultdict(list)
     for part, *words in begun:
         shares[part] += [it for it in words if re.fullmatch(r"\d/\d", it)]
-    for part in ("tools", "mutants"):
+    for part in ("tools", "mutants", "page"):
         count = len(shares[part])
         wanted = [f"{it}/{count}" for it in range(1, count + 1)]
         cases.same(f"and each share of {part}", str(wanted), str(shares[part]))
@@ -155,9 +155,8 @@ def variables(cases: Cases) -> None:
 
 
 if __name__ == "__main__":
-    cases, _folder = Cases("gate"), enter_folder()
-    counting(cases)
-    at_once(cases)
-    whole(cases)
-    variables(cases)
+    cases, named, _folder = Cases("gate"), arguments("gate [FUNCTION..]"), enter_folder()
+    for part in (counting, at_once, whole, variables):
+        if not named or part.__name__ in named:
+            part(cases)
     cases.finish()

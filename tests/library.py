@@ -28,7 +28,7 @@ PRINTED = {
     "nm out/lib/libsokoaudit.a | awk '$2 ~ /^[BbCDdSs]$/ && $3 != \"nothing\"'": "",
     "nm -D --defined-only out/lib/libsokoaudit.so | cut -d ' ' -f 3 | xargs":
         "sokoaudit_audit sokoaudit_dead sokoaudit_fault_text sokoaudit_judge sokoaudit_levels "
-        "sokoaudit_lines sokoaudit_make\n",
+        "sokoaudit_lines sokoaudit_make sokoaudit_records\n",
     "readelf -n out/lib/libsokoaudit.so judging | grep -c 'x86 ISA needed:.* x86-64-v2'": "2\n",
     f"{CC} examples/through.c out/lib/libsokoaudit.a -o through": "",
     **{f"{CC} -std={std} -fsyntax-only examples/check.c examples/search.c": ""
@@ -80,7 +80,7 @@ def compare(cases: Cases, program: str) -> None:
         cases.prints(f"a room of {room} bytes", wanted,
                      f"ROOM={room} ./through audit levels answers")
     # random cases, in one process
-    random = ["--seed", "2", "--cases", "3000", "--keep", f"{TOP}/out/fuzz",
+    random = ["--seed", "2", "--cases", "1000", "--keep", f"{TOP}/out/fuzz",
               "--library", os.path.abspath("out/lib/libsokoaudit.so"), program]
     cases.holds("the library on random cases", fuzz.main(random) == 0)
 

@@ -10,7 +10,8 @@ An edit is a file NAME.edit, named after what the broken code does, with the lin
 - old: and new: in pairs: a text in one line, which the file has once, and what replaces it
 
 A case fails if the edit can't be applied, if the test passes, or if it doesn't run to its end. One
-more case for each part of the tests: without an edit all that is named passes."""
+more case for each part of the tests: without an edit all that is named passes, and of the page, the
+one made anew is sokoaudit.html, which tests/run page tests."""
 import ast
 import base64
 import contextlib
@@ -29,8 +30,8 @@ from concurrent.futures import ThreadPoolExecutor
 from queue import Queue
 from typing import Dict, Iterable, List, NamedTuple, Set, Tuple
 
-from tests.runner import (TOP, Cases, arguments, decode, processes, read, run, share_of,
-                          write)
+from tests.runner import (TOP, Cases, arguments, decode, is_share, processes, read, run,
+                          share_of, write)
 
 COUNTS = re.compile(r"(\d+) passed, (\d+) failed(?:, (\d+) skipped)?")
 LIMIT = 1200  # seconds, on a machine that others keep busy too
@@ -162,10 +163,15 @@ def end(group: int) -> None:
         os.killpg(group, signal.SIGKILL)
 
 
+def is_of_page(test: str) -> bool:
+    """Whether a test is one of the page made anew."""
+    return "PAGE" in test.split()
+
+
 def together(tests: Iterable[str]) -> List[str]:
-    """The tests of each part in one, with all that they name."""
+    """The tests of each part in one, with all that they name, but for those of the page."""
     parts: Dict[str, Dict[str, None]] = defaultdict(dict)
-    for words in map(str.split, sorted(tests)):
+    for words in map(str.split, sorted(it for it in tests if not is_of_page(it))):
         given = [it for at, it in enumerate(words) if not at or it.isupper() or "/" in it]
         parts[" ".join(given)].update(dict.fromkeys(words[len(given):]))
     # a test is in its class and in its module too
@@ -176,7 +182,7 @@ def together(tests: Iterable[str]) -> List[str]:
 
 def picked(words: List[str]) -> List[str]:
     """The files of the edits that are named. Those with the same test are in one share."""
-    if words != ["timed"] and not re.fullmatch(r"\d+/\d+", "".join(words[:1])):
+    if words != ["timed"] and not is_share(words):
         return words or sorted(glob.glob(f"{TOP}/tests/must-fail/*"))
     tests: Dict[str, List[str]] = defaultdict(list)
     for path in picked([]):
@@ -224,9 +230,13 @@ def main() -> None:
             cases.skip(edit.name, f"there is no command {lacks[0]}")
             edits.remove(edit)
     with tempfile.TemporaryDirectory(prefix="mutants-") as room:
-        trees = Trees(program, room)
+        trees, tests = Trees(program, room), [it.test for it in edits]
+        if any(map(is_of_page, tests)):
+            make_page(f"{room}/0")
+            cases.holds("without an edit the page that is made is this one",
+                        read(f"{room}/0/sokoaudit.html") == read(f"{TOP}/sokoaudit.html"))
         with ThreadPoolExecutor(trees.count) as pool:
-            before = {it: pool.submit(trees.test, it) for it in together(it.test for it in edits)}
+            before = {it: pool.submit(trees.test, it) for it in together(tests)}
             after = [pool.submit(trees.test, it.test, it.file, texts[it.name]) for it in edits]
             try:
                 for test, result in before.items():

@@ -4,6 +4,7 @@ line of each part is 'N passed, M failed', and then ', K skipped' if something w
 import difflib
 import multiprocessing
 import os
+import re
 import shutil
 import subprocess
 import sys
@@ -205,6 +206,11 @@ def arguments(usage: str) -> List[str]:
 def processes() -> int:
     """How many processes a part may use: as many as the gate says, or one for each processor."""
     return int(os.environ.get("RT_JOBS") or len(os.sched_getaffinity(0)))
+
+
+def is_share(words: Sequence[str]) -> bool:
+    """Whether the first of these words names a share, such as 2/3."""
+    return bool(words and re.fullmatch(r"\d+/\d+", words[0]))
 
 
 def share_of(every: Sequence[Any], word: str) -> Sequence[Any]:

@@ -1,7 +1,8 @@
-"""tests/run speed PROGRAM: plants slow, greedy and broken programs, each of which bench/run has to
-find. Ends in 'N passed, M failed'."""
+"""tests/run speed PROGRAM [WORD..]: plants slow, greedy and broken programs, each of which
+bench/run has to find. Only those whose names have one of the words run. Ends in 'N passed, M
+failed'."""
 import os
-from typing import List
+from typing import List, Tuple
 
 from bench import timing
 from bench.measured import Case, Size, cases as bench_cases
@@ -31,7 +32,7 @@ PLANTED = {
 }
 
 
-def failures(case: Case, unit: timing.Work = timing.work) -> List[str]:
+def failures(case: Case, unit: timing.Work) -> List[str]:
     """The limits of a case that don't hold."""
     failing: List[str] = []
 
@@ -56,26 +57,28 @@ def plant(program: str, lines: str) -> None:
 
 def main() -> None:
     """Runs the part."""
-    (program,) = arguments("speed PROGRAM")
+    program, *named = arguments("speed PROGRAM [WORD..]")
     cases, room = Cases("speed"), enter_folder()
     plant(program, 'exec $P "$@"')  # it makes the answers of one of the cases
-    every = [*bench_cases(Size(is_tenth=True))]
-    picked = [next(it for it in every if name in it.name) for name in NAMES]
-    for what, (lines, *wanted) in PLANTED.items():
-        plant(program, lines)
-        for case, words in zip(picked, wanted):
-            found = failures(case)
-            is_so = len(found) == len(words.split()) and all(map(str.count, found, words.split()))
-            cases.holds(f"{what}: {case.name}: {words or 'nothing'} fails", is_so, *found)
+    picked = [next(it for it in bench_cases(Size(is_tenth=True)) if name in it.name)
+              for name in NAMES]
 
     def twice() -> None:
         timing.work()
         timing.work()
 
-    plant(program, '$P "$@" >/dev/null; exec $P "$@"')
-    for case in picked:
-        found = failures(case, twice)
-        cases.holds(f"a machine that is half as fast: {case.name}", not found, *found)
+    runs: List[Tuple[str, str, List[str], timing.Work]] = [
+        (what, lines, wanted, timing.work) for what, (lines, *wanted) in PLANTED.items()]
+    half = '$P "$@" >/dev/null; exec $P "$@"'
+    runs.append(("a machine that is half as fast", half, ["", ""], twice))
+    for what, lines, wanted, unit in runs:
+        if named and not any(it in what for it in named):
+            continue
+        plant(program, lines)
+        for case, words in zip(picked, wanted):
+            found = failures(case, unit)
+            is_so = len(found) == len(words.split()) and all(map(str.count, found, words.split()))
+            cases.holds(f"{what}: {case.name}: {words or 'nothing'} fails", is_so, *found)
     room.cleanup()
     cases.finish()
 

@@ -58,6 +58,31 @@ SPANS: Dict[bytes, List[Tuple[int, int]]] = {
     b"#\n\n" * 10001: [(3 * at, 3 * at + 2) for at in range(10001)],
     b"\n" * 33554440 + b"#": [(33554440, 33554441)],
 }
+HEAD = b"sokoban-answers 2\n"
+# Where the records of an answers text are: level, kind, line of the body, and the offsets of the
+# level line, of the body, of `end`, and of what follows; or the number and the line of a fault.
+RECORDS: Dict[bytes, Union[List[Tuple[int, ...]], Tuple[int, int]]] = {
+    HEAD: [],
+    HEAD[:-1]: [],
+    HEAD + b"\n;level 1\n": [],
+    HEAD + b"level 1\nsolution\nR\nend\n": [(1, SOLUTION, 4, 18, 35, 37, 41)],
+    HEAD + b"level 3\nunsolvable\nend": [(3, CERTIFICATE, 4, 18, 37, 37, 40)],
+    HEAD[:-1] + b"\r\n;\r\n\r\nlevel 1\r\n; a\r\nsolution\r\n;x\r\nr\r\nend\r\n;end\nlevel 2\n"
+    b"unsolvable\n; end\nend \n end\nend\n\n": [
+        (1, SOLUTION, 7, 24, 48, 55, 60), (2, CERTIFICATE, 13, 65, 84, 100, 104)],
+    HEAD + b"".join(b"level %d\nsolution\nend\n" % it for it in range(1000, 2000)): [
+        (1000 + it, SOLUTION, 3 * it + 4, 18 + 24 * it, 38 + 24 * it, 38 + 24 * it, 42 + 24 * it)
+        for it in range(1000)],
+    HEAD + b"\n" * 33554440 + b"level 4\nsolution\nend": [
+        (4, SOLUTION, 33554444, 33554458, 33554475, 33554475, 33554478)],
+    b"": (5, 1),
+    b"sokoban-answers 3\n": (5, 1),
+    HEAD + b"level 01\n": (6, 2),
+    HEAD + b"level 2\nsolution\nend\nlevel 2\n": (7, 5),
+    HEAD + b"level 2001\n": (8, 2),
+    HEAD + b"level 1\nsolved\n": (9, 3),
+    HEAD + b"level 1\nsolution\nR\n": (10, 5),
+}
 
 
 def whole(ran: Ran) -> str:
@@ -84,6 +109,14 @@ def verdicts(cases: Cases) -> None:
     for levels_text, places in SPANS.items():
         cases.same(f"spans {levels_text[:60]!r}", str(places),
                    str([tuple(it) for it in module.spans(levels_text)]))
+    for answers, entries in RECORDS.items():
+        try:
+            records: object = [tuple(map(int, it)) for it in module.records(answers, 2000)]
+        except module.Fault as fault:
+            records = fault.number, fault.line
+        cases.same(f"records {answers[:60]!r}", str(entries), str(records))
+    (last,) = module.records(HEAD + b"level %d\nsolution\nend" % (2 ** 64 - 1))
+    cases.same("any number of levels", str(2 ** 64 - 1), str(last.level))
     none = "([], Counts(levels=0, solved=0, unsolvable=0, refused=0, missing=0))"
     cases.same("no level", none, str(module.lines("", "sokoban-answers 1")))
     for name, *wrong in (("header", levels, b""), ("levels too long", b" " * 33554433, b"")):
@@ -128,6 +161,11 @@ def constants(cases: Cases, program: str) -> None:
     (fields,) = re.findall(r"(?s)struct sokoaudit_line {(.*?)};", header)
     cases.same("struct sokoaudit_line", " ".join(module.Line._fields),
                " ".join(re.findall(r"uint64_t (\w+);", fields)))
+    for name in ("span", "record"):
+        (fields,) = re.findall(rf"(?s)struct sokoaudit_{name} {{(.*?)}};", header)
+        cases.same(f"struct sokoaudit_{name}",
+                   " ".join(getattr(module, name.capitalize())._fields),
+                   " ".join(re.findall(r"size_t (\w+);", fields)))
     limits = re.findall(r"SOKOAUDIT_MOST_(?:BYTES|LEVELS|SIDE|PATTERNS) (\d+)", header)
     page = read(f"{TOP}/docs/formats.md").partition("## Limits")[2]
     named = re.findall(r"(?m)^\| (?:columns, rows|levels|bytes|patterns) .*? \| ([0-9,]+)", page)

@@ -64,6 +64,7 @@ u32 sokoaudit_audit(const u8 *, u64, const u8 *, u64, u8 *, u64, u64 *);
 u32 sokoaudit_make(const u8 *, u64, u8 *, u64, u64 *);
 u32 sokoaudit_dead(const u8 *, u64, u64, u8 *, u64, u64 *);
 u64 sokoaudit_levels(const u8 *, u64, u64 *, u64);
+u32 sokoaudit_records(const u8 *, u64, u64, u64 *, u64, u64 *);
 u32 sokoaudit_judge(const u8 *, u64, u32, const u8 *, u64, u64 *);
 u64 sokoaudit_fault_text(const u64 *, u8 *, u64);
 
@@ -89,6 +90,11 @@ EXPORTED(dead) u32 dead(const u8 *levels, u32 n, u32 number, u8 *map, u32 room, 
 }
 
 EXPORTED(levels) u32 levels(const u8 *text, u32 n, u64 *spans, u32 room) { return sokoaudit_levels(text, n, spans, room); }
+
+EXPORTED(records) u32 records(const u8 *answers, u32 n, u32 levels, u64 *spans, u32 room, u64 *outcome)
+{
+    return sokoaudit_records(answers, n, levels, spans, room, outcome);
+}
 
 EXPORTED(judge) u32 judge(const u8 *level, u32 n, u32 kind, const u8 *body, u32 m, u64 *line)
 {

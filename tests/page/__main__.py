@@ -1,5 +1,6 @@
-"""tests/run page PROGRAM [PAGE [PART..]]: gives sokoaudit.html, or PAGE, to a browser, and compares
-what it says with what PROGRAM prints. Only the named parts run. Ends in 'N passed, M failed'."""
+"""tests/run page PROGRAM [SHARE|PAGE [PART..]]: gives sokoaudit.html, or PAGE, to a browser, and
+compares what it says with what PROGRAM prints. Only the named parts run, or a share such as 2/3;
+the first share also makes the page anew. Ends in 'N passed, M failed'."""
 import os
 import random
 import re
@@ -11,14 +12,16 @@ from tests.page import answering, forms, hostile, late, using
 from tests.page.comparing import HEADER, Comparison
 from tests.page.driving import Tab
 from tests.reference.fuzz import batches
-from tests.runner import (TOP, Cases, arguments, encode, enter_folder, read, run, run_in_turn,
-                          write)
+from tests.runner import (TOP, Cases, arguments, encode, enter_folder, is_share, read, run,
+                          run_in_turn, share_of, write)
 from tests.tables.rows import rows, text
 from tests.tools import browser
 
 SAMPLES = ("first", "every", "deadlocks", "exports")
 TABLES = ("bytes", "certificates", "collections", "limits", "solutions", "words", "zones")
 RANDOM, SEED = 2000, 7
+NUMBER = 2000  # about as many cases has a share of two
+KEPT = f"{TOP}/sokoaudit.html"
 MADE_OF = re.compile(r"Made of the sources <code>(\w+)</code> by <code>(.*?)</code>")
 
 
@@ -41,7 +44,8 @@ def samples(check: Comparison) -> None:
 
 
 def tables(check: Comparison) -> None:
-    """The rows of the tables that are an audit of two files."""
+    """The rows of the tables that are an audit of two files. None is drawn."""
+    check.draws(False)
     for table in TABLES:
         for row in rows(table):
             if row["words"] == "audit levels answers" and "levels" in row and "answers" in row:
@@ -55,9 +59,10 @@ def tables(check: Comparison) -> None:
 
 
 def random_cases(check: Comparison) -> None:
-    """Random texts, whole and torn."""
+    """Random texts, whole and torn. The torn ones aren't drawn."""
     for i, (_, (levels, answers), form) in enumerate(batches(random.Random(SEED), RANDOM)):
         if answers.startswith(b"sokoban-answers"):
+            check.draws(form == "whole")
             check.audit(f"random {form} {i}", levels, answers)
 
 
@@ -88,28 +93,24 @@ def limits(check: Comparison) -> None:
     check.audit("10,001 levels", b"#\n\n" * 10001, HEADER, is_shown=False)
 
 
-def pages_of_the_sources() -> List[str]:
-    """Compares the page in the repository with the one that its sources make here. Returns the
-    pages to test: with a toolchain of another logic than the page names, both."""
-    kept = f"{TOP}/sokoaudit.html"
-    if not cases.holds("sokoaudit.html is there", os.path.exists(kept)):
-        return []
-    sources, logic = MADE_OF.findall(read(kept))[0]
+def made_anew() -> List[str]:
+    """Compares the page in the repository with the one that its sources make here. Returns that one
+    if it has to be tested too: a toolchain of another logic than the page names may make another.
+    """
+    sources, logic = MADE_OF.findall(read(KEPT))[0]
     make = f"{TOP}/packaging/page"
     cases.same("the sources that the page names", f"{sources}\nstatus 0\n",
                run([make, "--sources"]))
     if not cases.needs("rt", "the page made anew"):
-        return [kept]
+        return []
     said = run_in_turn([make, "--quick", "made.html"])
     if said.endswith("status 3\n"):
         cases.skip("the page made anew", said.splitlines()[0])
-        return [kept]
-    if not cases.holds("the page is made anew", said == "status 0\n", said):
-        return [kept]
-    if f" {logic}\n" in run(["rt", "version"]):
-        cases.holds("the page made anew has the same bytes", read(kept) == read("made.html"))
-        return [kept]
-    return [kept, os.path.abspath("made.html")]
+    elif cases.holds("the page is made anew", said == "status 0\n", said):
+        if f" {logic}\n" not in run(["rt", "version"]):
+            return [os.path.abspath("made.html")]
+        cases.holds("the page made anew has the same bytes", read(KEPT) == read("made.html"))
+    return []
 
 
 COMPARED: Sequence[Callable[[Comparison], None]] = (
@@ -118,8 +119,8 @@ USED: Sequence[Callable[[Comparison, Tab], None]] = (
     *using.PARTS, *forms.PARTS, *late.PARTS, *answering.PARTS)
 
 
-def test(page: str, wanted: Sequence[str]) -> None:
-    """Tests a page in the browser: the parts with these names, or all."""
+def test(page: str, wanted: Sequence[str], share: str = "1/1") -> None:
+    """Tests a page in the browser: the parts with these names, or a share of all."""
     tab = Tab()
     tab.page = page
     tab.start()
@@ -128,24 +129,29 @@ def test(page: str, wanted: Sequence[str]) -> None:
     parts: Dict[str, Callable[[], None]] = {
         **{part.__name__: partial(part, check) for part in COMPARED},
         **{part.__name__: partial(part, check, tab) for part in USED}}
-    for name, part in parts.items():
+    for name in share_of([*parts], share):
         if not wanted or name in wanted:
             tab.fresh()
             try:
-                part()
+                parts[name]()
             except (TimeoutError, ValueError) as error:
                 cases.holds(f"{name} runs to its end", False, str(error)[:2000])
             check.same(f"{name}: no error of a script", [], tab.errors)
     tab.close()
 
 
-program, *named = arguments("page PROGRAM [PAGE [PART..]]")
+program, *named = arguments("page PROGRAM [SHARE|PAGE [PART..]]")
+share = named.pop(0) if is_share(named) else "1/1"
 cases, _room = Cases("page"), enter_folder()
-pages = [os.path.abspath(it) for it in named[:1]] or pages_of_the_sources()
-if not browser.PROGRAM:
-    cases.skip("sokoaudit.html in a browser", "there is no chromium", 3000)
+given = [os.path.abspath(it) for it in named[:1]]
+if not given and not cases.holds("sokoaudit.html is there", os.path.exists(KEPT)):
     cases.finish()
-for it in pages:
+if not browser.PROGRAM:
+    cases.skip("sokoaudit.html in a browser", "there is no chromium", NUMBER)
+else:
     # a part may have the name of a folder
-    test(it, [os.path.basename(word) for word in named[1:]])
+    test((given or [KEPT])[0], [os.path.basename(word) for word in named[1:]], share)
+for it in made_anew() if not given and share.startswith("1/") else ():
+    if browser.PROGRAM:
+        test(it, [])
 cases.finish()

@@ -48,6 +48,10 @@ class Comparison:
             print(f"    wanted {one[first:at + 200]!r}\n    found  {other[first:at + 200]!r}",
                   flush=True)
 
+    def draws(self, is_drawn: bool) -> None:
+        """Lets the page draw what it audits, or leave its frame empty, until it is opened anew."""
+        self.tab.ask(f"globalThis.drawn ??= draw; draw = {is_drawn and 'drawn' or '() => 0'}; 0")
+
     def said(self, errors: bytes) -> str:
         """The words of the program's fault."""
         return errors.decode().strip().replace("sokoaudit: ", "", 1)

@@ -22,7 +22,7 @@ def judging(check: Comparison, tab: Tab) -> None:
         check.same(f"level {number} is explained", is_refused, bool(tab.frame(".why")[0]))
     for change in ("levels[0], 'rows', { value: shownData.levels[1].rows }",
                    "levels[0], 'rows', { value: ['no row'] }",
-                   "records[1], 'bytes', { value: bytesOf('level 1\\nsolution\\nL\\nend\\n') }"):
+                   "records[1], 'bytes', { value: bytesOf('L\\n') }"):
         tab.give(f"{samples}every.xsb", f"{samples}every.answers")
         tab.ask(f"Object.defineProperty(shownData.{change}); 0")
         tab.opened(1)
@@ -95,8 +95,9 @@ def stopped(check: Comparison, tab: Tab) -> None:
     """After Cancel the result that is shown stays, and its buttons work."""
     tab.paste("levels", f"{LEVEL}{LETTERS}\n\n{CORNER}")
     tab.ask("make(), $('cancel').click(), 0")
-    check.same("cancelled", [True, False, "level 2 missing"], tab.ask(
-        "[$('busy').hidden, $('result').hidden, $('lines').textContent.split('\\n')[1]]"))
+    check.same("cancelled", [True, False, "level 2 missing", "Cancelled."], tab.ask(
+        "[$('busy').hidden, $('result').hidden, $('lines').textContent.split('\\n')[1],"
+        " $('why').textContent]"))
     tab.ask("savePage().then(() => 0)")
     check.same("a saved page after that", True, len(tab.saved("page")) > 10000)
     check.same("dead squares after that", True, "x" in tab.ask("deadSquares(2)")["map"])
@@ -113,6 +114,16 @@ def stopped(check: Comparison, tab: Tab) -> None:
     tab.wait("document.querySelectorAll('#each li').length === 3 && $('busy').hidden")
     check.same("then all can be clicked", 0, tab.ask(
         "document.querySelectorAll('#each button:disabled').length"))
+    tab.ask("new MutationObserver((_, it) => $('each').children.length === 1 "
+            "&& (it.disconnect(), $('cancel').click())).observe($('each'), { childList: true }); 0")
+    tab.choose("a.xsb", "b.xsb", "c.xsb")
+    tab.wait("$('why').textContent")
+    tab.wait("!document.querySelector('#each button:disabled')")
+    check.same("after Cancel a file that is done can be clicked", [1, "Cancelled."], tab.ask(
+        "[document.querySelectorAll('#each button').length, $('why').textContent]"))
+    tab.click("#clear")
+    check.same("nothing is said after Clear", ["", True], tab.ask(
+        "[$('why').textContent, $('message').hidden]"))
 
 
 def around(check: Comparison, tab: Tab) -> None:

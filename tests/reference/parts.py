@@ -1,6 +1,7 @@
 """Parts of the comparison with the reference: the samples, what hinders a run, and random cases.
 
-tests/run reference.parts: all but the last, which need no program. Ends in 'N passed, M failed'.
+tests/run reference.parts [FUNCTION..]: all but the last, which need no program, or those of these
+names. Ends in 'N passed, M failed'.
 """
 import glob
 import unittest.mock
@@ -8,7 +9,7 @@ import unittest.mock
 from tests.inputs import LEVELS
 from tests.reference import fuzz
 from tests.reference.comparing import Comparison
-from tests.runner import TOP, Cases, enter_folder, read, run, write
+from tests.runner import TOP, Cases, arguments, enter_folder, read, run, write
 from tests.tables.rows import text
 
 # files with expected output, and the words: {0} is the name without its end, {1} and {2} its parts
@@ -85,7 +86,9 @@ def random_cases(cases: Cases, *words: str) -> None:
 
 
 if __name__ == "__main__":
-    both, _room = Cases("reference"), enter_folder()
+    both, named = Cases("reference"), arguments("reference.parts [FUNCTION..]")
+    _room = enter_folder()
     for part in (samples, hindered, statuses):
-        part(both)
+        if not named or part.__name__ in named:
+            part(both)
     both.finish()

@@ -3,11 +3,11 @@ import os
 import re
 from collections import Counter
 from math import inf
-from typing import Callable, Dict, List, Sequence, Tuple
+from typing import Callable, Dict, Iterator, List, Sequence, Tuple
 
 from tests.calls.naming import CALLED, calls_in, words
 from tests.inputs import AUDITS, LEVELS, WHOLE_ANSWERS, WHOLE_LEVELS
-from tests.runner import TOP, Cases, read, run_apart, write
+from tests.runner import TOP, Cases, call, decode, read, run_apart, write
 from tests.tables.rows import text
 
 Came = Tuple[str, str]  # what a run printed, and what it printed on standard error
@@ -42,17 +42,31 @@ class Refusals:
         allocations, as many as are made `before` a call, a run may pass over no refusal: then a
         call that never runs out of memory allocates nothing."""
         self.cases.holds(f"{name}: ample memory", not self.ending(ample, ample), *ample)
-        for all_after in (False, True):
-            number, met = first, 1
-            while met:
-                refused = f"{number} {10 ** 9 if all_after else number}"
-                came, (met, *_) = self.run(given, REFUSE=refused)
-                ending = self.ending(came, ample) if met else ""
-                if came == ample and (not met or number <= before):
-                    ending = "ample"
-                self.counts[ending] += 1
-                self.cases.holds(f"{name}: REFUSE='{refused}'", ending, *came)
-                number += 1
+        lasts = []
+        for number, last, came, met in self.each(given, first):
+            ending = self.ending(came, ample) if met else ""
+            if came == ample and (not met or number <= before):
+                ending = "ample"
+            self.counts[ending] += 1
+            self.cases.holds(f"{name}: REFUSE='{number} {last}'", ending, *came)
+            lasts += [] if met else [last > number]
+        self.cases.holds(f"{name}: all allocations are refused", lasts == [False, True])
+
+    def each(self, given: Sequence[str], first: int) -> Iterator[Tuple[int, int, Came, int]]:
+        """The runs with each allocation from the first one on refused, and then with all after it
+        too: the first and the last refused one, what came, and how many were refused."""
+        left = call([self.program, *given], env={**self.variables, "REFUSE_EACH": str(first)})
+        said, at = left.output, 0
+        while at < len(said):
+            end = said.index(b"\n", at) + 1
+            number, last, status, met, *sizes = map(int, said[at:end].split())
+            texts = []
+            for size in sizes:
+                texts.append(decode(said[end:end + size]))
+                end += size
+            status = os.WEXITSTATUS(status) if os.WIFEXITED(status) else -os.WTERMSIG(status)
+            yield number, last, (f"{texts[0]}status {status}\n", texts[1]), met
+            at = end
 
     def run(self, given: Sequence[str], **variables: str) -> Tuple[Came, List[int]]:
         """What a run prints, how many allocations were refused and made, and a number that tells

@@ -2,14 +2,14 @@
 import unittest
 from typing import Iterator, List, Sequence
 
-from tests.runner import TOP, share_of
+from tests.runner import TOP, is_share, share_of
 
 
 def tests_of(names: Sequence[str]) -> unittest.TestSuite:
     """The tests of these names, such as test_find or test_find.Search, or all if there are none; of
     a share such as 2/3, each third class from the second on."""
     loader = unittest.defaultTestLoader
-    if names and "/" not in names[0]:
+    if names and not is_share(names):
         return loader.loadTestsFromNames([f"tests.tools.{it}" for it in names])
     found = classes(loader.discover(f"{TOP}/tests/tools", top_level_dir=TOP))
     return unittest.TestSuite(share_of(found, names[0]) if names else found)

@@ -5,7 +5,7 @@ import unittest.mock
 import zipfile
 from typing import List
 
-from sokotool import exports, report
+from sokotool import report, sources
 from tests.tools.helping import ONE, Case
 
 
@@ -24,13 +24,13 @@ class Archives(Case):
 
     def test_too_much_in_it(self) -> None:
         self.write("a.zip", self.archive("1.txt", "2.txt", "3.txt"))
-        with unittest.mock.patch.object(exports, "MOST_IN_ARCHIVE", 2):
+        with unittest.mock.patch.object(sources, "MOST_IN_ARCHIVE", 2):
             self.assertIn("cannot read a.zip: more than 2 files", self.complaints()[0])
         self.assertFalse(os.path.exists("out.xsb"))
-        with unittest.mock.patch.object(exports, "MOST_UNPACKED", 3 * len(ONE) - 1):
+        with unittest.mock.patch.object(sources, "MOST_UNPACKED", 3 * len(ONE) - 1):
             self.assertIn("cannot read a.zip: more than", self.complaints()[0])
-        with unittest.mock.patch.object(exports, "MOST_IN_ARCHIVE", 3), \
-                unittest.mock.patch.object(exports, "MOST_UNPACKED", 3 * len(ONE)):
+        with unittest.mock.patch.object(sources, "MOST_IN_ARCHIVE", 3), \
+                unittest.mock.patch.object(sources, "MOST_UNPACKED", 3 * len(ONE)):
             self.assertEqual(self.complaints(), ["convert: 3 levels, 0 solutions, 0 left out"])
         self.assertEqual(self.read("out.xsb").count(b"@"), 3)
 
@@ -54,7 +54,7 @@ class Archives(Case):
         for name in ("#1.txt", "2.txt", "3.txt"):
             self.write(name, ONE)
         self.write(".sokoignore", "#1.txt\n2.txt\n")
-        names = [os.path.basename(it.name) for it in exports.listed(["."])]
+        names = [os.path.basename(it.name) for it in sources.listed(["."])]
         self.assertEqual(names, ["3.txt", "#1.txt"])
 
 

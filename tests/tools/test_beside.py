@@ -7,7 +7,7 @@ import threading
 import unittest.mock
 from typing import Any, Callable, Dict, Optional
 
-from sokotool import auditor, boards, levels, own_files
+from sokotool import auditor, forms, levels, own_files
 from tests.tools.ending import Meanwhile
 from tests.tools.helping import TOP
 from tests.tools.test_check import CORNER, LONG, LOST, Check
@@ -177,10 +177,10 @@ class Older(Check):
         self.write("a.txt", CORNER + "\n" + LOST.replace("#$ .#", "# $.#"))
         self.check("mine", "a.txt")
         memory = self.read("mine.memory")
-        forms = boards.forms_of(levels.read(self.read("a.txt")))
+        found = forms.forms_of(levels.read(self.read("a.txt")))
         self.write("mine.memory", memory.replace(b'"searched": {}', (
             '"searched": {"%s": {"find": ["late", 20], "solver mine": ["nothing", 60]}, '
-            '"%s": {"find": ["full", 10]}}' % tuple(form.digest for form in forms)).encode()))
+            '"%s": {"find": ["full", 10]}}' % tuple(form.digest for form in found)).encode()))
         self.assertEqual(self.lines(self.check("mine", "a.txt"))[3:5], [
             "2 levels were searched before, up to 20 s each: 1 stopped, 1 gave up with full tables",
             "1 level was searched before by the solver mine, up to 60 s each: 1 without an answer"])

@@ -6,7 +6,7 @@ import unittest
 from typing import Any, Dict, Hashable, List, Sequence, Set, Tuple
 
 from solve import search
-from sokotool import boards, changes, levels
+from sokotool import changes, forms, levels
 from tests.tools.helping import ONE, SAMPLES, Case
 
 MAPS = "/usr/share/games/cavepacker/maps"
@@ -99,15 +99,15 @@ class Forms(Case):
             first, second = (levels.Level(1, [row.encode() for row in picture], 1)
                              for picture in (rows,
                                              framed(chance, turned(rows, chance.randrange(8)))))
-            one, other = boards.form_of(first), boards.form_of(second)
-            if one.kind == boards.CLOSED and one.key == other.key:
+            one, other = forms.form_of(first), forms.form_of(second)
+            if one.kind == forms.CLOSED and one.key == other.key:
                 turn = one.turn_to(other)
                 for y, row in enumerate(first.rows, 1):
                     for x, cell in enumerate(row, 1):
                         if one.has((x, y)):
                             to, down = turn.cell((x, y))
                             self.assertEqual(second.rows[down - 1][to - 1], cell)
-                self.assertEqual(turn.inverse().after(turn), boards.Turn(1, 0, 0, 1))
+                self.assertEqual(turn.inverse().after(turn), forms.Turn(1, 0, 0, 1))
 
     def test_letters(self) -> None:
         for way, words, letters in ((1, "turned right", b"urdlURDL"),
@@ -115,7 +115,7 @@ class Forms(Case):
                                     (3, "turned left", b"dlurDLUR"),
                                     (4, "mirrored left to right", b"rulDRULd"[:3] + b"dRULD")):
             rows = CORNER.split("\n")[1:-1]
-            one, other = (boards.form_of(levels.Level(1, [row.encode() for row in picture], 1))
+            one, other = (forms.form_of(levels.Level(1, [row.encode() for row in picture], 1))
                           for picture in (rows, turned(rows, way)))
             turn = one.turn_to(other)
             self.assertEqual((turn.words, turn.letters(b"lurdLURD")), (words, letters))
@@ -124,7 +124,7 @@ class Forms(Case):
         chance = random.Random(32)
         found = levels.read(text_of([framed(chance, random_rows(chance))
                                      for _ in range(10000)]).encode())
-        self.takes_less(2, lambda: boards.forms_of(found))
+        self.takes_less(2, lambda: forms.forms_of(found))
 
 
 class Twins(Case):
@@ -209,7 +209,7 @@ class Matches(unittest.TestCase):
             states = []
             for several in (was, now):
                 found = levels.read("\n\n".join(drawn[it] for it in several).encode())
-                states.append(changes.Snapshot(found, boards.forms_of(found), []))
+                states.append(changes.Snapshot(found, forms.forms_of(found), []))
             kept = {match.new: match.old for match in changes.matches(states[0], states[1])}
             self.assertEqual(kept, {new: new - (new > at) for new in range(8) if new != at}, at)
 
@@ -233,7 +233,7 @@ class Carry(Case):
 
     @staticmethod
     def is_closed(level: levels.Level) -> bool:
-        return boards.form_of(level).kind == boards.CLOSED
+        return forms.form_of(level).kind == forms.CLOSED
 
     def test_random_collections(self) -> None:
         chance = random.Random(35)

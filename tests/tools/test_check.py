@@ -11,7 +11,7 @@ import unittest
 import unittest.mock
 from typing import Any, Callable, Iterator, List
 
-from sokotool import auditor, boards, levels, outcomes, searches
+from sokotool import auditor, forms, levels, outcomes, searches
 from sokotool.commands import convert
 from tests.tools import helping
 from tests.tools.ending import EndsEarly, Killed
@@ -296,17 +296,17 @@ class Time(Check):
                          ("", "nothing changed since the last time"))
 
     def test_levels_are_searched_again_only_with_more_time(self) -> None:
-        forms = boards.forms_of(levels.read(self.read("a.txt")))
+        found = forms.forms_of(levels.read(self.read("a.txt")))
         kept = outcomes.Outcomes({})
-        self.assertEqual(kept.due(forms, "find", 10), forms)
-        for form, what, seconds in zip(forms, ("late", "solvable", "full", "late"), (9, 1, 1, 10)):
-            kept.keep(form, "find", what, seconds)
+        self.assertEqual(kept.due(found, "find", 10), found)
+        for form, what, seconds in zip(found, ("late", "solvable", "full", "late"), (9, 1, 1, 10)):
+            kept.keep(form.digest, "find", what, seconds)
         # The answer that was found is lost.
-        self.assertEqual(kept.due(forms, "find", 10), [*forms[4:], forms[1], forms[0]])
-        self.assertEqual(kept.due(forms, "find", 11), [*forms[4:], forms[1], forms[0], forms[3]])
-        self.assertEqual(kept.due(forms, "other", 1), forms)
-        kept.keep(forms[0], "find", "late", 2)
-        self.assertEqual(outcomes.Outcomes(kept.kept).of(forms[0], "find"), ("late", 9))
+        self.assertEqual(kept.due(found, "find", 10), [*found[4:], found[1], found[0]])
+        self.assertEqual(kept.due(found, "find", 11), [*found[4:], found[1], found[0], found[3]])
+        self.assertEqual(kept.due(found, "other", 1), found)
+        kept.keep(found[0].digest, "find", "late", 2)
+        self.assertEqual(outcomes.Outcomes(kept.kept).of(found[0], "find"), ("late", 9))
 
     def test_name_that_cannot_be_written_is_noticed_first(self) -> None:
         os.mkdir("folder.report")

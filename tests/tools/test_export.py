@@ -7,9 +7,10 @@ import unittest
 from typing import Any, Dict, List, NamedTuple, Set, Tuple
 from xml.dom import minidom
 
-from sokotool import answers, game, levels
+from sokotool import answers, levels
+from sokotool.board import Board
 from sokotool.commands import export
-from sokotool.formats import written
+from sokotool.formats import exporting
 from tests.tools.helping import ONE, SAMPLES, Case
 
 MAPS = "/usr/share/games/cavepacker/maps"
@@ -36,7 +37,7 @@ def known(text: bytes, solved: bytes) -> Known:
     """What is in a levels text and an answers text; certificates are left out."""
     found = levels.read(text)
     records = answers.read(solved, len(found)).records
-    return Known([[written.plain(row) for row in level.rows] for level in found],
+    return Known([[exporting.plain(row) for row in level.rows] for level in found],
                  [" ".join(level.title.split()) for level in found],
                  {it.level: it.letters.decode() for it in records if it.kind == "solution"})
 
@@ -128,7 +129,7 @@ class Export(Case):
             if os.path.exists(name + ".answers"):
                 solved = self.read(name + ".answers")
             wanted = known(self.read(name + ".xsb"), solved)
-            for form in written.FORMS:
+            for form in exporting.FORMS:
                 status, back = self.back(form, name)
                 if os.path.basename(name) in ("every", "readme"):  # with a refused solution
                     self.assertEqual(status, 1)
@@ -158,7 +159,7 @@ class Export(Case):
             self.write("mine.answers", solved)
             wanted = known(text.encode(), solved.encode())
             with_letters += len(wanted.letters)
-            form = sorted(written.FORMS)[seed % len(written.FORMS)]
+            form = sorted(exporting.FORMS)[seed % len(exporting.FORMS)]
             self.assertEqual(self.back(form), (0, wanted), (seed, form))
         self.assertGreater(with_letters, COLLECTIONS)
 
@@ -201,13 +202,13 @@ class Export(Case):
 
     def test_a_title_or_solution_that_would_not_come_back(self) -> None:
         data = f"{ONE}Title: First\n".encode()
-        content = written.content_of(data, levels.read(data), {1: written.Solution("R")}, {})
-        for form in written.FORMS:
-            text = "".join(line + "\n" for line in written.FORMS[form](content))
+        head, entries = exporting.content_of(data, levels.read(data), {1: ("R", ())}, {})
+        for form in exporting.FORMS:
+            text = "".join(line + "\n" for line in exporting.FORMS[form](head, entries))
             for old, new, what in (("First", "Last", "title"), ("R", "Rl", "solution")):
                 changed = re.sub(rf"\b{old}\b", new, text).encode()
                 self.assertEqual([f"level 1: its {what} is not the same when it is read again"],
-                                 [*export.differences_of(content, changed)], (form, old))
+                                 [*export.differences_of(entries, changed)], (form, old))
 
     def test_files(self) -> None:
         self.assertEqual(self.tool("export", "mine", "--to", "sok").err,
@@ -230,7 +231,7 @@ class Export(Case):
         self.assertIn(self.tool("convert", "mine", *files).status, (0, 1))
         wanted = known(self.read("mine.xsb"), self.read("mine.answers"))
         self.assertGreater(len(wanted.letters), 300)
-        for form in written.FORMS:
+        for form in exporting.FORMS:
             self.assertEqual(self.back(form), (0, wanted), form)
 
 
@@ -239,5 +240,5 @@ class Playing(unittest.TestCase):
         """The solutions of the generated collections solve their levels."""
         for seed in range(50):
             rows, letters = Generator(seed).level()
-            board = game.Board(levels.Level(1, [row.encode() for row in rows], 1))
+            board = Board(levels.Level(1, [row.encode() for row in rows], 1))
             self.assertIsNone(board.replay(letters.encode()).fault, (rows, letters))

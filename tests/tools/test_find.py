@@ -9,11 +9,11 @@ import time
 import unittest.mock
 
 import solve
-from typing import Any
+from typing import Any, Tuple
 from tests.tools.helping import (TOP, Case, Result, is_slow, needs_copies, not_on_windows,
                                  used)
 from sokotool import levels
-from sokotool.game import Board
+from sokotool.board import Board
 from sokotool.search import refute
 from sokotool.search.budget import Budget
 from sokotool.search.deadlocks import Known
@@ -191,7 +191,7 @@ class Levels(Case):
     def test_search_without_memory_costs_its_level_alone(self) -> None:
         self.write("levels", "\n".join([CORNER, SIDE, SIDE, CORNER]))
 
-        def search(level: levels.Level, *limits: float) -> refute.Outcome:
+        def search(level: levels.Level, *limits: float) -> Tuple[str, bytes]:
             if level.number == 2:
                 raise MemoryError
             if level.number == 3:

@@ -6,7 +6,8 @@ from typing import Callable, Dict, List, Tuple
 from xml.sax.saxutils import escape
 
 from tests.tools.helping import SAMPLES, Case
-from sokotool import answers, game, levels
+from sokotool import answers, levels
+from sokotool.board import Board
 from sokotool.formats import coding
 from tests.tools.test_reading import random_letters
 
@@ -37,7 +38,7 @@ def collection(chance: random.Random) -> Listed:
         letters = b""
         while chance.random() < .7 and not letters:
             letters = random_letters(chance, level)
-        replay = game.Board(level).replay(letters, any_case=True)
+        replay = Board(level).replay(letters, any_case=True)
         plays = letters and not (replay.fault or "").startswith("move")
         found.append((rows, chance.choice(["Level", "Caf\u00e9 No.", "Room"]) + f" {number}",
                       replay.letters.decode() if plays else ""))
@@ -48,7 +49,7 @@ def is_solved(listed: Tuple[Rows, str, str]) -> bool:
     """Whether the letters of a level solve it, or there are none."""
     rows, _, letters = listed
     level = levels.Level(1, [row.encode() for row in rows], 1)
-    return not letters or game.Board(level).replay(letters.encode()).fault is None
+    return not letters or Board(level).replay(letters.encode()).fault is None
 
 
 # ---- the writers

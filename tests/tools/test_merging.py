@@ -3,8 +3,8 @@ import random
 import unittest
 from typing import List, Sequence
 
-from sokotool import blocks
-from sokotool.blocks import Block
+from sokotool import level_texts
+from sokotool.level_texts import Block
 from sokotool.changes import Snapshot
 from sokotool.merging import Written, collection, merged
 
@@ -33,7 +33,7 @@ class Drawn:
         return ("\n".join(found) + "\n").encode()
 
     def collection(self) -> Snapshot:
-        return collection(blocks.read(self.text()))
+        return collection(level_texts.read(self.text()))
 
 
 def words_of(several: Sequence[Block]) -> List[bytes]:
@@ -47,15 +47,15 @@ class Laws(unittest.TestCase):
         drawn = Drawn(1)
         for _ in range(COUNT):
             data = drawn.text()
-            self.assertEqual(blocks.text(blocks.read(data)), data)
+            self.assertEqual(level_texts.text(level_texts.read(data)), data)
 
     def test_what_nobody_edited_is_the_exports(self) -> None:
         drawn = Drawn(2)
         for _ in range(COUNT):
             before, exports = drawn.collection(), drawn.collection()
             found = merged(Written(before), before, exports, [])
-            self.assertEqual(blocks.text(found.written.collection.blocks),
-                             blocks.text(exports.blocks))
+            self.assertEqual(level_texts.text(found.written.collection.blocks),
+                             level_texts.text(exports.blocks))
 
     def test_no_line_is_lost(self) -> None:
         """Each line that was typed is in the collection, or is kept for a level that is away."""
@@ -66,7 +66,7 @@ class Laws(unittest.TestCase):
             there = {*words_of(found.written.collection.blocks),
                      *words_of([block for _, block in found.away])}
             typed = {*words_of(mine.blocks)} - {*words_of(before.blocks)}
-            self.assertEqual(typed - there, set(), blocks.text(mine.blocks).decode())
+            self.assertEqual(typed - there, set(), level_texts.text(mine.blocks).decode())
 
     def test_what_was_merged_stays(self) -> None:
         """Nothing changes if nobody types and the exports stay, also if they were others before."""
@@ -75,8 +75,8 @@ class Laws(unittest.TestCase):
             before, typed, exports = drawn.collection(), drawn.collection(), drawn.collection()
             for several in (before, exports):
                 once = merged(Written(before), typed, several, []).written
-                mine = collection(blocks.read(blocks.text(once.collection.blocks)))
+                mine = collection(level_texts.read(level_texts.text(once.collection.blocks)))
                 again = merged(once, mine, several, []).written
-                self.assertEqual(blocks.text(again.collection.blocks).decode(),
-                                 blocks.text(once.collection.blocks).decode())
+                self.assertEqual(level_texts.text(again.collection.blocks).decode(),
+                                 level_texts.text(once.collection.blocks).decode())
                 self.assertEqual(again.places, once.places)

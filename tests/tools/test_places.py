@@ -91,7 +91,7 @@ class Shown(viewing.Page, test_check.Check):
         self.write("page.html", self.read("mine.html"))
         self.open("#1")
         self.holds("document.querySelector('h2 small').textContent",
-                   " line 5 of mine.xsb, from line 4 of b.txt")
+                   "line 5 of mine.xsb, from line 4 of b.txt")
         self.assertEqual(self.all(".left"), ["b.txt line 9: the solution of level 1 cannot be "
                                              "played: move 1 (r) blocked"])
 

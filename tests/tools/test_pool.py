@@ -4,11 +4,11 @@ import os
 import unittest.mock
 from typing import Dict, List
 
-from sokotool import (answers, boards, carrying, changes, kept, memory, own_files, report,
-                      system, texts)
-from sokotool.blocks import Block
-from sokotool.collection import BOTH, MOVES, PUSHES
-from sokotool.game import board_of
+from sokotool import (answers, carrying, changes, forms, kept, memory, own_files, report, system,
+                      texts)
+from sokotool.level_texts import Block
+from sokotool.builder import BOTH, MOVES, PUSHES
+from sokotool.board import board_of
 from sokotool.levels import Level
 from sokotool.pool import Pool
 from tests.tools.helping import Case, not_on_windows
@@ -18,7 +18,7 @@ ROWS = [b"########", b"#      #", b"#@.$ . #", b"#      #", b"########"]
 SHORT, AROUND, LONGER = b"rRR", b"urrrdL", b"udurrrdL"
 
 
-STATE = changes.Snapshot([Level(1, ROWS, 1)], boards.forms_of([Level(1, ROWS, 1)]))
+STATE = changes.Snapshot([Level(1, ROWS, 1)], forms.forms_of([Level(1, ROWS, 1)]))
 
 
 def record(letters: bytes, above: bytes = b"") -> bytes:
@@ -73,7 +73,7 @@ class Placed(Case):
 
     def state(self, *rows: List[bytes]) -> changes.Snapshot:
         found = [Level(number, it, 1) for number, it in enumerate(rows, 1)]
-        return changes.Snapshot(found, boards.forms_of(found))
+        return changes.Snapshot(found, forms.forms_of(found))
 
     def chosen(self, found: Pool, refused: bytes = b"") -> Dict[int, bytes]:
         """Chooses by a report, and returns the letters by the numbers of the levels."""
@@ -122,7 +122,7 @@ class Placed(Case):
         """The title of no level any more, or a note."""
         own = read(record(SHORT)).records[0]
         level = Level(1, ROWS, 1, "Old, too")
-        now = changes.Snapshot([level], boards.forms_of([level]))
+        now = changes.Snapshot([level], forms.forms_of([level]))
         for head, stays in ((b"; kept from level 4, Old, too", False), (b"; kept", False),
                             (b"; kept from level 4", False), (b"", False),
                             (b"; kept from level 4, Other", True), (b"; kept for later", True),
@@ -152,7 +152,7 @@ class Placed(Case):
         """An answer that was turned for another board and back is what it was."""
         across = [bytes(column) for column in zip(*(row.ljust(8) for row in ROWS))]
         for rows in (across, [row[::-1] for row in across], ROWS[::-1], [b"", *ROWS]):
-            one, two = (boards.form_of(Level(1, it, 1)) for it in (ROWS, rows))
+            one, two = (forms.form_of(Level(1, it, 1)) for it in (ROWS, rows))
             for body in (b"solution\n; why\n" + AROUND,
                          b"unsolvable\npattern 3,3 4,3 @ 2,3\npattern 5,2 @ *",
                          b"unsolvable\nzone 2,2 3,2"):

@@ -3,12 +3,13 @@ import random
 from typing import Optional
 
 from tests.tools.helping import Case
-from sokotool import answers, game, levels, report
+from sokotool import answers, levels, report
+from sokotool.board import Board
 
 
 def line_of(level: levels.Level, record: Optional[answers.Record]) -> str:
     """Returns the report line by the modules; certificates aren't checked."""
-    board = game.Board(level)
+    board = Board(level)
     if board.fault:
         return f"level {level.number} refused board {board.fault}"
     if record is None:
@@ -79,7 +80,7 @@ class Same(Case):
         self.assertEqual(text.decode(),
                          f"sokoban-answers 1\nlevel 1\nsolution\n{'r' * 70}\n{'r' * 70}\nr\nend\n"
                          "level 2\nunsolvable\npattern 2,2 3,2 @ *\npattern 2,2 @ 3,2 4,3\nend\n")
-        self.assertEqual(answers.text([answers.zone(1, [(2, 4), (3, 4)])]).decode(),
+        self.assertEqual(answers.text([answers.certificate(1, [b"zone 2,4 3,4"])]).decode(),
                          "sokoban-answers 2\nlevel 1\nunsolvable\nzone 2,4 3,4\nend\n")
         self.assertEqual(answers.text([]), b"sokoban-answers 1\n")
 
@@ -106,7 +107,7 @@ def random_level(chance: random.Random) -> str:
 
 def random_letters(chance: random.Random, level: levels.Level) -> bytes:
     """Letters that mostly can be played on a level, up to a position that solves it."""
-    board = game.Board(level)
+    board = Board(level)
     if board.player is None or board.fault == "size":
         return b"r"
     letters = b""

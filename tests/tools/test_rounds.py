@@ -6,7 +6,7 @@ import time
 import unittest.mock
 from typing import Any, Callable, Dict, Iterator, List, Sequence, Tuple
 
-from sokotool import boards, levels, rounds
+from sokotool import forms, levels, rounds
 from sokotool.jobs import Jobs
 from sokotool.outcomes import Outcomes, Result
 from sokotool.progress import Progress
@@ -14,7 +14,7 @@ from sokotool.search.budget import Budget, Limits
 from tests.tools.helping import TOP, Case
 from tests.tools.test_find import CORNER, SOLVABLE, TWO_ON_A_WALL, hall
 
-FORMS = boards.forms_of(levels.read("\n".join([
+FORMS = forms.forms_of(levels.read("\n".join([
     hall(20, 20), TWO_ON_A_WALL, CORNER, SOLVABLE]).encode()))
 SLOW = """
 import sys
@@ -67,11 +67,11 @@ class Rounds(Case):
         def hand_on(results: Sequence[Any]) -> None:
             handed.append([result.level.number for _, result in results])
             for form, result in results:
-                known.keep(form, "find", result.what, result.seconds)
-        way = rounds.Way("find", Limits(seconds, total, 1), rounds.of(seconds), found)
+                known.keep(form.digest, "find", result.what, result.seconds)
         with unittest.mock.patch.object(Progress, "keep"), unittest.mock.patch(
                 "time.monotonic", lambda: found.now):
-            rounds.Rounds(Progress("check"), way, FORMS, known).run(hand_on)
+            rounds.Rounds(Progress("check"), known, "find", Limits(seconds, total, 1), found).run(
+                FORMS, hand_on)
         return handed
 
     def test_seconds(self) -> None:
@@ -91,7 +91,7 @@ class Rounds(Case):
         """It was searched for less time than its round has: the next run has it in that round."""
         found, known = Found({}, takes=.3), Outcomes({})
         for form in FORMS:
-            known.keep(form, "find", "late", 1)
+            known.keep(form.digest, "find", "late", 1)
         self.assertEqual(self.run_rounds(found, known, total=.5), [[3, 4]])
         found = Found({})
         self.run_rounds(found, known)
@@ -121,11 +121,10 @@ class Rounds(Case):
         def hand_on(_: Sequence[Any]) -> None:
             told.append("handed on")
         found = Found({})
-        way = rounds.Way("find", Limits(9, 60, 1), rounds.of(9), found)
         with unittest.mock.patch.object(Progress, "keep", lambda _, line: told.append(line)), \
                 unittest.mock.patch.object(Found, "results", side_effect=KeyboardInterrupt):
-            it = rounds.Rounds(Progress("check"), way, FORMS, Outcomes({}))
-            self.assertFalse(it.run(hand_on))
+            it = rounds.Rounds(Progress("check"), Outcomes({}), "find", Limits(9, 60, 1), found)
+            self.assertFalse(it.run(FORMS, hand_on))
         self.assertEqual(told, ["interrupted: writing what was found; a second interrupt ends "
                                 "without that", "handed on",
                                 "4 levels left: the next run goes on with them"])

@@ -9,7 +9,6 @@ import unittest.mock
 from typing import Any, Callable, List
 
 from sokotool import levels, outcomes, solvers, texts
-from sokotool.search import refute
 from sokotool.search.budget import Budget, Limits
 from tests.tools.exports import ALPHA, BETA, GAMMA
 from tests.tools.helping import (LACKING, SAMPLES, TOP, Case, Result, is_slow, needs_copies,
@@ -250,7 +249,7 @@ class Checks(Check):
     def solve(self, script: str, *options: str, words: str = "") -> Result:
         """Runs check with a solver in Python, and with a search that finds nothing."""
         self.write("solver.py", "import os, signal, sys, time\n" + script)
-        with unittest.mock.patch("sokotool.searches.outcome", lambda *_: refute.Outcome("late")):
+        with unittest.mock.patch("sokotool.searches.outcome", lambda *_: ("late", b"")):
             return self.tool("check", "mine", "a.txt", "--jobs", "2", *options, "--solver",
                              f"{sys.executable} solver.py {words}")
 
@@ -362,7 +361,7 @@ class Checks(Check):
         for line in lines:
             words = shlex.split(line.replace("55", "1.5"))
             with unittest.mock.patch.dict(os.environ, path), unittest.mock.patch(
-                    "sokotool.searches.outcome", lambda *_: refute.Outcome("late")):
+                    "sokotool.searches.outcome", lambda *_: ("late", b"")):
                 result = self.tool("check", "mine", "a.txt", "--solver-seconds", "40", "--search",
                                    "1", "--jobs", "1", "--verbose", *words)
             self.assertEqual(result.err.count("the solver found a solution"), 2, result.err)

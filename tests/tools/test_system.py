@@ -13,7 +13,7 @@ import unittest.mock
 import zipfile
 from typing import Callable, Dict
 
-from sokotool import exports, levels, main, output, progress, searches, system
+from sokotool import levels, main, output, progress, searches, sources, system
 from sokotool.search.budget import Budget, Limits
 from tests.tools import helping
 from tests.tools.helping import LACKING, ONE, SAMPLES, TOP, Case, not_on_windows, plain_variables
@@ -41,10 +41,10 @@ class System(Case):
         names = {r"C:\in\a.txt": "a.txt", r"C:\in\sub\b.txt": "sub/b.txt", "-": "-"}
         with unittest.mock.patch.object(os, "path", ntpath), \
                 unittest.mock.patch.object(os, "sep", "\\"):
-            self.assertEqual(exports.published([*names]), names)
+            self.assertEqual(sources.published([*names]), names)
             more = {r"D:\a.txt": "d/a.txt", r"\\host\all\x\a.txt": "host/all/a.txt",
                     **{name: "c/" + it for name, it in names.items() if it != "-"}}
-            self.assertEqual(exports.published([*more]), {**more, "-": "-"})
+            self.assertEqual(sources.published([*more]), {**more, "-": "-"})
 
     def checked(self, place: str) -> Dict[str, bytes]:
         """Returns the files that check writes of an export or a folder."""

@@ -50,6 +50,7 @@ function clear() {
     remove();
     for (const kind in inputs) inputs[kind].field.value = "";
     $("each").hidden = $("message").hidden = true;
+    $("why").textContent = "";
     hide();
     inputs.levels.field.focus();
 }
@@ -221,7 +222,7 @@ async function audit() {
     const buttons = [];
     for (const [i, pair] of pairs.entries()) {
         const said = await auditPair(pair, `File ${i + 1} of ${pairs.length}`);
-        if (!said) return null;
+        if (!said) break;
         const button = document.createElement("button"), item = document.createElement("li");
         button.textContent = pair.levels.name;
         // a click would end what runs
@@ -259,6 +260,7 @@ function listen() {
     on("make", make);
     on("cancel", () => {
         begin("");
+        $("why").textContent = "Cancelled.";
         $("audit").focus();
     });
     on("save-report", () => save("report", new Blob([kept.report])));

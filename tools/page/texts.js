@@ -1,6 +1,6 @@
-// Reads the two texts for the page: titles, and records. Where the levels are, the program says. Nothing here decides what counts: that is
-// the report, and a level that is opened is judged once more from what is drawn. A text is a string with one character for each byte, and a
-// span of it is { at, end }.
+// Reads the two texts for the page: titles, and lines to draw. Where the levels and the records are, the program says. Nothing here decides
+// what counts: that is the report, and a level that is opened is judged once more from what is drawn. A text is a string with one character
+// for each byte, and a span of it is { at, end }.
 
 const MOST_BYTES = 33554432, MOST_SIDE = 255, MOST_TITLE = 1000, MOST_CACHED = 100000;
 
@@ -193,40 +193,20 @@ function rowsIn(bytes, { at, end }) {
 
 // ---- records
 
-// The records of an answers text that the program read without a fault: level, kind, first line and
-// span, by level.
-function recordsIn(text) {
-    const records = new Map();
-    let record = null;
-    eachLine(text, (line, number, at, end) => {
-        if (number === 1 || !line || line[0] === ";") return;
-        if (!record) {
-            record = { level: Number(line.slice(6)), kind: "", line: number, at, end };
-        } else if (!record.kind) {
-            record.kind = line;
-        } else if (line === "end") {
-            record.end = end;
-            records.set(record.level, record);
-            record = null;
-        }
-    });
-    return records;
-}
-
-// the body of a record's span: pairs of a line's number and the line
+// the lines of a body, which begins with this line: pairs of a line's number and the line
 function bodyIn(text, first) {
     const body = [];
     eachLine(text, (line, number) => line && line[0] !== ";" && body.push([first + number - 1, line]));
-    return body.slice(2, -1);
+    return body;
 }
 
 // An answers text with made records put into it for the levels that have none: each after the record of the level before, so that what stands
-// between the old ones stays. A made zone raises a header of version 1.
-function mergedAnswers(text, made) {
-    const records = recordsIn(text), parts = [], added = [];
+// between the old ones stays. A made zone raises a header of version 1. The records of both texts are those that the program found.
+function mergedAnswers(text, records, made, found) {
+    const parts = [], added = [];
     const start = text.indexOf("\n") + 1 || text.length, levels = [...records.keys()];
     let head = text.slice(0, start).replace(/\n?$/, "\n"), from = start, isRaised = false, next = 0;
-    for (const [level, { at, end }] of recordsIn(made)) {
+    for (const [level, { at, end }] of found) {
         if (records.has(level)) continue;
         while (levels[next] < level) next++;
         const to = next ? records.get(levels[next - 1]).end : start, record = made.slice(at, end);
@@ -271,15 +251,16 @@ class LevelData {
     }
 }
 
-// A record as the viewer reads it: its kind, the number of its first line, its bytes, and its body, which is made when it is asked for.
+// A record as the viewer reads it: its kind, the bytes of its body, the number of their first line, and their lines, which are made when they
+// are asked for.
 class RecordData {
     #bytes;
     #span;
     #body;
-    constructor({ kind, line, at, end }, bytes) {
+    constructor({ kind, line, body, bodyEnd }, bytes) {
         Object.assign(this, { kind, line });
         this.#bytes = bytes;
-        this.#span = [at, end];
+        this.#span = [body, bodyEnd];
     }
     get bytes() {
         return this.#bytes.subarray(...this.#span);

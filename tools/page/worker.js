@@ -1,7 +1,7 @@
 // The program's thread: it reads files, calls the proved program on bytes, and keeps nothing between two tasks but the module.
 
 const FAULT = 2, REPORT_ROOM = 1 << 20, MADE_ROOM = 1 << 22, MAP_ROOM = 1 << 17, SAID_EVERY = 200, MOST_LINES = 1 << 21;
-const NO_MEMORY = 1, SOLUTION_KIND = 1, CERTIFICATE_KIND = 2, OUTCOME = 9, LINE = 13, MOST_LEVELS = 10000;
+const NO_MEMORY = 1, KINDS = ["", "solution", "unsolvable"], OUTCOME = 9, LINE = 13, RECORD = 7, MOST_LEVELS = 10000;
 const HEADER = /^sokoban-answers/, HAS_ROW = /^(?:\xef\xbb\xbf)?[-#@+$*._ ]*#[-#@+$*._ ]*\r?$/m;
 const LEFT_OUT = "The solutions beside the levels are left out, since there are answers", NO_ANSWERS = "sokoban-answers 1\n", ROW = "A row has a wall # and no other characters than @ + $ * . - _ and blanks.";
 // the words of a verdict in numbers: why a level, a letter or a line is refused
@@ -44,6 +44,17 @@ class Machine {
         const numbers = this.numbers(2 * count, place);
         return Array.from({ length: count }, (_, i) => ({ at: numbers[2 * i], end: numbers[2 * i + 1] }));
     }
+    // The records of an answers text to this number of levels, by the place and the length of its bytes: kind, line of the body and spans, by
+    // level.
+    records(words, levels, room = Math.min(levels, MOST_LEVELS)) {
+        const place = this.take(8 * RECORD * room);
+        if (this.calls.records(...words, levels, place, room, this.outcome) === FAULT) throw new Fault(this.fault());
+        const count = this.numbers(OUTCOME)[6], numbers = this.numbers(RECORD * count, place);
+        return new Map(Array.from({ length: count }, (_, i) => {
+            const [level, kind, line, at, body, bodyEnd, end] = numbers.slice(RECORD * i, RECORD * (i + 1));
+            return [level, { kind: KINDS[kind], line, at, body, bodyEnd, end }];
+        }));
+    }
     // calls the program until the text has room; returns its status, its text, and its numbers
     text(name, words, room) {
         for (;;) {
@@ -63,7 +74,7 @@ class Machine {
     }
     // The verdict on one level with one record, in the words of the report after the level's number. `lines` has the line numbers of the body.
     judged(rows, kind, body, lines) {
-        const fault = this.calls.judge(...this.put(rows), kind, ...this.put(body), this.outcome);
+        const fault = this.calls.judge(...this.put(rows), KINDS.indexOf(kind), ...this.put(body), this.outcome);
         const [status, why, moves, pushes, changes, patterns, cells, boxes, number, line, column, row, letter] = this.numbers(LINE);
         const at = `refused line ${lines[line - 1]}`, push = `${column},${row} ${String.fromCharCode(letter)}`;
         if (fault) return fault === NO_MEMORY ? "" : `fault ${fault}`;
@@ -135,11 +146,11 @@ async function textsOf({ levels: source, lists, answers: given, names }, tell) {
 async function audited({ levels, answers, names, found, notes, said }, tell) {
     const machine = await Machine.start();
     tell("Auditing");
-    const words = machine.put(levels), { status, bytes, numbers } = machine.text("audit", [...words, ...machine.put(answers)], REPORT_ROOM);
+    const words = machine.put(levels), given = machine.put(answers), { status, bytes, numbers } = machine.text("audit", [...words, ...given], REPORT_ROOM);
     const [, count, , , , missing] = numbers;
     const report = textOf(bytes);
     return { levels, answers, names, notes, said, status, report, totals: { count, missing },
-        slices: slicesOf({ found: found ?? levelsIn(textOf(levels), machine.spans(words)), records: recordsIn(textOf(answers)), report }) };
+        slices: slicesOf({ found: found ?? levelsIn(textOf(levels), machine.spans(words)), records: machine.records(given, count), report }) };
 }
 
 const tasks = {
@@ -165,11 +176,12 @@ const tasks = {
     // Adds certificates to the levels without a record, and audits again.
     async make({ levels, answers, names, slices, said }, tell) {
         const machine = await Machine.start(), { bytes } = machine.text("make", machine.put(levels), MADE_ROOM);
-        const { text, added, isRaised } = mergedAnswers(textOf(answers), textOf(bytes));
+        const found = slices.flatMap(it => it.found), records = it => machine.records(machine.put(it), found.length);
+        const { text, added, isRaised } = mergedAnswers(textOf(answers), records(answers), textOf(bytes), records(bytes));
         const notes = [added.length ? `Certificates were made for level${added.length > 1 ? "s" : ""} ${few(added)}.`
             : "No certificate was made: for the other levels without an answer, that takes a search."];
         if (isRaised) notes.push("The answers begin with 'sokoban-answers 2' now, since a made one is a zone: zones of other records count too.");
-        return audited({ levels, answers: bytesOf(text), names, found: slices.flatMap(({ found }) => found), notes, said }, tell);
+        return audited({ levels, answers: bytesOf(text), names, found, notes, said }, tell);
     },
     async dead({ levels, number }) {
         const machine = await Machine.start(), { bytes } = machine.text("dead", [...machine.put(levels), number], MAP_ROOM);
@@ -178,8 +190,7 @@ const tasks = {
     // The verdict on rows and a record that are drawn, and the record's lines.
     async judged({ rows, kind, bytes, first, body = bodyIn(textOf(bytes), first) }) {
         const machine = await Machine.start(), lines = bytesOf(body.map(([, line]) => `${line}\n`).join(""));
-        return { line: machine.judged(bytesOf(rows.join("\n")), kind === "unsolvable" ? CERTIFICATE_KIND : SOLUTION_KIND, lines,
-            body.map(([number]) => number)), slices: bytes ? slicesOfBody(body, kind) : [] };
+        return { line: machine.judged(bytesOf(rows.join("\n")), kind, lines, body.map(([number]) => number)), slices: bytes ? slicesOfBody(body, kind) : [] };
     },
     // The page of a result, to keep. No text may end the block of its data: '<' is escaped.
     async page({ parts: [before, after], result }) {

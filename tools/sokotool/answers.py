@@ -82,7 +82,6 @@ class Record(NamedTuple):
 
     @property
     def kind(self) -> str:
-        """The kind of the answer."""
         return self.answer.kind
 
     @property
@@ -154,7 +153,6 @@ def read(data: bytes, levels: Optional[int] = None, rising: bool = True) -> Answ
 
 
 def answer_of(record: bytes) -> Answer:
-    """Returns the answer of a record."""
     return read(text([record])).records[0].answer
 
 
@@ -218,7 +216,7 @@ def _level_of(line: bytes, number: int) -> int:
 def solution(level: int, letters: bytes) -> bytes:
     """Returns the record of a solution, its letters (bytes) in lines of 70."""
     lines = [letters[i:i + 70] for i in range(0, len(letters), 70)]
-    return _record(level, b"solution", lines)
+    return spelled([b"level %d" % level, b"solution", *lines, b"end"])
 
 
 def patterns(level: int, listed: Iterable[Tuple[Iterable[Cell], Optional[Iterable[Cell]]]]
@@ -227,27 +225,18 @@ def patterns(level: int, listed: Iterable[Tuple[Iterable[Cell], Optional[Iterabl
     the whole room. Cells are (column, row)."""
     lines = [b"pattern %b @ %b" % (cells(boxes), b"*" if seeds is None else cells(seeds)) for boxes,
              seeds in listed]
-    return _record(level, b"unsolvable", lines)
-
-
-def zone(level: int, members: Iterable[Cell]) -> bytes:
-    """Returns the record of a zone, which needs version 2."""
-    return _record(level, b"unsolvable", [b"zone " + cells(members)])
+    return certificate(level, lines)
 
 
 def certificate(level: int, lines: Sequence[bytes]) -> bytes:
     """Returns the record of a certificate with these lines."""
-    return _record(level, b"unsolvable", lines)
+    return spelled([b"level %d" % level, b"unsolvable", *lines, b"end"])
 
 
 def cells(listed: Iterable[Cell]) -> bytes:
     """Returns cells as they are written, in reading order."""
     return b" ".join(b"%d,%d" % cell
                      for cell in sorted(listed, key=lambda cell: (cell[1], cell[0])))
-
-
-def _record(level: int, kind: bytes, body: Sequence[bytes]) -> bytes:
-    return spelled([b"level %d" % level, kind, *body, b"end"])
 
 
 def spelled(lines: Iterable[bytes]) -> bytes:

@@ -4,9 +4,10 @@ import os
 import shutil
 import subprocess
 import sys
-from typing import NamedTuple, Optional
+import tempfile
+from typing import Any, Iterator, NamedTuple, Optional, Sequence, Tuple
 
-from . import system, texts
+from . import answers, levels, report, system, texts
 
 REFERENCE_NOTE = "checked by the reference in Python, not by the proved program"
 _HERE = os.path.dirname(os.path.realpath(__file__))
@@ -53,19 +54,68 @@ class Auditor(NamedTuple):
             return Ran(2, b"", said or f"ended by signal {-ran.returncode}")
         return Ran(ran.returncode, ran.stdout, said)
 
-    def audit(self, levels: str, answers: str) -> bytes:
+    def audit(self, levels_file: str, answers_file: str) -> bytes:
         """Returns the report of two files."""
-        return self._printed("audit", levels, answers)
+        return self._printed("audit", levels_file, answers_file)
 
-    def make(self, levels: str) -> bytes:
+    def make(self, levels_file: str) -> bytes:
         """Returns the answers that the program makes for a collection."""
-        return self._printed("make", levels)
+        return self._printed("make", levels_file)
 
     def _printed(self, *words: str) -> bytes:
         ran = self.run(*words)
         if ran.status == 2:
             raise texts.Stop(f"{texts.shown(self.path)} {words[0]}: {ran.fault}")
         return ran.out
+
+
+class Audits:
+    """Runs sokoaudit on a collection. `text` is the last report."""
+
+    def __init__(self, program: Auditor, levels_text: bytes, count: int) -> None:
+        self.program, self.count = program, count
+        self._folder = tempfile.TemporaryDirectory()
+        self._levels = self._put("levels", levels_text)
+        self.text = b""
+
+    def __enter__(self) -> "Audits":
+        return self
+
+    def __exit__(self, *_: Any) -> None:
+        self._folder.cleanup()
+
+    def _put(self, name: str, data: bytes) -> str:
+        path = os.path.join(self._folder.name, name)
+        with open(path, "wb") as file:
+            file.write(data)
+        return path
+
+    def audit(self, written: bytes) -> report.Report:
+        """Returns the report on an answers text."""
+        self.text = self.program.audit(self._levels, self._put("answers", written))
+        read = report.read(self.text)
+        fault = read.fault(self.count)
+        if fault:
+            raise texts.Stop(f"{texts.shown(self.program.path)} printed no report: {fault}")
+        return read
+
+    def made(self, some: Sequence[levels.Level]) -> Iterator[Tuple[int, answers.Answer]]:
+        """Yields the certificates that sokoaudit makes for some levels, with their numbers."""
+        text = b"\n".join(b"".join(row + b"\n" for row in level.rows) for level in some)
+        for record in answers.read(self.program.make(self._put("some", text))).records:
+            yield some[record.level - 1].number, record.answer
+
+
+def refusal(program: Auditor, level: levels.Level, lines: Sequence[bytes]) -> str:
+    """Returns why an audit refuses lines as a certificate of a level, or ""."""
+    with Audits(program, b"".join(row + b"\n" for row in level.rows), 1) as audits:
+        line = audits.audit(answers.text([answers.certificate(1, lines)])).lines[0]
+    if line.is_answered:
+        return ""
+    if line.words[:1] != ["line"]:
+        return " ".join(["a certificate:", *line.words])
+    # The first line of the certificate is the fourth one of the text.
+    return f"{texts.shown(lines[int(line.words[1]) - 4])}: {' '.join(line.words[2:])}"
 
 
 def find() -> Auditor:
@@ -85,7 +135,8 @@ def find() -> Auditor:
     for path in [*paths, *([] if named else _REFERENCES)]:
         if os.path.isfile(path):
             is_reference = any(texts.same_file(path, it) for it in _REFERENCES)
-            if is_reference or os.access(path, os.X_OK) and (named or _is_binary(path)):
+            if is_reference or os.access(path, os.X_OK) and (
+                    named or _beginning(path).startswith(_BINARY)):
                 return Auditor(os.path.realpath(path), is_reference)
     raise texts.Stop(f"cannot run {texts.shown(named)}" if named else
                      "there is no sokoaudit: install it, or name it by SOKOAUDIT")
@@ -94,11 +145,6 @@ def find() -> Auditor:
 def _built(top: str) -> str:
     """Returns the place of the program that is built in a checkout."""
     return os.path.join(top, "crates", "sokoaudit", "out", "sokoaudit")
-
-
-def _is_binary(name: str) -> bool:
-    """Returns whether a file is a program of machine code."""
-    return _beginning(name).startswith(_BINARY)
 
 
 def _runs_reference(name: str) -> bool:

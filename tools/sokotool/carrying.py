@@ -3,19 +3,19 @@ mirrored or moved."""
 import re
 from typing import Dict, List, Sequence, Tuple
 
-from . import answers, boards, changes
+from . import answers, changes, forms
 
 _CELLS = rb"([0-9]{1,5},[0-9]{1,5}(?: [0-9]{1,5},[0-9]{1,5})*)"
 _LINE = re.compile(rb"pattern %b @ (?:\*|%b)|zone %b" % (_CELLS, _CELLS, _CELLS))
 _CELL = re.compile(rb"([0-9]+),([0-9]+)")
 
 
-def carried(records: Sequence[answers.Record], old: Sequence[boards.Form],
-            new: Sequence[boards.Form]) -> Dict[int, List[Tuple[int, answers.Answer]]]:
+def carried(records: Sequence[answers.Record], old: Sequence[forms.Form],
+            new: Sequence[forms.Form]) -> Dict[int, List[Tuple[int, answers.Answer]]]:
     """Returns the answers that each new level gets, by its number, each with the index of its
     record. If it gets several, the one of the level that it was comes first."""
     before = {match.new: match.old for match in changes.matches_of_forms(old, new)}
-    by_key = boards.by_key(new)
+    by_key = forms.by_key(new)
     found: Dict[int, List[Tuple[int, answers.Answer]]] = {}
     for at, record in enumerate(records):
         form = old[record.level - 1]
@@ -26,7 +26,7 @@ def carried(records: Sequence[answers.Record], old: Sequence[boards.Form],
     return found
 
 
-def turned(answer: answers.Answer, old: boards.Form, new: boards.Form) -> answers.Answer:
+def turned(answer: answers.Answer, old: forms.Form, new: forms.Form) -> answers.Answer:
     """Returns an answer to a level for another level with the same board. Cells that don't count
     are left out, since they may be walls there, unless the rows are the same."""
     if old.level.rows == new.level.rows:
@@ -36,7 +36,7 @@ def turned(answer: answers.Answer, old: boards.Form, new: boards.Form) -> answer
                           else _turned_line(line, old, turn))
 
 
-def _turned_line(line: bytes, old: boards.Form, turn: boards.Turn) -> List[bytes]:
+def _turned_line(line: bytes, old: forms.Form, turn: forms.Turn) -> List[bytes]:
     """Returns a line of a certificate for the new board. Floor that doesn't count may be wall
     there: a zone doesn't need it, and no reachable state has a box there. Lines that aren't of the
     grammar stay unchanged."""
@@ -54,5 +54,5 @@ def _turned_line(line: bytes, old: boards.Form, turn: boards.Turn) -> List[bytes
     return [b"pattern %b @ %b" % (answers.cells(map(turn.cell, boxes)), around)]
 
 
-def _cells_of(text: bytes) -> List[boards.Cell]:
+def _cells_of(text: bytes) -> List[forms.Cell]:
     return [(int(x), int(y)) for x, y in _CELL.findall(text)]

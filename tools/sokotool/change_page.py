@@ -54,7 +54,6 @@ def _section(old: changes.Snapshot, new: changes.Snapshot, several: Sequence[cha
 
 
 def _figure(level: Level, name: str) -> str:
-    """Returns the drawing of a level."""
     width, height = max(map(len, level.rows)), len(level.rows)
     side = max(1, min(_CELL, _MOST // max(width, height)))
     drawn = "".join(shape for row, cells in enumerate(level.rows) for shape in _shapes(row, cells))

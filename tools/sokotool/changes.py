@@ -4,8 +4,8 @@ from types import MappingProxyType
 from typing import (Callable, Dict, Hashable, Iterator, List, Mapping, NamedTuple, Optional,
                     Sequence, Set)
 
-from . import boards
-from .blocks import Block
+from . import forms
+from .level_texts import Block
 from .levels import Level
 from .report import Line
 
@@ -16,7 +16,7 @@ class Match(NamedTuple):
 
     old: int
     new: int
-    turn: Optional[boards.Turn]
+    turn: Optional[forms.Turn]
 
 
 class Snapshot(NamedTuple):
@@ -24,7 +24,7 @@ class Snapshot(NamedTuple):
     these are known."""
 
     levels: Sequence[Level]
-    forms: Sequence[boards.Form]
+    forms: Sequence[forms.Form]
     lines: Sequence[Line] = ()
     blocks: Sequence[Block] = ()
 
@@ -51,12 +51,13 @@ KINDS = ("inserted", "removed", "renumbered", "turned", "changed", "solved", "un
 
 
 class _Pairs:
-    """Pairs of indices in two lists. An index is in one pair at most."""
+    """Pairs of indices in two lists of forms. An index is in one pair at most."""
 
-    def __init__(self, old: int, new: int) -> None:
+    def __init__(self, old: Sequence[forms.Form], new: Sequence[forms.Form]) -> None:
+        self.forms = old, new
         self.of_new: Dict[int, int] = {}
-        self.old: Set[int] = set(range(old))
-        self.new: Set[int] = set(range(new))
+        self.old: Set[int] = set(range(len(old)))
+        self.new: Set[int] = set(range(len(new)))
 
     def add(self, old: int, new: int) -> None:
         self.of_new[new] = old
@@ -74,27 +75,27 @@ class _Pairs:
             if name is not None and waiting.get(name):
                 self.add(waiting[name].pop(), index)
 
+    def match_forms(self) -> None:
+        """Pairs levels with the same board, first those that aren't turned."""
+        old, new = self.forms
+        self.match(lambda index: (old[index].key, old[index].turn[:4]),
+                   lambda index: (new[index].key, new[index].turn[:4]))
+        self.match(lambda index: old[index].key, lambda index: new[index].key)
 
-def matches_of_forms(old: Sequence[boards.Form], new: Sequence[boards.Form]) -> List[Match]:
+    def found(self) -> List[Match]:
+        """Returns the pairs as matches, in order of the new levels."""
+        both = [(was, now, self.forms[0][was], self.forms[1][now])
+                for now, was in sorted(self.of_new.items())]
+        return [Match(was, now, old.turn_to(new) if old.key == new.key else None)
+                for was, now, old, new in both]
+
+
+def matches_of_forms(old: Sequence[forms.Form], new: Sequence[forms.Form]) -> List[Match]:
     """Returns the levels that have the same board, in order of the new ones. If several have it,
     levels that aren't turned are matched first."""
-    pairs = _Pairs(len(old), len(new))
-    _match_forms(pairs, old, new)
-    return _matches(pairs, old, new)
-
-
-def _match_forms(pairs: _Pairs, old: Sequence[boards.Form], new: Sequence[boards.Form]) -> None:
-    pairs.match(lambda index: (old[index].key, old[index].turn[:4]),
-                lambda index: (new[index].key, new[index].turn[:4]))
-    pairs.match(lambda index: old[index].key, lambda index: new[index].key)
-
-
-def _matches(pairs: _Pairs, old: Sequence[boards.Form], new: Sequence[boards.Form]) -> List[Match]:
-    found = []
-    for now, was in sorted(pairs.of_new.items()):
-        is_same = old[was].key == new[now].key
-        found.append(Match(was, now, old[was].turn_to(new[now]) if is_same else None))
-    return found
+    pairs = _Pairs(old, new)
+    pairs.match_forms()
+    return pairs.found()
 
 
 def _names(state: Snapshot, beside: Sequence[int]) -> Callable[[int], Hashable]:
@@ -113,12 +114,12 @@ def matches(old: Snapshot, new: Snapshot, known: Mapping[int, int] = MappingProx
     indices before. A level that has another board now is found by its title, or otherwise by the
     level before it if it has no title.
     """
-    pairs = _Pairs(len(old.levels), len(new.levels))
+    pairs = _Pairs(old.forms, new.forms)
     for was, now in known.items():
         pairs.add(was, now)
     for beside in ((-1, 1), (-1,), (1,), ()):
         pairs.match(_names(old, beside), _names(new, beside))
-    _match_forms(pairs, old.forms, new.forms)
+    pairs.match_forms()
     pairs.match(lambda index: old.levels[index].title or None,
                 lambda index: new.levels[index].title or None)
     for index in sorted(pairs.new):
@@ -126,7 +127,7 @@ def matches(old: Snapshot, new: Snapshot, known: Mapping[int, int] = MappingProx
         if before is not None and before + 1 in pairs.old and not (
                 old.levels[before + 1].title and new.levels[index].title):
             pairs.add(before + 1, index)
-    return _matches(pairs, old.forms, new.forms)
+    return pairs.found()
 
 
 def changes(old: Snapshot, new: Snapshot) -> List[Change]:
@@ -147,7 +148,6 @@ def changes(old: Snapshot, new: Snapshot) -> List[Change]:
 
 
 def _of_pair(old: Snapshot, new: Snapshot, match: Match) -> Iterator[Change]:
-    """Yields the changes of a level."""
     now, was = new.lines[match.new], old.lines[match.old]
     title = new.levels[match.new].title
 

@@ -6,7 +6,7 @@ import json
 import pkgutil
 from typing import Any, Callable, Dict, List, NamedTuple, Optional, Sequence
 
-from . import __path__, answers, exports, texts
+from . import __path__, answers, sources, texts
 from .places import Origins, Place, Problem
 
 
@@ -22,7 +22,8 @@ class Conversion(NamedTuple):
     def data(self) -> Any:
         """Returns this for a JSON file, or None if the digest isn't known. The files are named as
         they are published."""
-        return {"digest": self.digest, "files": [*map(_decoded, self.files)],
+        return {"digest": self.digest,
+                "files": [it.decode("utf-8", "surrogateescape") for it in self.files],
                 "places": [place[1:] for place in self.origins.levels],
                 "problems": [[place[1:], why] for place, why in self.origins.problems],
                 "notes": [[place[1:], why] for place, why in self.notes]} if self.digest else None
@@ -32,16 +33,16 @@ class Reading:
     """Exports, which may be read more than once, and digests of what was read last. `how` has all
     other things on which their conversion depends."""
 
-    def __init__(self, listed: Sequence[exports.Export], *how: Any) -> None:
+    def __init__(self, listed: Sequence[sources.Export], *how: Any) -> None:
         self.listed = [export._replace(read=self._reader(export)) for export in listed]
-        self._names = exports.published([export.name for export in listed])
+        self._names = sources.published([export.name for export in listed])
         self._how = [code(), *how]
         self._digests: Dict[str, str] = {}
 
-    def _reader(self, export: exports.Export) -> Callable[[], bytes]:
+    def _reader(self, export: sources.Export) -> Callable[[], bytes]:
         def read() -> bytes:
             data = export.read()
-            levels = exports.levels_of(export, self.listed) if answers.is_begun(data) else None
+            levels = sources.levels_of(export, self.listed) if answers.is_begun(data) else None
             if levels is None or levels in self.listed:
                 self._digests[export.name] = texts.digest(data)
             return data
@@ -64,7 +65,7 @@ class Reading:
             return Place(names.get(published, published), published, line)
 
         def problems(kind: str) -> List[Problem]:
-            return [Problem(place(*it), why) for it, why in data[kind]]
+            return [(place(*it), why) for it, why in data[kind]]
 
         if not data or any(it.name == "-" for it in self.listed):
             return None
@@ -73,7 +74,8 @@ class Reading:
                 export.read()
             if self.digest() == data["digest"]:
                 return Conversion(
-                    data["digest"], [*map(_encoded, data["files"])],
+                    data["digest"],
+                    [it.encode("utf-8", "surrogateescape") for it in data["files"]],
                     Origins([place(*it) for it in data["places"]], problems("problems")),
                     problems("notes"))
         return None
@@ -86,11 +88,3 @@ def code() -> str:
              for module in pkgutil.iter_modules([path + folder for path in __path__])
              if not module.ispkg]
     return texts.digest(b"".join(pkgutil.get_data("sokotool", name) or b"" for name in names))
-
-
-def _decoded(data: bytes) -> str:
-    return data.decode("utf-8", "surrogateescape")
-
-
-def _encoded(text: str) -> bytes:
-    return text.encode("utf-8", "surrogateescape")

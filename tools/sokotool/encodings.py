@@ -40,7 +40,7 @@ def guessed(data: bytes) -> str:
 
 def decoded(line: bytes, name: str) -> str:
     """Returns a line in an encoding, or byte for byte where it can't be in that one."""
-    for codec in (CODECS[name], "cp1252"):
+    for codec in (CODECS.get(name, name), "cp1252"):
         try:
             return line.decode(codec)
         except UnicodeDecodeError:

@@ -23,7 +23,7 @@ class Job:
 
     def cut(self) -> Optional[Result]:
         """Ends work that isn't over, and returns its outcome if it has one."""
-        raise NotImplementedError
+        return None
 
 
 class Jobs:
@@ -47,7 +47,12 @@ class Jobs:
                 for at, job in list(self._running.items()):
                     if job.is_over():
                         self._done[at] = self._running.pop(at).result()
-                yield from self._ready()
+                while self._done:
+                    at = self._yielded if self.is_ordered else min(self._done)
+                    if at not in self._done:
+                        break
+                    self._yielded += 1
+                    yield self._done.pop(at)
         finally:
             for at, job in self._running.items():
                 result = job.cut()
@@ -77,15 +82,6 @@ class Jobs:
             self._running[self._started] = job
             self._started += 1
         return bool(self._running)
-
-    def _ready(self) -> Iterator[Result]:
-        """Yields the results that are due."""
-        while self._done:
-            at = self._yielded if self.is_ordered else min(self._done)
-            if at not in self._done:
-                break
-            self._yielded += 1
-            yield self._done.pop(at)
 
     def _begin(self, level: Level, seconds: float) -> Optional[Job]:
         """Begins to work on a level, or returns None if that has to wait."""

@@ -8,8 +8,8 @@ came.
 import re
 from typing import Dict, List, NamedTuple, Optional, Sequence, Set, Tuple
 
-from . import answers, blocks, boards, changes, merging, texts
-from .blocks import Block
+from . import answers, changes, forms, level_texts, merging, texts
+from .level_texts import Block
 
 _HEAD = b"; kept"
 _WRITTEN = re.compile(rb"; kept(?: from level \d+)?(?:, (.*))?", re.S)
@@ -40,10 +40,9 @@ class Kept(NamedTuple):
 
     entries: List[Entry]
     rest: List[bytes]
-    alone: blocks.Lines = ()
+    alone: level_texts.Lines = ()
 
     def collection(self) -> changes.Snapshot:
-        """Returns the levels."""
         return merging.collection([entry.block for entry in self.entries])
 
     def records(self) -> List[answers.Record]:
@@ -51,7 +50,7 @@ class Kept(NamedTuple):
         return [entry.record._replace(level=number) for number, entry in enumerate(self.entries, 1)
                 if entry.record]
 
-    def reasons(self, forms: Sequence[boards.Form]) -> List[str]:
+    def reasons(self, forms: Sequence[forms.Form]) -> List[str]:
         """Returns how many things are kept, and why. The forms are those of the collection."""
         keys = {form.key for form in forms}
         are_there = [form.key in keys for form in self.collection().forms]
@@ -72,7 +71,7 @@ class Kept(NamedTuple):
                                        below=(*_trimmed(entry.block.below), b""))
                   for entry in self.entries]
         records = [answers.spelled(record.apart) + record.text for record in self.records()]
-        text = answers.spelled(self.alone) + blocks.text(listed)
+        text = answers.spelled(self.alone) + level_texts.text(listed)
         has_answers = self.records() or any(self.rest)
         return (text if text.strip() else None,
                 answers.text(records) + answers.spelled(self.rest) if has_answers else None)
@@ -84,7 +83,7 @@ def read(levels_text: bytes, found: answers.Answers) -> Kept:
     for record in found.records:
         records.setdefault(record.level, []).append(record)
     entries = []
-    for number, block in enumerate(blocks.read(levels_text, _cut), 1):
+    for number, block in enumerate(level_texts.read(levels_text, _cut), 1):
         heads = [at for at, line in enumerate(block.above) if line.startswith(_HEAD)]
         at = heads[0] if heads else len(block.above)
         head = b"".join(block.above[at:at + 1])
@@ -101,7 +100,7 @@ def head_of(number: int, title: str) -> bytes:
     return _HEAD + f" from level {number}".encode() + (f", {title}".encode() if title else b"")
 
 
-def _trimmed(lines: blocks.Lines) -> blocks.Lines:
+def _trimmed(lines: level_texts.Lines) -> level_texts.Lines:
     """Returns lines without the empty ones at the end."""
     while lines and not lines[-1]:
         lines = lines[:-1]
@@ -112,4 +111,4 @@ def _cut(gap: Sequence[bytes]) -> int:
     """Returns how many lines between two levels belong to the upper one: those before the comment
     of the lower one."""
     heads = [at for at, line in enumerate(gap) if line.startswith(_HEAD)]
-    return heads[-1] if heads else blocks.cut(gap)
+    return heads[-1] if heads else level_texts.cut(gap)

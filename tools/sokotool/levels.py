@@ -1,10 +1,11 @@
-"""Finds the levels of a text, the same ones as the auditor, with their titles and authors."""
+"""The characters that draw a board, and the levels of a text, the same ones as the auditor reads,
+with their titles and authors."""
 import re
 import sys
 from functools import lru_cache
 from typing import Callable, Dict, Generic, List, NamedTuple, Pattern, Sequence, Tuple, TypeVar
 
-from . import alphabet, texts
+from . import texts
 
 MOST_LEVELS = 10_000
 # the most columns or rows of a legal level
@@ -13,7 +14,15 @@ LARGEST_SIDE = 255
 MOST_CELLS = 1 << 22
 # how many bytes a line with a title may have, so that no search in a long line takes long
 MOST_TITLE = 999
-CHARACTERS = alphabet.ROW.encode()
+WALL = "#"
+PLAYERS, BOXES, GOALS = "@+", "$*", ".+*"
+FLOOR = "-_ "
+# all characters of a row; '-' comes first, so that the text can be used between the brackets of a
+# regular expression
+ROW = "-#@+$*._ "
+# the letters that some collections have for boxes, players and goals, and what they mean
+LETTERS = str.maketrans("obBpP", ".$*@+")
+CHARACTERS = ROW.encode()
 # the colon, and the full-width one
 _COLON = rb"[ \t]*(?::|\xef\xbc\x9a)"
 _EQUALS = rb"[ \t]*(?:=|:|\xef\xbc\x9a)"
@@ -103,9 +112,7 @@ def read(data: bytes, most: int = sys.maxsize) -> List[Level]:
 
 @lru_cache(maxsize=4)
 def _read(data: bytes, most: int) -> Sequence[Level]:
-    if data.startswith(texts.MARK):
-        data = data[len(texts.MARK):]
-    lines = texts.lines(data)
+    lines = texts.lines(texts.unmarked(data))
     kinds = bytes(map(texts.Cache(_kind_of).__getitem__, lines))
     spans: List[Tuple[int, int]] = []
     for match in _ROWS.finditer(kinds):
@@ -114,7 +121,9 @@ def _read(data: bytes, most: int) -> Sequence[Level]:
         spans.append(match.span())
     firsts = [first for first, _ in spans] + [len(lines)]
     ends = [0] + [end for _, end in spans]
-    titles = [_title_of(lines, kinds, *gap) for gap in zip(ends, firsts)]
+    # the last title with its key between two levels; of the keys `Title` comes first
+    titles = [_keyed(lines, kinds, gap, (_BELOW, _TITLE))
+              or _keyed(lines, kinds, gap, (_NAMED, _NAME)) for gap in zip(ends, firsts)]
     are_above = bool(titles[0]) and not titles[-1] and (len(spans) == 1 or any(titles[1:-1]))
     keyed = titles[:-1] if are_above else titles[1:]
     authors = [_keyed(lines, kinds, gap, (_BY_LINE, _BY)) for gap in zip(ends, firsts)]
@@ -155,13 +164,6 @@ def _is_title(lines: List[bytes], kinds: bytes, where: Tuple[int, int, int]) -> 
         is_solution = kinds[top - 1] == _SHORT or b"solution" in lines[top - 1].lower()
         return not is_solution and (is_number or not below or above > below)
     return end == 0 or above > below or is_number and above == below > 0
-
-
-def _title_of(lines: List[bytes], kinds: bytes, end: int, first: int) -> str:
-    """Returns the last title with its key between two lines; of the keys `Title` comes first."""
-    gap = end, first
-    return (_keyed(lines, kinds, gap, (_BELOW, _TITLE))
-            or _keyed(lines, kinds, gap, (_NAMED, _NAME)))
 
 
 def _keyed(lines: List[bytes], kinds: bytes, gap: Tuple[int, int],

@@ -30,14 +30,11 @@ COMMANDS = {**MAIN, **PARTS}
 PRINTING = set(COMMANDS) - {"check", "convert"}
 
 
-def _lines(commands: Dict[str, str]) -> str:
-    return "\n".join(f"    {name:<13}{about}" for name, about in commands.items())
-
-
+_PARTS = "\n".join(f"    {name:<13}{about}" for name, about in PARTS.items())
 ABOUT = ("Tools around sokoaudit for keepers of Sokoban collections. Nobody has to trust them: "
          "sokoaudit checks what they write.")
 NOTES = f"""parts of check, each by itself:
-{_lines(PARTS)}
+{_PARTS}
 
 exit status:
   0  done

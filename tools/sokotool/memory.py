@@ -5,7 +5,7 @@ from types import MappingProxyType
 from typing import Any, Dict, List, Mapping, NamedTuple, Optional, Sequence, Tuple
 
 from . import texts
-from .blocks import Block, Lines
+from .level_texts import Block, Lines
 from .merging import Written, collection
 from .outcomes import Outcomes
 

@@ -5,8 +5,8 @@ and goes with its level when that gets another number.
 """
 from typing import Dict, Hashable, List, NamedTuple, Optional, Sequence, Set, Tuple
 
-from . import boards, changes, levels, texts
-from .blocks import ABOVE, BELOW, LEVEL, Block, separated, text
+from . import changes, forms, levels, texts
+from .level_texts import ABOVE, BELOW, LEVEL, Block, separated, text
 from .changes import Snapshot
 
 
@@ -36,7 +36,7 @@ def collection(blocks: Sequence[Block]) -> Snapshot:
     """Returns a collection of these blocks, with an empty line between levels without text."""
     apart = separated(blocks)
     found = levels.read(text(apart))
-    return Snapshot(found, boards.forms_of(found), (), apart)
+    return Snapshot(found, forms.forms_of(found), (), apart)
 
 
 def merged(written: Written, mine: Snapshot, exports: Snapshot, stored: Sequence[Block]
@@ -49,7 +49,10 @@ def merged(written: Written, mine: Snapshot, exports: Snapshot, stored: Sequence
     is_ordered = written.is_ordered or order != sorted(order)
     marked, fresh = _marked(written.collection.blocks, mine.blocks, was)
     sources = [texts.digest(text([block])) for block in exports.blocks]
-    level_of = _matched(mine, exports, marked, _paired(written, was, sources))
+    # the indices in the exports by those now; a typed level is found by its board alone
+    level_of = {match.old: match.new
+                for match in changes.matches(mine, exports, _paired(written, was, sources))
+                if match.turn is not None or LEVEL not in marked[match.old].typed}
     index_of = {now: old for old, now in level_of.items()}
     found: Dict[Hashable, Block] = {
         now: _over(block, marked[index_of[now]]) if now in index_of else block
@@ -59,7 +62,8 @@ def merged(written: Written, mine: Snapshot, exports: Snapshot, stored: Sequence
         if index not in level_of and LEVEL in block.typed:
             found["own", index] = block
         elif index not in level_of and block.typed:
-            away.append((index, _typed_part(block)))
+            away.append((index, block._replace(above=block.above if ABOVE in block.typed else (),
+                                               below=block.below if BELOW in block.typed else ())))
     back = _take_back(found, stored, exports.forms, set(index_of))
     names: List[Hashable] = [level_of.get(index, ("own", index)) for index in range(len(marked))]
     ours, theirs = [name for name in names if name in found], list(range(len(exports.blocks)))
@@ -108,14 +112,6 @@ def _paired(written: Written, was: Dict[int, int], sources: Sequence[str]) -> Di
     return {index: place for index, place in found.items() if place is not None}
 
 
-def _matched(mine: Snapshot, exports: Snapshot, marked: Sequence[Block],
-             paired: Dict[int, int]) -> Dict[int, int]:
-    """Returns the indices in the exports by the indices now, where some are known. A typed level is
-    found by its board alone."""
-    return {match.old: match.new for match in changes.matches(mine, exports, paired)
-            if match.turn is not None or LEVEL not in marked[match.old].typed}
-
-
 def _over(block: Block, typed: Block) -> Block:
     """Returns a block of the exports with the typed text of another one. Empty lines alone are no
     text."""
@@ -126,18 +122,12 @@ def _over(block: Block, typed: Block) -> Block:
     return block
 
 
-def _typed_part(block: Block) -> Block:
-    """Returns a block with its typed text alone."""
-    return block._replace(above=block.above if ABOVE in block.typed else (),
-                          below=block.below if BELOW in block.typed else ())
-
-
 def _take_back(found: Dict[Hashable, Block], stored: Sequence[Block],
-               forms: Sequence[boards.Form], known: Set[int]) -> Set[int]:
+               theirs: Sequence[forms.Form], known: Set[int]) -> Set[int]:
     """Gives stored texts to levels that have their boards again. Returns the indices of the texts.
     `known` has the indices of levels that were there before."""
     back = set()
-    by_key = boards.by_key(form for form in forms)
+    by_key = forms.by_key(theirs)
     for at, form in enumerate(collection(stored).forms):
         free = [index for index in by_key.get(form.key, ()) if index not in known]
         if free and (stored[at].above or stored[at].below):

@@ -2,7 +2,7 @@
 searched, for how many seconds at most, and with which outcome."""
 from typing import Dict, List, NamedTuple, Sequence, Tuple
 
-from .boards import Form
+from .forms import Form
 from .levels import Level
 
 # the outcomes of a search; the search reached a limit of its own: FULL, MEMORY
@@ -49,18 +49,15 @@ class Outcomes:
                  if what in _ANSWERED or spent < seconds and what not in FINAL]
         return sorted(found, key=lambda form: self.of(form, way)[1])
 
-    def keep(self, form: Form, way: str, what: str, seconds: float) -> None:
-        """Remembers an outcome and the seconds that the search had. That a solver can't be run is
-        none."""
+    def keep(self, digest: str, way: str, what: str, seconds: float) -> None:
+        """Remembers an outcome of a board and the seconds that the search had. That a solver can't
+        be run is none."""
         if what != FAILED:
-            self._keep(form.digest, way, what, seconds)
+            ways = self.kept.setdefault(digest, {})
+            ways[way] = what, max(seconds, ways.get(way, ("", 0))[1])
 
     def join(self, others: "Outcomes") -> None:
         """Remembers other outcomes too."""
         for digest, ways in others.kept.items():
             for way, outcome in ways.items():
-                self._keep(digest, way, *outcome)
-
-    def _keep(self, digest: str, way: str, what: str, seconds: float) -> None:
-        ways = self.kept.setdefault(digest, {})
-        ways[way] = what, max(seconds, ways.get(way, ("", 0))[1])
+                self.keep(digest, way, *outcome)

@@ -7,7 +7,7 @@ import time
 from itertools import zip_longest
 from typing import IO, Callable, Dict, Iterator, List, Optional
 
-from . import answers, auditor, memory, output, report, sheet, system, texts, transaction
+from . import answers, auditor, memory, report, sheet, system, texts, transaction
 from .progress import Progress
 
 # The page of a collection within the limits is shorter.
@@ -61,7 +61,6 @@ class Files:
         return found
 
     def memory(self) -> memory.Memory:
-        """Returns what the last check remembers."""
         return memory.read(self.before.get(MEMORY), self.name + MEMORY)
 
     def write(self, files: Dict[str, Optional[bytes]]) -> None:
@@ -86,7 +85,8 @@ class Files:
         """Returns lines that tell where files are other than these, but for notes."""
         said = []
         for end, data in files.items():
-            now, wanted = (_without_note(it) for it in (self.now.get(end), data))
+            now, wanted = (it and it.replace(_NOTE + b"\n", b"").replace(b"," + _NOTE[1:], b"")
+                           for it in (self.now.get(end), data))
             if now is not None and wanted is not None:
                 both = zip_longest(now.split(b"\n"), wanted.split(b"\n"))
                 said += [f"{end} line {at} would change"
@@ -99,10 +99,6 @@ class Files:
         """Writes NAME.memory alone, whatever the other files are now."""
         transaction.commit([(self.name + MEMORY, self.now.get(MEMORY), data)], self._journal)
         self.now[MEMORY] = data
-
-
-def _without_note(data: Optional[bytes]) -> Optional[bytes]:
-    return data and data.replace(_NOTE + b"\n", b"").replace(b"," + _NOTE[1:], b"")
 
 
 def bytes_of(name: str) -> Optional[bytes]:
@@ -140,12 +136,6 @@ def check_name(name: str) -> None:
                          f"{texts.shown(name)} {why}")
     if system.is_device(os.path.basename(name)):
         raise texts.Stop(f"{texts.shown(name)} is the name of a device")
-
-
-def check_writable(name: str, *more: str) -> None:
-    """Refuses a NAME whose files can't be written, with those of more ends."""
-    for end in (*ENDS, *more, MEMORY):
-        output.check_writable(name + end)
 
 
 @contextlib.contextmanager

@@ -25,23 +25,10 @@ class Place(NamedTuple):
         return f"{self}: {why}" if self.line else why
 
 
-class Problem(NamedTuple):
-    """What was left out or is wrong, with the numbers that levels have in the exports."""
-
-    place: Place
-    why: str
-
-    def numbered(self, numbers: Dict[int, int]) -> str:
-        """Returns it with these numbers of levels, by their indices in the exports. Another number
-        is part of the name of a file."""
-        return _LEVEL.sub(lambda it: f"level {numbers.get(int(it[1]) - 1, it[1])}", self.why)
-
-
-class Source(NamedTuple):
-    """Where a level comes from, and what was left out of it."""
-
-    place: Place
-    left: List[str]
+# what was left out or is wrong, with the numbers that levels have in the exports
+Problem = Tuple[Place, str]
+# where a level comes from, and what was left out of it
+Source = Tuple[Place, List[str]]
 
 
 class Origins(NamedTuple):
@@ -52,30 +39,39 @@ class Origins(NamedTuple):
 
     def messages(self, numbers: Dict[int, int]) -> List[str]:
         """Returns the problems with their places and these numbers of levels."""
-        return [it.place.said(it.numbered(numbers)) for it in self.problems]
+        return [place.said(_numbered(why, numbers)) for place, why in self.problems]
 
     def sources(self, indices: Sequence[Optional[int]]) -> Dict[int, Source]:
         """Returns the sources of levels by their numbers. `indices` has the index of each level in
         the exports, or None."""
         numbers = numbers_of(indices)
-        found = {number: Source(self.levels[at], []) for at, number in numbers.items()}
+        found: Dict[int, Source] = {number: (self.levels[at], [])
+                                    for at, number in numbers.items()}
         lines: Dict[str, List[Tuple[int, int]]] = {}
         for at, place in enumerate(self.levels):
             lines.setdefault(place.published, []).append((place.line, at))
         for problem in self.problems:
-            number = numbers.get(_level_of(problem, lines.get(problem.place.published, [])), 0)
+            place, why = problem
+            number = numbers.get(_level_of(problem, lines.get(place.published, [])), 0)
             if number:
-                found[number].left.append(f"line {problem.place.line}: {problem.numbered(numbers)}")
+                found[number][1].append(f"line {place.line}: {_numbered(why, numbers)}")
         return found
+
+
+def _numbered(why: str, numbers: Dict[int, int]) -> str:
+    """Returns a problem with these numbers of levels, by their indices in the exports. Another
+    number is part of the name of a file."""
+    return _LEVEL.sub(lambda it: f"level {numbers.get(int(it[1]) - 1, it[1])}", why)
 
 
 def _level_of(problem: Problem, lines: Sequence[Tuple[int, int]]) -> int:
     """Returns the index of the level that a problem names, or of the last level of its file that
     begins above it, or -1. `lines` has the lines of the levels in the file with their indices."""
-    named = _LEVEL.search(problem.why)
+    place, why = problem
+    named = _LEVEL.search(why)
     if named:
         return int(named[1]) - 1
-    above = bisect_right(lines, (problem.place.line + 1, -1))
+    above = bisect_right(lines, (place.line + 1, -1))
     return lines[above - 1][1] if above else -1
 
 

@@ -6,9 +6,9 @@ from typing import Callable, Dict, Hashable, List, NamedTuple, Optional, Sequenc
 
 from . import answers, carrying, changes, kept, report, texts
 from .answers import Answer, Record
-from .blocks import Block
-from .collection import BOTH, PUSHES
-from .game import board_of
+from .level_texts import Block
+from .builder import BOTH, PUSHES
+from .board import board_of
 from .levels import Level
 
 _SOLVES, _CERTIFICATE, _FAILS = range(3)
@@ -96,7 +96,6 @@ class Pool:
         self._by_board(records, self.now, True)
 
     def add_computed(self, number: int, answer: Answer) -> None:
-        """Adds an answer that was computed."""
         self._add(number, answer).is_computed = True
 
     def add_file(self, name: str, found: answers.Answers, before: changes.Snapshot) -> None:
@@ -151,7 +150,8 @@ class Pool:
         matches = self._matches(before)
         # Of equal answers to the same board one goes to all levels that have it.
         by_board: Dict[Hashable, Given] = {}
-        same = [by_board.setdefault(_board_of(it, before), it) for it in found]
+        same = [by_board.setdefault((form.key, form.turn[:4], it.record.answer), it)
+                for it in found for form in [before.forms[it.record.level - 1]]]
         first = [*by_board.values()]
         carried = carrying.carried([it.record for it in first], before.forms, self.now.forms)
         for number, several in carried.items():
@@ -288,12 +288,6 @@ class Pool:
         return any(it.is_computed or any(one.covers(it.answer)
                                          for one in self._exported.get(it.number, ()))
                    for it in given.targets)
-
-
-def _board_of(given: Given, before: changes.Snapshot) -> Hashable:
-    """Returns what equal answers to the same board share."""
-    form = before.forms[given.record.level - 1]
-    return form.key, form.turn[:4], given.record.answer
 
 
 def in_case(record: Record, states: Sequence[changes.Snapshot]) -> Record:

@@ -14,7 +14,6 @@ class Progress:
         self._shown = ""
 
     def keep(self, line: str) -> None:
-        """Prints a message."""
         self.clear()
         print(f"{self.command}: {line}", file=sys.stderr, flush=True)
 

@@ -6,10 +6,10 @@ import math
 import time
 from collections import Counter
 from functools import partial
-from typing import Callable, Dict, List, NamedTuple, Sequence, Tuple
+from typing import Callable, Dict, List, Sequence, Tuple
 
-from . import auditor, audits, texts
-from .boards import Form
+from . import auditor, texts
+from .forms import Form
 from .jobs import Jobs
 from .levels import Level
 from .outcomes import FINAL, Outcomes, Result
@@ -27,17 +27,7 @@ WAY = "find"
 
 HandOn = Callable[[Sequence[Tuple[Form, Result]]], None]
 Take = Callable[[str, Sequence[Tuple[Form, Result]]], None]
-
-
-class Way(NamedTuple):
-    """A way to look for answers: its name in the memory, its limits, the seconds for a level in
-    each round, and a function that begins to look at levels within limits and a budget for all.
-    """
-
-    name: str
-    limits: Limits
-    rounds: Sequence[float]
-    begin: Callable[[Sequence[Level], Limits, Budget], Jobs]
+Begin = Callable[[Sequence[Level], Limits, Budget], Jobs]
 
 
 def of(seconds: float) -> List[float]:
@@ -52,28 +42,37 @@ def size(form: Form) -> int:
 
 
 class Rounds:
-    """The rounds of a way. `left` has the levels that have no answer and may still get one."""
+    """The rounds of a way to look for answers: its name in the memory, its limits, and a function
+    that begins to look at levels within limits and a budget for all. `seconds` has those for a
+    level in each round, and `left` the levels that have no answer and may still get one."""
 
-    def __init__(self, shown: Progress, way: Way, forms: Sequence[Form], known: Outcomes) -> None:
-        self.shown, self.way, self.known = shown, way, known
-        self.left = {form.level.number: form
-                     for form in known.due(forms, way.name, way.limits.seconds)}
-        self.count = len(self.left)
+    def __init__(self, shown: Progress, known: Outcomes, name: str, limits: Limits, begin: Begin
+                 ) -> None:
+        self.shown, self.known, self.name, self.limits, self.begin = (
+            shown, known, name, limits, begin)
+        self.seconds = of(limits.seconds) if name == WAY else [limits.seconds]
+        self.left: Dict[int, Form] = {}
+        self.count = 0
         self._done: Dict[bool, int] = Counter()  # how many levels have an answer, and have none
         self._results: List[Tuple[Form, Result]] = []
-        self._handed = time.monotonic()
+        self._handed = 0.0
 
-    def run(self, hand_on: HandOn) -> bool:
+    def due(self, forms: Sequence[Form]) -> List[Form]:
+        return self.known.due(forms, self.name, self.limits.seconds)
+
+    def run(self, forms: Sequence[Form], hand_on: HandOn) -> bool:
         """Goes through the rounds, and hands on their results every few seconds. Returns false
         after an interrupt."""
-        budget = Budget(self.way.limits.total)
+        self.left = {form.level.number: form for form in self.due(forms)}
+        self.count, self._handed = len(self.left), time.monotonic()
+        budget = Budget(self.limits.total)
         goes_on = True
-        for seconds in self.way.rounds:
-            due = self.known.due(list(self.left.values()), self.way.name, seconds)
+        for seconds in self.seconds:
+            due = self.known.due(list(self.left.values()), self.name, seconds)
             if not due:
                 continue
-            search = self.way.begin([form.level for form in sorted(due, key=size)],
-                                    self.way.limits._replace(seconds=seconds), budget)
+            search = self.begin([form.level for form in sorted(due, key=size)],
+                                self.limits._replace(seconds=seconds), budget)
             try:
                 for result in search.results(partial(self._watch, search, budget, hand_on)):
                     self._add(result)
@@ -101,7 +100,7 @@ class Rounds:
 
     def _is_done(self, result: Result) -> bool:
         return (bool(result.record) or result.what in FINAL
-                or result.seconds >= self.way.limits.seconds)
+                or result.seconds >= self.limits.seconds)
 
     def _watch(self, search: Jobs, budget: Budget, hand_on: HandOn) -> None:
         if time.monotonic() - self._handed > EVERY and self._results:
@@ -119,8 +118,7 @@ class Rounds:
                 self.shown.keep(f"level {result.level.number}: | {line}")
             if self._is_done(result):
                 self._done[bool(result.record)] += 1
-                self.shown.keep(f"level {result.level.number}: {result.words} "
-                                f"({self._words()})")
+                self.shown.keep(f"level {result.level.number}: {result.words} ({self._words()})")
         if results:
             hand_on(results)
         self._handed = time.monotonic()
@@ -134,31 +132,30 @@ class Rounds:
 
 # ---- all ways
 
-def ways(options: argparse.Namespace, program: auditor.Auditor) -> List[Way]:
+def ways(options: argparse.Namespace, program: auditor.Auditor, shown: Progress, known: Outcomes
+         ) -> List[Rounds]:
     """Returns the ways to search that the options ask for."""
     found = []
     if options.search > 0 and options.seconds > 0:
-        found.append(Way(WAY, Limits(options.seconds, options.search, options.jobs),
-                         of(options.seconds), Searches))
+        found.append(Rounds(shown, known, WAY,
+                            Limits(options.seconds, options.search, options.jobs), Searches))
     if options.solver:
-        solver = Solver(options.solver, lambda *one: audits.refusal(program, *one), options.verbose)
-        found.append(Way(f"solver {options.solver}",
-                         Limits(options.solver_seconds, options.solver_search, options.jobs),
-                         [options.solver_seconds], lambda *rest: Solvers(solver, *rest)))
+        solver = Solver(options.solver, partial(auditor.refusal, program), options.verbose)
+        limits = Limits(options.solver_seconds, options.solver_search, options.jobs)
+        found.append(Rounds(shown, known, f"solver {options.solver}", limits,
+                            lambda *rest: Solvers(solver, *rest)))
     return found
 
 
-def search(shown: Progress, several: Sequence[Way],
-           unanswered: Callable[[], Sequence[Form]], known: Outcomes, take: Take) -> None:
+def search(several: Sequence[Rounds], unanswered: Callable[[], Sequence[Form]], take: Take) -> None:
     """Searches the levels without an answer in each way, one after the other, and says first what
     each may take. `take` gets results by the name of their way. An interrupt ends all."""
-    due = [len(known.due(unanswered(), way.name, way.limits.seconds)) for way in several]
+    due = [len(way.due(unanswered())) for way in several]
     said = [f"{texts.count(count, 'level')} "
             f"{'to search' if way.name == WAY else 'for the solver'}, {way.limits.words}"
             for count, way in zip(due, several) if count]
     if said:
-        shown.keep("; ".join(said))
+        several[0].shown.keep("; ".join(said))
     for way in several:
-        one = Rounds(shown, way, unanswered(), known)
-        if not one.run(partial(take, way.name)):
+        if not way.run(unanswered(), partial(take, way.name)):
             break

@@ -7,11 +7,11 @@ import signal
 import time
 from typing import Any, Optional, Sequence, Tuple
 
-from . import answers, system
+from . import system
 from .jobs import Job, Jobs
 from .levels import Level
 from .outcomes import FOUND, FULL, ILLEGAL, LATE, LONG, MEMORY, SOLVABLE, Result
-from .search.refute import Outcome, outcome
+from .search.refute import outcome
 
 # the seconds after its time limit in which a search may still shorten and write its list
 GRACE = 0.5
@@ -36,7 +36,6 @@ class _Worker(Job):
         self._found: Optional[Tuple[str, bytes]] = None
 
     def search(self, level: Level, seconds: float) -> None:
-        """Begins to search a level."""
         self.level, self.began, self.seconds = level, time.monotonic(), seconds
         self.is_ready, self._found = False, None
         with contextlib.suppress(OSError):  # It has died: its pipe says so.
@@ -64,11 +63,7 @@ class _Worker(Job):
         words = f"stopped after {self.seconds:.3g} s" if what == LATE else WORDS[what]
         return Result(self.level, what, record, self.seconds, words)
 
-    def cut(self) -> None:
-        return None
-
     def stop(self) -> None:
-        """Ends the process."""
         self.has_ended, self.is_ready = True, False
         self.process.kill()
         self.process.join()
@@ -100,12 +95,6 @@ class Searches(Jobs):
             worker.stop()
 
 
-def _record(number: int, found: Outcome) -> bytes:
-    if found.patterns:
-        return answers.patterns(number, found.patterns)
-    return answers.solution(number, found.letters) if found.what == SOLVABLE else b""
-
-
 def _work(pipe: Any) -> None:
     """Says that the process is ready, searches each level that comes, and sends the outcome."""
     signal.signal(signal.SIGINT, signal.SIG_IGN)
@@ -121,7 +110,6 @@ def _work(pipe: Any) -> None:
 
 def _found(level: Level, seconds: float) -> Tuple[str, bytes]:
     try:
-        found = outcome(level, seconds)
-        return found.what, _record(level.number, found)
+        return outcome(level, seconds)
     except MemoryError:
         return MEMORY, b""

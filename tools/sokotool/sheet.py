@@ -3,7 +3,7 @@ import csv
 import io
 from typing import Any, List, Sequence, Tuple
 
-from . import boards, messages, report
+from . import forms, messages, report
 from .levels import Level
 
 COLUMNS = ("number", "title", "author", "status", "moves", "pushes", "boxes", "width", "height",
@@ -25,7 +25,6 @@ def text(rows: Sequence[Row]) -> bytes:
 
 
 def is_begun(data: bytes) -> bool:
-    """Returns whether a text is such a table."""
     return data.startswith(",".join(COLUMNS).encode() + b"\n")
 
 
@@ -33,15 +32,12 @@ def _cells(row: Row) -> List[Any]:
     level, said, file, line = row
     drawn = b"".join(level.rows)
     counts = said.counts[:2] or ("", "")
+    # the words of a refusal and their sentence
+    words = " ".join(said.words) + ": " if said.status == "refused" else ""
     return [level.number, level.title, level.author, said.status, *counts,
             drawn.count(b"$") + drawn.count(b"*"), max(map(len, level.rows)), len(level.rows),
-            boards.form_of(level).digest, file, line, _reason(level, said)]
-
-
-def _reason(level: Level, said: report.Line) -> str:
-    """Returns the words of a refusal and their sentence."""
-    words = " ".join(said.words) + ": " if said.status == "refused" else ""
-    return words + messages.reason(level, said)
+            forms.form_of(level).digest, file, line,
+            words + messages.reason(level, said)]
 
 
 def _plain(cell: Any) -> Any:

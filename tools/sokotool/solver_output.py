@@ -2,7 +2,7 @@
 import re
 from typing import Iterator, List, Optional, Sequence, Set, Tuple
 
-from . import game
+from .board import Board
 from .formats import coding, letters
 from .levels import Level
 
@@ -16,7 +16,7 @@ _CERTIFIES = re.compile(rb"(?m)^[ \t]*((?:pattern|zone) \d+,\d+[^\r\n]*|unsolvab
 def solution_in(level: Level, parts: Sequence[bytes]) -> Tuple[Optional[bytes], List[str]]:
     """Returns the first letters in some texts that solve a level, each in its case, or None; and
     what of the others was refused."""
-    board = game.Board(level)
+    board = Board(level)
     refused: List[str] = []
     tried: Set[str] = set()
     left = MOST_LETTERS

@@ -14,7 +14,7 @@ import time
 from typing import IO, Callable, Iterator, List, NamedTuple, Optional, Sequence, Tuple
 
 from . import answers, solver_output, system, texts
-from .formats import written
+from .formats import exporting
 from .jobs import Job, Jobs
 from .levels import Level
 from .outcomes import FAILED, LATE, LONG, NOTHING, REFUTED, SOLVED, Result
@@ -70,7 +70,7 @@ class Run(Job):
         self.folder = tempfile.TemporaryDirectory(prefix="sokotool-")
         self.file = os.path.join(self.folder.name, "level.xsb")
         with open(self.file, "wb") as file:
-            file.write("".join(written.plain(row) + "\n" for row in level.rows).encode())
+            file.write("".join(exporting.plain(row) + "\n" for row in level.rows).encode())
         self.began = time.monotonic()
         self.group = self._started([word.replace(PLACE, self.file) for word in words])
 
@@ -119,7 +119,8 @@ class Run(Job):
         if self.fault:
             said.append(self.fault)
         elif self.group and self.group.process.returncode and self.ended is None:
-            said.append(_status(self.group.process.returncode))
+            code = self.group.process.returncode
+            said.append(f"ended by signal {-code}" if code < 0 else f"ended with status {code}")
         return Result(self.level, what, record, self.seconds, self._words_of(what),
                       said if self.solver.is_told else [])
 
@@ -169,10 +170,6 @@ class Run(Job):
     def _beginning(file: IO[bytes]) -> bytes:
         file.seek(0)
         return file.read(MOST_CERTIFIED)
-
-
-def _status(code: int) -> str:
-    return f"ended by signal {-code}" if code < 0 else f"ended with status {code}"
 
 
 def _shown(parts: Sequence[bytes]) -> List[str]:

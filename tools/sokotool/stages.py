@@ -3,9 +3,9 @@ exports, answers are taken over, and the best ones are audited."""
 import argparse
 from typing import Any, List, Optional, Sequence, Set, Tuple
 
-from . import (answers, auditor, blocks, boards, carrying, kept, levels, memory, merging, own_files,
-               report, texts)
-from .audits import Audits
+from . import (answers, auditor, carrying, forms, kept, level_texts, levels, memory, merging,
+               own_files, report, texts)
+from .auditor import Audits
 from .changes import Snapshot
 from .outcomes import Outcomes
 from .own_files import ANSWERS, KEPT_ANSWERS, KEPT_XSB, OTHER, REPORT, XSB, noted
@@ -34,14 +34,14 @@ class Run:
         self.records: List[answers.Record] = []
         self.more: List[Tuple[str, answers.Answers]] = []
         self.outcomes = Outcomes({})
-        self.found: List[Tuple[boards.Form, answers.Answer]] = []
-        self.made: Set[boards.Key] = set()
+        self.found: List[Tuple[forms.Form, answers.Answer]] = []
+        self.made: Set[forms.Key] = set()
         self.before: Optional[Snapshot] = None
-        self.edited: Set[boards.Key] = set()
+        self.edited: Set[forms.Key] = set()
         self.written: Set[str] = set()
         self.is_begun = self.has_backups = False
 
-    def without(self, forms: Sequence[boards.Form]) -> List[memory.Find]:
+    def without(self, forms: Sequence[forms.Form]) -> List[memory.Find]:
         """Returns the answers to boards that none of these forms has."""
         keys = {form.key for form in forms}
         return [(tuple(form.level.rows), answer.record(number))
@@ -80,7 +80,7 @@ class State:
         self.stored = self.left = kept.read(
             kept_text, self.files.answers(KEPT_ANSWERS, len(levels.read(kept_text))))
         written = self.memory.written.collection
-        is_same = written.blocks and self.files.levels() == blocks.text(written.blocks)
+        is_same = written.blocks and self.files.levels() == level_texts.text(written.blocks)
         self.mine = written if is_same else merging.collection(_own_blocks(self.files))
         # the levels whose numbers NAME.answers has, and the highest number that it may have
         self.former = written if written.blocks else self.mine
@@ -88,12 +88,12 @@ class State:
         if not run.is_begun:
             run.is_begun, run.before = True, self._before(run.program)
             run.found += [
-                (boards.form_of(levels.Level(1, list(rows), 1)), answers.answer_of(record))
+                (forms.form_of(levels.Level(1, list(rows), 1)), answers.answer_of(record))
                 for rows, record in self.memory.found]
         self.merged = merging.merged(self.memory.written, self.mine, run.exports,
                                      [entry.block for entry in self.stored.entries])
         self.now = self.merged.written.collection
-        self.text = noted(run.program, blocks.text(self.now.blocks))
+        self.text = noted(run.program, level_texts.text(self.now.blocks))
         self.answers = self.report = b""
         self.pool = Pool(self.now, run.options.best)
         self._take(run)
@@ -159,7 +159,7 @@ class State:
         self.report = noted(run.program, audits.text)
         self.now = self.now._replace(lines=read.lines)
 
-    def unanswered(self) -> List[boards.Form]:
+    def unanswered(self) -> List[forms.Form]:
         """Returns the legal levels that have no accepted answer."""
         return [self.now.forms[line.level - 1] for line in self.now.lines
                 if not line.is_answered and line.words[:1] != ["board"]]
@@ -178,13 +178,13 @@ class State:
         return self.stored._replace(entries=entries)
 
 
-def _own_blocks(files: own_files.Files) -> List[blocks.Block]:
+def _own_blocks(files: own_files.Files) -> List[level_texts.Block]:
     """Returns the levels of NAME.xsb as they are now."""
     text, name = files.levels(), texts.shown(files.name)
     if text is None and ANSWERS in files.before:
         raise texts.Stop(f"{name}.answers is there, but not its levels in {name}.xsb: name it "
                          "by --answers, under another name")
-    found = blocks.read(text or b"")
+    found = level_texts.read(text or b"")
     if text and text.strip() and not found:
         raise texts.Stop(f"{name}.xsb has no level: move it away")
     return found

@@ -3,7 +3,7 @@ import sys
 from collections import Counter
 from typing import Dict, Iterator, List, Sequence, Tuple
 
-from . import auditor, boards, changes, levels, messages, own_files, report, texts
+from . import auditor, changes, forms, levels, messages, own_files, report, texts
 from .outcomes import FULL, ILLEGAL, LATE, LONG, MEMORY, NOTHING, Outcomes
 from .stages import Run, State
 
@@ -28,10 +28,10 @@ def lines(run: Run, state: State, problems: Sequence[str]) -> Iterator[str]:
         yield auditor.REFERENCE_NOTE
     yield from _some("problem: ", problems, MOST_PROBLEMS)
     sources = run.origins.sources(state.merged.written.places)
-    places = {number: str(source.place) for number, source in sources.items()}
+    places = {number: str(place) for number, (place, _) in sources.items()}
     yield from _some("no answer: ", [
-        _unanswered(places.get(level.number) or f"{texts.shown(run.name)}.xsb line {level.line}",
-                    level, line)
+        (places.get(level.number) or f"{texts.shown(run.name)}.xsb line {level.line}") + ": "
+        + _unanswered(level, line)
         for level, line in zip(now.levels, now.lines) if not line.is_answered])
     yield from searched(state.unanswered(), state.memory.outcomes, run.outcomes)
     found = changes.changes(run.before, now) if run.before else []
@@ -50,7 +50,7 @@ def lines(run: Run, state: State, problems: Sequence[str]) -> Iterator[str]:
         yield f"kept in {run.name}.kept.xsb: " + ", ".join(kept)
     yield from _some("twins: ", [
         f"level {later + 1} is level {first + 1}, {turn.words}"
-        for later, first, turn in boards.duplicates_of(now.forms)])
+        for later, first, turn in forms.duplicates_of(now.forms)])
     if run.written:
         names = [texts.shown(run.name) + end for end in own_files.LISTED if end in run.written]
         if sys.stdout.isatty() and own_files.PAGE in run.written:
@@ -58,11 +58,10 @@ def lines(run: Run, state: State, problems: Sequence[str]) -> Iterator[str]:
         yield "wrote: " + ", ".join(names)
 
 
-def _unanswered(place: str, level: levels.Level, line: report.Line) -> str:
-    """Returns where a level without an answer is, what the report says of it and why, and its
-    title."""
+def _unanswered(level: levels.Level, line: report.Line) -> str:
+    """Returns what the report says of a level without an answer and why, and its title."""
     why = messages.reason(level, line) if line.status == "refused" else ""
-    return f"{place}: {': '.join(filter(None, (line.text, why)))}\t{level.title}".rstrip()
+    return f"{': '.join(filter(None, (line.text, why)))}\t{level.title}".rstrip()
 
 
 def _some(head: str, items: Sequence[str], most: int = MOST_LINES) -> Iterator[str]:
@@ -74,7 +73,7 @@ def _some(head: str, items: Sequence[str], most: int = MOST_LINES) -> Iterator[s
         yield f"{head}and {len(items) - shown} more"
 
 
-def searched(forms: Sequence[boards.Form], known: Outcomes, new: Outcomes) -> List[str]:
+def searched(forms: Sequence[forms.Form], known: Outcomes, new: Outcomes) -> List[str]:
     """Returns a line for each way in which levels without an answer were searched by earlier runs,
     with their outcomes."""
     ways: Dict[str, List[Tuple[str, float]]] = {}

@@ -149,18 +149,14 @@ def rename_new(made: str, path: str) -> None:
         os.link(made, path)
     except FileExistsError:
         raise
-    except OSError:  # a file system without links
-        _rename_without_links(made, path)
+    except OSError:
+        # A file system without links. There nothing but Linux can do both at once.
+        if not _RENAME or _RENAME(_HERE, os.fsencode(made), _HERE, os.fsencode(path), _NO_REPLACE):
+            if os.path.lexists(path):
+                raise FileExistsError from None
+            os.replace(made, path)
     else:
         os.unlink(made)
-
-
-def _rename_without_links(made: str, path: str) -> None:
-    """Does the same where nothing but Linux can do both at once."""
-    if not _RENAME or _RENAME(_HERE, os.fsencode(made), _HERE, os.fsencode(path), _NO_REPLACE):
-        if os.path.lexists(path):
-            raise FileExistsError
-        os.replace(made, path)
 
 
 def end_with_parent() -> None:
@@ -183,7 +179,8 @@ class Group:
             # An interrupt of the console is for this process alone.
             streams.update(creationflags=getattr(subprocess, "CREATE_NEW_PROCESS_GROUP", 0))
         self.process = subprocess.Popen(words, **streams)
-        self._job = _job_of(self.process.pid)
+        job = _Job(self.process.pid) if hasattr(ctypes, "WinDLL") else None
+        self._job = job if job and job.has_process else None
 
     def has_ended(self) -> bool:
         """Returns whether the command itself has ended."""
@@ -257,9 +254,3 @@ class _Job:
     def close(self) -> None:
         """Ends all processes of the job, and removes it."""
         self._kernel.CloseHandle(self._job)
-
-
-def _job_of(pid: int) -> Optional[_Job]:
-    """Returns a new job with a process in it, or None where there is none."""
-    job = _Job(pid) if hasattr(ctypes, "WinDLL") else None
-    return job if job and job.has_process else None

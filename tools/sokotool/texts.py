@@ -58,6 +58,11 @@ def check_names(names: Sequence[str]) -> None:
         raise Stop("standard input (-) is named twice")
 
 
+def unmarked(data: bytes) -> bytes:
+    """Returns a text without the byte order mark at its start."""
+    return data[len(MARK):] if data.startswith(MARK) else data
+
+
 def lines(data: bytes) -> List[bytes]:
     """Returns the lines of a text. LF ends a line, and a CR before it belongs to the end.
 
@@ -120,12 +125,7 @@ def shown(text: Union[str, bytes]) -> str:
 
 def decoded(data: bytes) -> str:
     """Returns bytes as text: UTF-8 where they are, otherwise Windows-1252 or Latin-1."""
-    for coding in ("utf-8", "cp1252"):
-        try:
-            return data.decode(coding)
-        except UnicodeDecodeError:
-            continue
-    return data.decode("latin-1")
+    return encodings.decoded(data, "utf-8")
 
 
 def text_of(data: bytes, encoding: str = "") -> Tuple[Optional[str], str]:
@@ -191,8 +191,7 @@ def _decoded_line(line: bytes, name: str) -> str:
     try:
         return line.decode("utf-8")
     except UnicodeDecodeError:
-        is_marked = line.startswith(MARK)
-        return "\ufeff" * is_marked + encodings.decoded(line[len(MARK) * is_marked:], name)
+        return "\ufeff" * line.startswith(MARK) + encodings.decoded(unmarked(line), name)
 
 
 def lines_of(text: str) -> List[str]:
@@ -203,16 +202,13 @@ def lines_of(text: str) -> List[str]:
 
 def same_file(first: str, second: str) -> bool:
     """Returns whether two names are of one file, also through links; `-` is standard input."""
-    if "-" in (first, second):
-        return _is_standard_input(second if first == "-" else first)
+    if "-" not in (first, second):
+        try:
+            return os.path.samefile(first, second)
+        except OSError:
+            return os.path.realpath(first) == os.path.realpath(second)
     try:
-        return os.path.samefile(first, second)
-    except OSError:
-        return os.path.realpath(first) == os.path.realpath(second)
-
-
-def _is_standard_input(name: str) -> bool:
-    try:
+        name = second if first == "-" else first
         return os.path.samestat(os.fstat(sys.stdin.fileno()), os.stat(name))
     except (OSError, ValueError, AttributeError):
         return False

@@ -2,7 +2,7 @@
 -- A line that doesn't begin with `;` is kept or empty, and has the same bytes as the line with its end, except LF and
 -- CR. So lines without comments have the bytes of their text. A comment adds nothing. Lines end at a line feed, and a
 -- comment is first in its line: so the lines of a text are those before the comment, the comment, and those after it.
-use Rattle.std.proofs.Common.{◌≡◌, ◌≢◌, ◌⊎◌, ℕ, zero, suc, ◌+◌, ◌-◌, ◌<◌, ◌≤◌, ◌==◌, ◌||◌, ◌&&◌, Bool, true, false, not, cond, nat_lt, List, [], ◌∷◌, ◌++◌, length, map, take, drop, slice_index, refl, sym, ap, subst, ◌∙◌, arith, inl, inr, ⊎_elim, append_assoc, length-drop, length-take-le, take-append-drop, take_all, get_or-take, get_or-drop}
+use Rattle.std.proofs.Common.{◌≡◌, ◌≢◌, ◌⊎◌, ℕ, zero, suc, ◌+◌, ◌-◌, ◌<◌, ◌≤◌, ◌==◌, ◌||◌, ◌&&◌, Bool, true, false, not, cond, nat_lt, List, [], ◌∷◌, ◌++◌, length, map, take, drop, slice_index, refl, sym, ap, ◌∙◌, arith, inl, ⊎_elim, append_assoc, length-drop, length-take-le, take-append-drop, take_all, get_or-take, get_or-drop}
 use Rattle.std.specs.Prelude.{filter}
 use Rattle.std.specs.Borrow.{Bor}
 use Rattle.std.specs.List.{concat}
@@ -50,29 +50,6 @@ less_cr bs = grind (arith, cond-true, less_last, cond-false, cases_Bool)
 less_end : (line : List ℕ) → unbroken (without_terminator line) ≡ unbroken line
 less_end line = grind (arith, cond-true, less_cr, less_last, cond-false, cases_Bool)
 
--- the front is empty, or begins with the first of the bytes
-Begins : List ℕ → List ℕ → Type 0
-Begins front bs = (length front ≡ 0) ⊎ ((0 < length bs) × (slice_index front 0 ≡ slice_index bs 0))
-
-begins_append : (front rest : List ℕ) → Begins front (front ++ rest)
-unfolding Begins
-begins_append [] rest = inl refl
-begins_append (b ∷ front) rest = inr (omega arith, refl)
-
-begins_front : (n : ℕ) (bs : List ℕ) → Begins (take n bs) bs
-begins_front n bs = subst (Begins (take n bs)) (take-append-drop n bs) (begins_append (take n bs) (drop n bs))
-
-begins_through : (a b c : List ℕ) → Begins a b → Begins b c → Begins a c
-unfolding Begins
-begins_through a b c (inl none) q = inl none
-begins_through a b c (inr p) (inl none) = grind arith
-begins_through a b c (inr p) (inr q) = inr (q.0, p.1 ∙ q.1)
-
-begins_line : (line : List ℕ) → Begins (without_terminator line) line
-begins_line line =
-    let front = content_front line in
-    subst (Begins (without_terminator line)) (sym front.1) (begins_append (without_terminator line) front.0)
-
 -- ---- what a line adds
 
 abbrev text_kept : List ℕ → Bool
@@ -84,14 +61,6 @@ line_adds line = unbroken (cond (text_kept (without_terminator line)) (without_t
 lines_add : List (List ℕ) → List ℕ
 lines_add [] = []
 lines_add (l ∷ ls) = line_adds l ++ lines_add ls
-
-adds_none : lines_add [] ≡ []
-unfolding lines_add
-adds_none = refl
-
-adds_first : (l : List ℕ) (ls : List (List ℕ)) → lines_add (l ∷ ls) ≡ line_adds l ++ lines_add ls
-unfolding lines_add
-adds_first l ls = refl
 
 adds_or_not : (t : Bool) (l : Line) (rest : List Line)
     → unbroken (concat (map (λ (x : Line). x.text) (cond t (l ∷ rest) rest))) ≡ unbroken (cond t l.text []) ++ unbroken
@@ -117,18 +86,17 @@ adds-append (x ∷ xs) ys = grind (arith, lines_add, adds-append xs ys, append_a
 some_kept : (b : ℕ) (text : List ℕ) → text_kept (b ∷ text) ≡ not (b == 59)
 some_kept b text = grind (arith, lt-ltb)
 
-kept_adds : (text : List ℕ) → slice_index text 0 ≢ 59 → unbroken (cond (text_kept text) text []) ≡ unbroken text
-kept_adds [] other = refl
-kept_adds (b ∷ text) other = grind (arith, some_kept, ne_eqb)
+-- a line that begins with another byte than `;` adds all of its bytes, since its content is a front of it
+content_adds : (text line tail : List ℕ) → line ≡ text ++ tail → slice_index line 0 ≢ 59 → unbroken (cond (text_kept text) text []) ≡ unbroken text
+content_adds [] line tail is other = refl
+content_adds (b ∷ text) line tail is other =
+    let first : b ≢ 59 = λ e. other (ap (λ bs. slice_index bs 0) is ∙ e) in
+    grind (arith, some_kept, ne_eqb)
 
-begins_other : (text line : List ℕ) → Begins text line → slice_index line 0 ≢ 59 → slice_index text 0 ≢ 59
-unfolding Begins
-begins_other [] line same other = λ e. absurd (omega arith)
-begins_other (b ∷ text) line (inl none) other = absurd (omega arith)
-begins_other (b ∷ text) line (inr same) other = grind arith
-
-line_adds_all : (line bs : List ℕ) → Begins line bs → slice_index bs 0 ≢ 59 → line_adds line ≡ unbroken line
-line_adds_all line bs same other = search (kept_adds, begins_other, begins_through, begins_line, less_end)
+line_adds_all : (line : List ℕ) → slice_index line 0 ≢ 59 → line_adds line ≡ unbroken line
+line_adds_all line other =
+    let front = content_front line in
+    content_adds (without_terminator line) line front.0 front.1 other ∙ less_end line
 
 -- ---- lines without a comment
 
@@ -139,17 +107,17 @@ none_later {k} {bs} some feed none zero below comment = grind (arith, length-dro
 none_later {k} {bs} some feed none (suc j) below comment = grind (arith, length-drop, get_or-drop)
 
 no_comment : (fuel : ℕ) (bs : List ℕ) → length bs ≤ fuel → NoCommentBelow (length bs) bs → lines_add (lines_of bs) ≡ unbroken bs
-no_comment fuel [] fits none = ap lines_add lines-nil ∙ adds_none
+unfolding lines_add
+no_comment fuel [] fits none = ap lines_add lines-nil
 no_comment zero (b ∷ rest) fits none = absurd (omega arith)
 no_comment (suc fuel) (b ∷ rest) fits none =
     let bs = b ∷ rest in
     let k = line_len bs in
     let bounds = line_len-bounds bs (omega arith) in
     let left = length-drop k bs in
-    let other : slice_index bs 0 ≢ 59 = λ e. none 0 (omega arith) (record { mark = e; first = inl refl }) in
+    let other : slice_index (take k bs) 0 ≢ 59 = λ e. none 0 (omega arith) (record { mark = sym (get_or-take k bs 0 0 bounds.0) ∙ e; first = inl refl }) in
     let later = no_comment fuel (drop k bs) (omega arith) (none_later bounds.0 (line_ends bs) none) in
-    ap lines_add (lines-step bs (omega arith)) ∙ adds_first (take k bs) (lines_of (drop k bs))
-    ∙ ap (λ a. a ++ lines_add (lines_of (drop k bs))) (line_adds_all (take k bs) bs (begins_front k bs) other)
+    ap lines_add (lines-step bs (omega arith)) ∙ ap (λ a. a ++ lines_add (lines_of (drop k bs))) (line_adds_all (take k bs) other)
     ∙ ap (λ r. unbroken (take k bs) ++ r) later ∙ sym (unbroken-append (take k bs) (drop k bs)) ∙ ap unbroken (take-append-drop k bs)
 
 pub no_comment_letters : (bs : List ℕ) → NoCommentBelow (length bs) bs → letters_in bs ≡ unbroken bs

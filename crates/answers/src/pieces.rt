@@ -1,7 +1,7 @@
 //! The letters of a solution, in pieces of its text.
 //!
-//! This is for speed, as is the reading of a certificate line by line: with `read` in place of both, an audit takes 2 to 6 % more
-//! instructions, and one with long solutions 25 %.
+//! This is for speed: with the lines of `read`, an audit of 10 million letters in lines of 70 takes 60 % more instructions, and one of
+//! 10,000 solutions of some lines 12 %. A solution in one line gains nothing.
 
 ghost use Rattle.std.specs.Prelude.{◌≡◌, ℕ, ◌+◌, ◌<◌, ◌≤◌, ◌^◌, ◌++◌, List, length, slice_index, sum_by, IfOk, IfSome, IfNone};
 ghost use Rattle.answers.specs.Body.{LetterLines};

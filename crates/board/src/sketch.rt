@@ -1,7 +1,7 @@
 //! The sets of a board while its rows are read.
 //!
-//! They take the memory of the last board. With new memory for each board, an audit of 10,000 small levels takes 9 % more instructions. A
-//! single level gains nothing.
+//! They take the memory of the last board. With new memory for each board, 10,000 levels of 5 by 4 take 20 % more instructions to audit and
+//! 18 % more to make answers for. A single level gains nothing.
 ghost use Rattle.std.specs.Prelude.{◌≡◌, ◌+◌, ◌≤◌, ℕ, List, [], ◌∷◌, ◌++◌, length, take, IfOk, OnOk, All};
 ghost use Rattle.std.specs.FinSet as set;
 ghost use Rattle.cellset.specs.Shape.{HasSides};

@@ -9,12 +9,13 @@ use Rattle.cellset.proofs.{ReadingOrder.before_or_after, Truth.either}
 use Rattle.reach.{specs.Pushes.dir_rank, proofs.PushOrder.same_dir, proofs.PushOrder.push_before_or_after}
 use Rattle.board.specs.Game.{Level}
 use Rattle.answers.specs.Body.{PatternLine, ZoneLine}
+use Rattle.cell_lists.specs.CellLists.{cells_of}
 use Rattle.closure.specs.declared.fault.LineWhy.{LineWhy, TheVariants.Board, TheVariants.Wall, TheVariants.Seed, TheVariants.Goals}
 use Rattle.closure.specs.declared.fault.CheckFault.{CheckFault, TheVariants.Line, TheVariants.Start, TheVariants.Push, TheVariants.Memory}
 use Rattle.closure.specs.{declared.fault.ZoneLineWhy.ZoneLineWhy, declared.fault.ZoneFault.ZoneFault, Zone.IsZoneOnBoard, Zone.IsZoneOffWalls, Zone.IsRefuting}
 use Rattle.closure.specs.declared.fault.ZoneLineWhy.TheVariants as zone_why
 use Rattle.closure.specs.declared.fault.ZoneFault.TheVariants as zone_fault
-use Rattle.patterns.{specs.Pattern.Pattern, specs.Pattern.pattern_of, specs.Pattern.patterns_of, specs.Pattern.cells_of, proofs.Lists.middle}
+use Rattle.patterns.{specs.Pattern.Pattern, specs.Pattern.pattern_of, specs.Pattern.patterns_of, proofs.Lists.middle}
 use Rattle.patterns.specs.Pattern.{IsOnBoard, IsOffWalls, HasFairSeeds, IsLawful, AreLawful, CoversPushesOf}
 use Rattle.closure.specs.FirstFault.{IsUnlawful, IsFirstFaultyLine, HasFirstUncovered, IsFirstPatternFault, IsUnlawfulZone, IsFirstLeak, IsFirstZoneFault}
 use Rattle.closure.proofs.FirstLines.{unlawful_not, line_listed}
@@ -113,15 +114,13 @@ module _ (level : Level) (lines : List PatternLine) where
   one_pattern_fault (Line n why) (Line m other) x y = let one = line_one n m why other x y in λ i. Line (one.0 i) (one.1 i)
   one_pattern_fault (Line n why) Start x y = not_lawful n why x y.0
   one_pattern_fault (Line n why) (Push m c d) x y = not_lawful n why x y.0
-  one_pattern_fault (Line n why) Memory x y = absurd y
   one_pattern_fault Start (Line m other) x y = not_lawful m other y x.0
   one_pattern_fault Start Start x y = refl
   one_pattern_fault Start (Push m c d) x y = absurd (x.1 y.1)
-  one_pattern_fault Start Memory x y = absurd y
   one_pattern_fault (Push n c d) (Line m other) x y = not_lawful m other y x.0
   one_pattern_fault (Push n c d) Start x y = absurd (y.1 x.1)
   one_pattern_fault (Push n c d) (Push m k e) x y = let one = at_one_push n m c k d e x y in λ i. Push (one.0 i) (one.1 i) (one.2 i)
-  one_pattern_fault (Push n c d) Memory x y = absurd y
+  one_pattern_fault a Memory x y = absurd y
   one_pattern_fault Memory b x y = absurd x
 
 -- ---- one first fault of a zone
@@ -144,15 +143,13 @@ module _ (level : Level) (line : ZoneLine) where
   one_zone_fault (zone_fault.Line n why) (zone_fault.Line m other) (number, x) (again, y) = grind (arith, zone_why_one)
   one_zone_fault (zone_fault.Line n why) (zone_fault.Leak m y e) (_, x) z = not_lawful_zone why x z.1 z.2
   one_zone_fault (zone_fault.Line n why) (zone_fault.Fits m) (_, x) z = not_lawful_zone why x z.1 z.2
-  one_zone_fault (zone_fault.Line n why) zone_fault.Memory x y = absurd y
   one_zone_fault (zone_fault.Leak n c d) (zone_fault.Line m other) z (_, y) = not_lawful_zone other y z.1 z.2
   one_zone_fault (zone_fault.Leak n c d) (zone_fault.Leak m k e) x y = grind (arith, leak_one)
   one_zone_fault (zone_fault.Leak n c d) (zone_fault.Fits m) x y = absurd (y.3 c d x.3.leaks)
-  one_zone_fault (zone_fault.Leak n c d) zone_fault.Memory x y = absurd y
   one_zone_fault (zone_fault.Fits n) (zone_fault.Line m other) z (_, y) = not_lawful_zone other y z.1 z.2
   one_zone_fault (zone_fault.Fits n) (zone_fault.Leak m k e) x y = absurd (x.3 k e y.3.leaks)
   one_zone_fault (zone_fault.Fits n) (zone_fault.Fits m) x y = ap zone_fault.Fits (sym x.0 ∙ y.0)
-  one_zone_fault (zone_fault.Fits n) zone_fault.Memory x y = absurd y
+  one_zone_fault a zone_fault.Memory x y = absurd y
   one_zone_fault zone_fault.Memory b x y = absurd x
 
 -- a zone that refutes a level has no first fault

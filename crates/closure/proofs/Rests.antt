@@ -1,10 +1,13 @@
--- What is left of the pushes out of a group: if nothing is, the list covers them.
-use Rattle.std.proofs.Common.{◌≡◌, ℕ, List, length, arith}
+-- What is left of the pushes out of the group that was settled last: if nothing is, the list covers them.
+use Rattle.std.proofs.Common.{◌≡◌, true, ℕ, sym, arith}
+use Rattle.std.{specs.Prelude.◌==◌, specs.Prelude.Some, proofs.lemmas.Bool.eqb-true}
 use Rattle.cellset.proofs.Truth.{either}
-use Rattle.reach.specs.declared.pushes.Push.{Push}
-use Rattle.board.specs.Game.{Level}
-use Rattle.patterns.specs.{Lookups.IsRest, Pattern.CoversPushesOf, Groups.list_of, Groups.position_at, declared.groups.Groups.Groups}
+use Rattle.patterns.specs.{Pattern.CoversPushesOf, Groups.list_of, Groups.position_at, declared.tables.Tables.Tables}
+use Rattle.closure.specs.{Checking.IsChecker, declared.checking.Checker.Checker}
 
-pub none_rest : (level : Level) (groups : Groups) (g : ℕ) (left : List Push) → length left ≡ 0 → IsRest level groups g left →
-    CoversPushesOf level (list_of groups) (position_at level groups g)
-none_rest level groups g left none rest push out = either (rest.all push out) (λ listed. let low = listed.1 in absurd (omega arith)) (λ covered. covered)
+pub none_rest : {S : Type 0} (tables : Tables S) (checker : Checker) → IsChecker tables checker → (g : ℕ) → checker.settled ≡ Some g
+    → true ≡ (checker.lookups.left.len == 0) → CoversPushesOf tables.board.now (list_of tables.groups) (position_at tables.board.now tables.groups g)
+none_rest tables checker is g settled none push out =
+    let long = checker.lookups.left.ok.0 in
+    let zero = eqb-true checker.lookups.left.len 0 (sym none) in
+    either ((is.rest g settled).all push out) (λ listed. let low = listed.1 in absurd (omega arith)) (λ covered. covered)

@@ -11,12 +11,13 @@ use Rattle.cellset.specs.{Cell.IsOn, Cell.Before, CellSet.Cells, CellSet.Has, Ce
 use Rattle.reach.specs.{Pushes.dir_rank, declared.pushes.Push.Push as PushOut}
 use Rattle.board.specs.Game.{Level, start}
 use Rattle.answers.specs.Body.{PatternLine, ZoneLine}
+use Rattle.cell_lists.specs.CellLists.{cells_of}
 use Rattle.closure.specs.declared.fault.LineWhy.{LineWhy, TheVariants.Board, TheVariants.Wall, TheVariants.Seed, TheVariants.Goals}
 use Rattle.closure.specs.declared.fault.CheckFault.{CheckFault, TheVariants.Line, TheVariants.Start, TheVariants.Push, TheVariants.Memory}
 use Rattle.closure.specs.declared.fault.{ZoneLineWhy.ZoneLineWhy, ZoneFault.ZoneFault}
 use Rattle.closure.specs.declared.fault.ZoneLineWhy.TheVariants as zone_why
 use Rattle.closure.specs.declared.fault.ZoneFault.TheVariants as zone_fault
-use Rattle.patterns.specs.Pattern.{Pattern, cells_of, pattern_of, patterns_of, IsCovered, IsFirstUncovered}
+use Rattle.patterns.specs.Pattern.{Pattern, pattern_of, patterns_of, IsCovered, IsFirstUncovered}
 use Rattle.closure.specs.Zone.{count_in, Leaks, IsClosedZone, IsZoneOnBoard, IsZoneOffWalls, IsRefuting}
 use Rattle.patterns.specs.Pattern.{IsListedSeed, IsOnBoard, IsOffWalls, HasFairSeeds, IsLawful, AreLawful, CoversPushesOf}
 use Rattle.closure.specs.Closed.{Closed}

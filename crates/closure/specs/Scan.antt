@@ -1,10 +1,11 @@
 -- What a scan keeps of a list of patterns.
 --   entry        the cells of a pattern's boxes, and its region, which is left out for `*`
-use Rattle.std.specs.{Prelude.◌≡◌, Prelude.◌↔◌, Prelude.ℕ, Prelude.List, Prelude.Option, Prelude.unwrap_or, Prelude.refl, List.Contains}
+use Rattle.std.specs.{Prelude.◌≡◌, Prelude.◌<◌, Prelude.◌↔◌, Prelude.ℕ, Prelude.List, Prelude.Option, Prelude.length, Prelude.slice_index_or, Prelude.unwrap_or, Prelude.refl, List.Contains}
 use Rattle.std.specs.Coded.{Coded, code_by, coded×, coded_ℕ, coded_list, coded_option}
 use Rattle.cellset.specs.{Shape.Extent, Coding.coded_cell, Coding.coded_cells, CellSet.Cells, CellSet.Has, CellSet.Lacks, declared.cell.Cell.Cell}
 use Rattle.board.specs.Game.{Level, State}
-use Rattle.patterns.specs.{Pattern.Pattern, Pattern.InPatternRegion, Sides.cells_in}
+use Rattle.cell_lists.specs.CellLists.{cells_in}
+use Rattle.patterns.specs.{Arena.pattern_at, Pattern.Pattern, Pattern.InPatternRegion}
 
 -- an entry with its grid
 pub record EntryCells : Type 0 where
@@ -36,3 +37,8 @@ pub record IsEntryOf (level : Level) (pattern : Pattern) (entry : EntryCells) : 
   pub extent : entry.extent ≡ level.shape
   pub boxes : cells_in entry.boxes ≡ pattern.boxes
   pub region : (c : Cell) → (Has (unwrap_or entry.region level.room) c × Lacks pattern.boxes c) ↔ InPatternRegion level pattern c
+
+-- there is an entry of each of the first n patterns
+pub record AreEntries (level : Level) (patterns : List Pattern) (n : ℕ) (entries : List EntryCells) : Type 0 where
+  pub long : length entries ≡ n
+  pub each : (k : ℕ) (e : EntryCells) → k < n → IsEntryOf level (pattern_at patterns k) (slice_index_or entries k e)

@@ -9,13 +9,14 @@ ghost use Rattle.closure.specs.FirstFault.{IsFirstPatternFault};
 
 use crate::fault::CheckFault;
 use board::Board;
+use cell_lists::are_in;
 use cellset::CellSet;
-use patterns::{Arena, Lookups, Tables, Task, are_in, find_trap, note_hinted};
+use patterns::{Arena, Lookups, Tables, Task, find_trap, note_hinted};
 use reach::Rows;
 use std::alloc::{AllocError, Global};
 
 // Checks that a list of lawful patterns is closed, and returns its first fault if it isn't.
-pub(crate) fn check_lawful<S: CellSet>(
+pub(crate) fn check_closed<S: CellSet>(
     alloc: Global,
     board: &Board<S>,
     arena: Arena,

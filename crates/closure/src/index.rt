@@ -9,7 +9,7 @@ use crate::coverage::Coverage;
 use answers::Pattern;
 use board::Board;
 use cellset::{Cell, CellSet};
-use patterns::{Lookups, Tables, arena_of};
+use patterns::{Arena, Lookups, Tables};
 use reach::Rows;
 use std::alloc::{AllocError, Global};
 use std::marker::Model;
@@ -51,7 +51,7 @@ impl<'a, S: CellSet> Index<'a, S> {
         ensures exact { IfOk result (λ c. (s : State) → IsListedCovered c s
             ↔ IsCovered board.now (patterns_of (map said_pattern patterns.now)) s) }
     {
-        let arena = arena_of(alloc, board.shape(), patterns)?;
+        let arena = Arena::with_lines(alloc, board.shape(), patterns)?;
         let trap = Rows::new(alloc, board.shape())?;
         let tables = Tables::build(alloc, board, arena, trap)?;
         let Ok(lookups) = fill(alloc, &tables) else {

@@ -6,7 +6,7 @@ ghost use Rattle.patterns.specs.{Pattern.pattern_of, Pattern.patterns_of, Patter
 ghost use Rattle.closure.specs.Closed.{Closed};
 ghost use Rattle.closure.specs.{FirstFault.IsFirstPatternFault, FirstFault.IsUnlawful, declared.fault.CheckFault.CheckFault as Fault};
 
-use crate::checking::check_lawful;
+use crate::checking::check_closed;
 use crate::fault::{CheckFault, LineWhy};
 use crate::lawful::why_unlawful;
 use answers::Pattern;
@@ -114,7 +114,7 @@ fn check_lines<S: CellSet>(
     ensures exact { IfErr result (λ fault. fault ≢ CheckFault.Memory → IsFirstPatternFault board.now (lines_in arena) fault) }
 {
     let patterns = arena.lines.len();
-    check_lawful(alloc, board, arena)?;
+    check_closed(alloc, board, arena)?;
     Ok(Accepted { patterns })
 }
 

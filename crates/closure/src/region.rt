@@ -1,11 +1,13 @@
 //! The regions of patterns.
 ghost use Rattle.std.specs.Prelude.{◌≡◌, ◌↔◌, IfOk};
 ghost use Rattle.cellset.specs.{CellSet.Has, declared.cell.Cell.Cell as GridCell};
-ghost use Rattle.patterns.specs.{Pattern.InPatternRegion, Pattern.IsLawful, Arena.pattern_in, Sides.cells_in};
+ghost use Rattle.cell_lists.specs.CellLists.{cells_in};
+ghost use Rattle.patterns.specs.{Pattern.InPatternRegion, Pattern.IsLawful, Arena.pattern_in};
 
 use board::Board;
+use cell_lists::{load, take_out};
 use cellset::{CellSet, Shape};
-use patterns::{CellPattern, load, take_out};
+use patterns::CellPattern;
 use reach::Flooder;
 use std::alloc::{AllocError, Global};
 

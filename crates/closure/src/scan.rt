@@ -1,17 +1,18 @@
 //! A coverage that goes through its patterns, one after another. It is for callers, as `coverage` says.
-ghost use Rattle.std.specs.{Prelude.◌≡◌, Prelude.◌↔◌, Prelude.IsTrue, Prelude.IfOk, Prelude.map, List.All, List.AllZip};
+ghost use Rattle.std.specs.{Prelude.◌≡◌, Prelude.◌↔◌, Prelude.IsTrue, Prelude.IfOk, Prelude.length, Prelude.map, List.All};
 ghost use Rattle.cellset.specs.Cell.{IsOn};
 ghost use Rattle.board.specs.Game.{State};
 ghost use Rattle.answers.specs.Grammar.{said_pattern};
 ghost use Rattle.patterns.specs.{Arena.list_in, Arena.pattern_in, Pattern.patterns_of, Pattern.IsCovered, Pattern.IsLawful, Pattern.AreLawful};
-ghost use Rattle.closure.specs.Scan.{EntriesCover, IsEntryOf};
+ghost use Rattle.closure.specs.Scan.{AreEntries, EntriesCover, IsEntryOf};
 
 use crate::coverage::Coverage;
 use crate::region::Finder;
 use answers::Pattern;
 use board::Board;
+use cell_lists::{are_in, is_among};
 use cellset::{Cell, CellSet, Shape};
-use patterns::{Arena, CellPattern, are_in, arena_of, is_among};
+use patterns::{Arena, CellPattern};
 use std::alloc::{AllocError, Global};
 use std::marker::Model;
 
@@ -134,7 +135,7 @@ fn enter_each<S: CellSet>(
     requires flooder { finder.old.flooder ≡ board.now.shape }
     requires seeds { S.extent finder.old.seeds ≡ board.now.shape }
     requires set { S.extent set.old ≡ board.now.shape }
-    ensures { IfOk result (λ v. AllZip (IsEntryOf board.now) (list_in arena.now) v.items) }
+    ensures { IfOk result (λ v. AreEntries board.now (list_in arena.now) (length arena.now.lines.items) v.items) }
 {
     let mut entries = Vec::with_capacity(alloc, arena.lines.len())?;
     for line in 0..arena.lines.len() {
@@ -150,7 +151,7 @@ fn enter_all<S: CellSet>(
     arena: &Arena,
 ) -> Result<Vec<Entry<S>>, AllocError>
     requires { AreLawful board.now (list_in arena.now) }
-    ensures { IfOk result (λ v. AllZip (IsEntryOf board.now) (list_in arena.now) v.items) }
+    ensures { IfOk result (λ v. AreEntries board.now (list_in arena.now) (length arena.now.lines.items) v.items) }
 {
     let shape = board.shape();
     let mut set = S::new(alloc, shape)?;
@@ -174,7 +175,7 @@ impl<S: CellSet> Scan<S> {
         ensures exact { IfOk result (λ c. (s : State) → EntriesCover (S.members c.room) c.entries.items s
             ↔ IsCovered board.now (patterns_of (map said_pattern patterns.now)) s) }
     {
-        let arena = arena_of(alloc, board.shape(), patterns)?;
+        let arena = Arena::with_lines(alloc, board.shape(), patterns)?;
         let entries = enter_all(alloc, board, &arena)?;
         let mut room = S::new(alloc, board.shape())?;
         room.copy_from(board.room());

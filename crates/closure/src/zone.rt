@@ -5,15 +5,15 @@ ghost use Rattle.cellset.specs.{Cell.IsOn, CellSet.Has, declared.dir.Dir.Dir as 
 ghost use Rattle.reach.specs.Pushes.{dir_rank};
 ghost use Rattle.board.specs.{Board.IsWellFormed, Game.Solvable};
 ghost use Rattle.answers.specs.{Body.ZoneLine, Grammar.said_zone};
-ghost use Rattle.patterns.specs.Pattern.{cells_of};
+ghost use Rattle.cell_lists.specs.CellLists.{cells_of};
 ghost use Rattle.closure.specs.{declared.fault.ZoneFault.ZoneFault as Fault, FirstFault.IsFirstLeak, FirstFault.IsFirstZoneFault};
 ghost use Rattle.closure.specs.Zone.{count_in as cells_in, Leaks, IsClosedZone, IsZoneOnBoard, IsZoneOffWalls, IsRefuting};
 
 use crate::fault::{ZoneFault, ZoneLineWhy};
 use answers::Zone;
 use board::Board;
+use cell_lists::{add_cells, are_outside, load};
 use cellset::{Cell, CellSet, Dir, MembersOf};
-use patterns::{add_cells, are_outside, load};
 use std::alloc::Global;
 
 /// An accepted zone: the number of its cells, each counted once.
@@ -60,10 +60,10 @@ fn check_by_counts<S: CellSet>(
 {
     let line = zone.line;
     let mut listed = Vec::new(alloc);
-    let Some(_) = add_cells(board.shape(), &zone.cells, &mut listed)? else {
+    if !add_cells(board.shape(), &zone.cells, &mut listed)? {
         let why = ZoneLineWhy::Board;
         return Err(ZoneFault::Line { line, why });
-    };
+    }
     if !are_outside(&listed, board.walls()) {
         let why = ZoneLineWhy::Wall;
         return Err(ZoneFault::Line { line, why });
@@ -71,14 +71,14 @@ fn check_by_counts<S: CellSet>(
     let mut cells = S::new(alloc, board.shape())?;
     let mut both = S::new(alloc, board.shape())?;
     load(&listed, &mut cells);
-    let checked = check_lawful(board, line, &cells, &mut both);
+    let checked = check_refuting(board, line, &cells, &mut both);
     drop(cells);
     drop(both);
     checked
 }
 
 // Checks that the lawful zone of a line has no leak and more boxes than goals. `both` is a buffer.
-fn check_lawful<S: CellSet>(
+fn check_refuting<S: CellSet>(
     board: &Board<S>,
     line: usize,
     cells: &S,

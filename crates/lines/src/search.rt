@@ -1,8 +1,8 @@
 //! Finds a line by the byte with which it begins.
 //!
 //! The first line may begin with a byte of the class. Every other line begins after a line feed, so the search goes from line feed to line
-//! feed. It finds those of 32 bytes at once. A loop over `first_line` takes 2 % more instructions on lists of single boxes and 15 % more
-//! on long comments.
+//! feed. It finds those of 32 bytes at once. A loop over `first_line` takes 76 % more instructions on 33 MB of comments. Lists of patterns
+//! gain nothing.
 ghost use Rattle.std.specs.Prelude.{◌+◌, ◌≤◌, length, IfSome, IfNone};
 ghost use Rattle.lines.specs.Lines.{lines_in};
 ghost use Rattle.lines.specs.Starts.{AllBeginOutside, IsFirstStart, IsScanned};

@@ -19,9 +19,10 @@ use Rattle.board.specs.Game.{Level, State, IsFloor, start}
 use Rattle.board.specs.Board.{IsWellFormed}
 use Rattle.answers.specs.declared.pattern.Coord.{Coord}
 use Rattle.answers.specs.Body.{PatternLine}
-use Rattle.patterns.specs.Pattern.{Pattern, whole_room, cell_of, pattern_of, patterns_of, Covers, IsCovered, PushesOut, after_push, IsLawful, CoversPushesOf}
+use Rattle.cell_lists.specs.CellLists.{cell_of}
+use Rattle.cell_lists.proofs.CellLists.{of_cells}
+use Rattle.patterns.specs.Pattern.{Pattern, whole_room, pattern_of, patterns_of, Covers, IsCovered, PushesOut, after_push, IsLawful, CoversPushesOf}
 use Rattle.closure.specs.Closed.{Closed}
-use Rattle.patterns.proofs.CellLists.{of_cells}
 use Rattle.patterns.proofs.RegionCells.{room_outside}
 use Rattle.maker.specs.Dead.{IsRelaxedPush, at_goal, pushed, AreDead}
 use Rattle.maker.specs.Frozen.{IsFrozen, IsLargestFrozen}

@@ -10,10 +10,10 @@ use Rattle.cellset.specs.declared.cell.Cell.{Cell}
 use Rattle.cellset.specs.declared.dir.Dir.{Dir}
 use Rattle.cellset.proofs.Members.{has_or_lacks, not_both, has_empty}
 use Rattle.cellset.proofs.Truth.{either}
-use Rattle.patterns.proofs.Counts.{len-within}
 use Rattle.reach.specs.Reached.{Reached, at_seed, by_step, PushesTo}
 use Rattle.board.specs.Game.{Level, IsFloor}
 use Rattle.board.specs.Board.{IsWellFormed}
+use Rattle.cell_lists.proofs.Counts.{len-within}
 use Rattle.maker.specs.Dead.{IsRelaxedPush}
 use Rattle.maker.specs.Matching.{InReach}
 use Rattle.maker.specs.Search.{IsPassed, IsSearch, IsQueued}

@@ -21,8 +21,9 @@ use Rattle.cellset.specs.Members.{AreMembersOf}
 use Rattle.answers.specs.declared.pattern.Coord.{Coord}
 use Rattle.answers.specs.declared.pattern.Pattern.{Pattern}
 use Rattle.answers.specs.Grammar.{IsCell, IsCellList, IsBefore, AreInOrder, said_pattern}
-use Rattle.patterns.specs.Pattern.{cell_of, cells_of}
-use Rattle.patterns.proofs.CellLists.{in_cells, in_list, of_list}
+use Rattle.cell_lists.specs.CellLists.{cell_of, cells_of}
+use Rattle.cell_lists.proofs.CellLists.{in_cells, in_list}
+use Rattle.cellset.proofs.CellLists.{has_listed}
 use Rattle.maker.specs.Made.{made_pattern, lone_patterns}
 
 -- Each coordinate of a list belongs to a cell of its set.
@@ -46,7 +47,7 @@ came_earlier (c ∷ came) left m q sorted h = either (in_cases c came q h)
 -- ---- the members of a set, as an iterator returns them
 -- The list of a set's members is as long as the set, because it is in order.
 pub members_count : {shape : Extent} {cells : Cells} (listed : List Cell) → AreMembersOf shape cells listed → length listed ≡ set.len cells
-members_count {cells = cells} listed members = grind (arith, same_members, of_list, in_list, sorted_len)
+members_count {cells = cells} listed members = grind (arith, same_members, has_listed, in_list, sorted_len)
 
 -- ---- the pattern of each cell of the list alone
 pub lone_push : (patterns : List Pattern) (coords : List Coord) (p : Pattern) (x : Coord)

@@ -12,9 +12,9 @@ use Rattle.board.specs.Board.{IsWellFormed}
 use Rattle.answers.specs.declared.pattern.Coord.{Coord}
 use Rattle.answers.specs.Grammar.{IsZone}
 use Rattle.answers.specs.Body.{ZoneLine}
-use Rattle.patterns.specs.Pattern.{cells_of}
+use Rattle.cell_lists.specs.CellLists.{cells_of}
+use Rattle.cell_lists.proofs.Sets.{has_intersection}
 use Rattle.closure.specs.Zone.{IsRefuting}
-use Rattle.patterns.proofs.Sets.{has_intersection}
 use Rattle.maker.specs.Zones.{IsLeastZone}
 use Rattle.maker.specs.Made.{IsListOf, IsLeastZoneLine}
 use Rattle.maker.proofs.Listing.{is_cell_list}

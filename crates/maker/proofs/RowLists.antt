@@ -1,30 +1,27 @@
 -- How the cells of a set are listed row by row.
 -- A row is read in parts of 64 columns, each as the bits of a word. The lowest set bit is the next cell, because the set has no cell
--- between the listed cells and this one. It comes after all listed cells, so the list stays in order and has one cell more. The list is
--- never longer than the set, so capacity for the whole set is enough. A row has no cell past the last column of the grid, and the grid
--- has no cell below its last row.
-use Rattle.std.proofs.Common.{◌≡◌, ℕ, zero, suc, ◌+◌, ◌-◌, ◌*◌, ◌/◌, ◌%◌, ◌^◌, ◌<◌, ◌≤◌, true, false, cond, List, [], ◌∷◌, ◌++◌, length, get_or}
-use Rattle.std.proofs.Common.{refl, sym, ◌∙◌, ap, subst, inl, inr, arith}
-use Rattle.std.specs.Prelude.{◌↔◌, bit_and, count_ones}
+-- between the listed cells and this one. It comes after all listed cells, so the list stays in order and has one cell more. A row has no
+-- cell past the last column of the grid, and the grid has no cell below its last row.
+use Rattle.std.proofs.Common.{◌≡◌, ℕ, ◌+◌, ◌-◌, ◌*◌, ◌%◌, ◌^◌, ◌<◌, ◌≤◌, List, [], ◌∷◌, ◌++◌, length}
+use Rattle.std.proofs.Common.{refl, sym, ap, subst, inl, inr, arith}
+use Rattle.std.specs.Prelude.{◌↔◌, bit_and}
 use Rattle.std.specs.Int.{bit_not, trailing_zeros, w64}
 use Rattle.std.specs.FinSet as set
 use Rattle.std.specs.FinSet.{len-empty}
 use Rattle.std.proofs.Math.ListN.{length-append}
-use Rattle.std.proofs.lemmas.Bool.{cases_lt, true≢false}
+use Rattle.std.proofs.lemmas.Bool.{cases_lt}
 use Rattle.std.proofs.lemmas.Nat.Bits.{bit_at-trailing_zeros}
-use Rattle.cellset.specs.Bits.{bit, bits_below, has_bit}
 use Rattle.cellset.specs.Cell.{cell_at, cell_cmp}
 use Rattle.cellset.specs.CellSet.{Cells, Has, Lacks}
 use Rattle.cellset.specs.declared.cell.Cell.{Cell}
 use Rattle.cellset.proofs.Members.{inserted, kept_by_insert, has_insert, has_empty, same_members, lacks_where}
 use Rattle.cellset.proofs.Truth.{either}
-use Rattle.cellset.proofs.WordLoops.{count_starts, count_word}
 use Rattle.answers.specs.declared.pattern.Coord.{Coord}
-use Rattle.patterns.specs.Pattern.{cell_of, cells_of}
-use Rattle.patterns.proofs.CellLists.{cells_push}
-use Rattle.patterns.proofs.Counts.{len-insert_new, len-within}
+use Rattle.cell_lists.specs.CellLists.{cell_of, cells_of}
+use Rattle.cell_lists.proofs.CellLists.{cells_push}
 use Rattle.reach.specs.Bits.{Bit}
 use Rattle.reach.proofs.Words.{bit_and_l, bit_cleared, bit_not_cleared, bit_of, le_by_bits, less_by_bit, no_bit_zero, not_both}
+use Rattle.cell_lists.proofs.Counts.{len-insert_new}
 use Rattle.maker.specs.Listed.{IsEarlier, IsListedTo}
 use Rattle.maker.specs.Made.{IsListOf}
 use Rattle.maker.proofs.Listing.{in_order_push, listed_cell}
@@ -63,15 +60,6 @@ module _ (cells : Cells) (row column : ℕ) (coords : List Coord) (has : Has cel
 
   not_listed : Lacks (cells_of coords) here
   not_listed = grind (arith, lacks_where)
-
-  -- The list is shorter than the set, because it lacks the next cell.
-  pub next_room : length coords < set.len cells
-  next_room =
-      let within = len-within (set.insert (cells_of coords) here) cells
-      (λ q h. either (has_insert (cells_of coords) here q h) (λ e. rw e has) (λ old. (l.only q old).0)) in
-      let more = len-insert_new (cells_of coords) here not_listed in
-      let count = l.count in
-      omega arith
 
   only_more : (q : Cell) → Has (set.insert (cells_of coords) here) q → Has cells q × IsEarlier row (column + 1) q
   only_more q h = grind (arith, either, has_insert)
@@ -159,10 +147,6 @@ module _ (cells : Cells) (row first bits : ℕ) (coords : List Coord) (some : 0 
       no_lower k lower ((l.rest k).1 (small, after, at_bit cells row first c has same (omega arith))))
       l.listed
 
-  -- The list has room for the cell of the lowest bit.
-  pub bit_room : length coords < set.len cells
-  bit_room = next_room cells row (first + low) coords lowest.2 up_to_it
-
   -- The bits of the word without the lowest one.
   abbrev others : ℕ
   others = bit_and bits (bit_not w64 (1 * 2 ^ low % 2 ^ 64))
@@ -197,65 +181,3 @@ module _ (cells : Cells) (row first bits : ℕ) (coords : List Coord) (some : 0 
   pub fewer_bits : others < bits
   fewer_bits = less_by_bit bits others low (le_by_bits others bits (λ k b. bit_and_l bits _ k b))
       (bit_of bits low (bit_at-trailing_zeros w64 bits some fits).1) (λ b. bit_cleared bits low low in_word b refl)
-
--- ---- how many cells there are
--- Some list has the set's cells before this row and column, and is this long.
-pub record IsCountedTo (cells : Cells) (row column count : ℕ) : Type 0 where
-  pub coords : List Coord
-  pub listed : IsListedTo cells row column coords
-  pub long : length coords ≡ count
-
-pub none_counted : (cells : Cells) → ((c : Cell) → Has cells c → 1 ≤ c.row) → IsCountedTo cells 1 0 0
-none_counted cells below = grind (arith, none_listed)
-
-pub all_counted : (cells : Cells) (row count : ℕ) → ((c : Cell) → Has cells c → c.row < row) → IsCountedTo cells row 0 count → count ≡ set.len cells
-all_counted cells row count above l = sym l.long ∙ (all_listed cells row l.coords above l.listed).1
-
--- Each set bit of a part is one cell more.
-module _ (cells : Cells) (row first bits : ℕ) (is : (k : ℕ) → Bit bits k ↔ ((k < 64) × Has cells (cell_at (first + k) row))) where
-  columns_counted : (count m : ℕ) → m ≤ 64 → IsCountedTo cells row first count → IsCountedTo cells row (first + m) (count + bits_below (bits ∷ []) m)
-  unfolding bits_below
-  columns_counted count zero small l = grind arith
-  columns_counted count (suc m) small l =
-      let prev = columns_counted count m (omega arith) l in
-      let up : first + m + 1 ≡ first + suc m = omega arith in
-      elim (has_bit (bits ∷ []) m) as (λ b. has_bit (bits ∷ []) m ≡ b
-      → IsCountedTo cells row (first + suc m) (count + (bits_below (bits ∷ []) m + cond b 1 0))) [
-        | true ↦ λ e.
-            let there = ((is m).0 (bit_here m (omega arith) e)).1 in
-            record {
-              coords = prev.coords ++ (record { row = row; column = first + m }) ∷ [];
-              listed = rw up at (next_listed cells row (first + m) prev.coords there prev.listed);
-              long = (let longer = length-append prev.coords ((record { row = row; column = first + m }) ∷ []) in
-                  let same = prev.long in omega arith);
-            }
-        | false ↦ λ e. record {
-          coords = prev.coords;
-          listed = passed cells row (first + m) (first + suc m) prev.coords (omega arith)
-              (λ c has same low high.
-              let place : c.column ≡ first + m = omega arith in
-              let here = subst (Has cells) (λ i. record { row = same i; column = place i }) has in
-              true≢false (sym (bit_back m (omega arith) ((is m).1 (omega arith, here))) ∙ e))
-              prev.listed;
-          long = prev.long ∙ (omega arith);
-        }
-      ] refl
-    where
-      bit_here : (m : ℕ) → m < 64 → has_bit (bits ∷ []) m ≡ true → Bit bits m
-      bit_here m small e =
-          let word : m / 64 ≡ 0 = omega arith in
-          let low : m % 64 ≡ m = omega arith in
-          record { is = rw (word, low) at e }
-
-      bit_back : (m : ℕ) → m < 64 → Bit bits m → has_bit (bits ∷ []) m ≡ true
-      bit_back m small b =
-          let word : 0 ≡ m / 64 = omega arith in
-          let low : m ≡ m % 64 = omega arith in
-          subst (λ (n : ℕ). bit (get_or (bits ∷ []) n 0) (m % 64) ≡ true) word (rw low at b.is)
-
-  pub part_counted : (count : ℕ) → bits < 2 ^ 64 → IsCountedTo cells row first count → IsCountedTo cells row (first + 64) (count + count_ones bits)
-  part_counted count fits l =
-      let none = count_starts (bits ∷ []) in
-      let all = count_word (bits ∷ []) 0 fits in
-      let ones : bits_below (bits ∷ []) 64 ≡ count_ones bits = omega arith in
-      rw ones at (columns_counted count 64 (omega arith) l)

@@ -13,5 +13,6 @@ pub use Rattle.board.specs.Board
 pub use Rattle.answers.specs.Body
 pub use Rattle.answers.specs.Grammar
 pub use Rattle.answers.specs.RoundTrip
+pub use Rattle.cell_lists.specs.CellLists
 pub use Rattle.patterns.specs.Pattern
 pub use Rattle.closure.specs.Closed

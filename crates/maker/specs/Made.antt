@@ -18,7 +18,8 @@ use Rattle.answers.specs.declared.record.MadeBody.TheVariants as body
 use Rattle.answers.specs.Grammar.{AreInOrder, IsPattern, most_patterns, said_pattern, said_zone}
 use Rattle.answers.specs.RoundTrip.{IsLawfulBody}
 use Rattle.answers.specs.Body.{PatternLine, ZoneLine}
-use Rattle.patterns.specs.Pattern.{cells_of, patterns_of}
+use Rattle.cell_lists.specs.CellLists.{cells_of}
+use Rattle.patterns.specs.Pattern.{patterns_of}
 use Rattle.closure.specs.Closed.{Closed}
 use Rattle.closure.specs.Zone.{IsRefuting}
 use Rattle.board.specs.Board.{IsWellFormed}

@@ -1,5 +1,5 @@
 //! The cells of a set as lists, in reading order.
-ghost use Rattle.std.specs.Prelude.{◌≡◌, ◌+◌, ◌*◌, ◌≤◌, [], IfOk, length, vec_capacity};
+ghost use Rattle.std.specs.Prelude.{◌≡◌, ◌+◌, ◌*◌, ◌≤◌, [], IfOk, OnOk, length, vec_capacity};
 ghost use Rattle.std.specs.FinSet as set;
 ghost use Rattle.cellset.specs.Cell.{IsOn};
 ghost use Rattle.cellset.specs.CellSet.{Has};
@@ -43,69 +43,41 @@ pub fn coords_in(alloc: Global, cells: &Rows) -> Result<Vec<Coord>, AllocError>
     ensures count { IfOk result (λ coords. length coords.items ≡ set.len cells.now.members) }
 {
     let mut coords = Vec::with_capacity(alloc, count(cells))?;
-    add_rows(cells, &mut coords);
+    let shape = cells.shape();
+    for row in 1..shape.height() as u16 + 1 {
+        for part in 0..shape.width() / 64 + 1 {
+            add_part(cells, row as u8, part, &mut coords)?;
+        }
+    }
     Ok(coords)
 }
 
-// Returns the number of cells in rows.
-fn count(cells: &Rows) -> usize
-    requires on { (c : GridCell) → Has cells.now.members c → IsOn cells.now.extent c }
-    ensures { result ≡ set.len cells.now.members }
-{
+// Returns the number of cells in rows. Only a capacity depends on it, so nothing is proved of it.
+fn count(cells: &Rows) -> usize {
     let shape = cells.shape();
-    let mut count = 0;
+    let mut count = 0usize;
     for row in 1..shape.height() as u16 + 1 {
         for part in 0..shape.width() / 64 + 1 {
-            count += cells.row(row as u8, part).count_ones() as usize;
+            count = count.wrapping_add(cells.row(row as u8, part).count_ones() as usize);
         }
     }
     count
 }
 
-// Fills an empty list with the coordinates of the cells of rows, row by row.
-fn add_rows(cells: &Rows, coords: &mut Vec<Coord>)
-    requires on { (c : GridCell) → Has cells.now.members c → IsOn cells.now.extent c }
-    requires empty { coords.old.items ≡ [] }
-    requires room { set.len cells.now.members ≤ vec_capacity coords.old }
-    ensures list { IsListOf cells.now.members coords.new.items }
-    ensures count { length coords.new.items ≡ set.len cells.now.members }
-{
-    let shape = cells.shape();
-    for row in 1..shape.height() as u16 + 1 {
-        add_row(cells, row as u8, coords);
-    }
-}
-
-// Appends the coordinates of the cells in a row. The list has the cells of all rows above it, and no others.
-fn add_row(cells: &Rows, row: u8, coords: &mut Vec<Coord>)
-    requires on { (c : GridCell) → Has cells.now.members c → IsOn cells.now.extent c }
-    requires row { row ≤ cells.now.extent.height }
-    requires listed { IsListedTo cells.now.members row 0 coords.old.items }
-    requires room { set.len cells.now.members ≤ vec_capacity coords.old }
-    ensures listed { IsListedTo cells.now.members (row + 1) 0 coords.new.items }
-    ensures capacity { vec_capacity coords.new ≡ vec_capacity coords.old }
-{
-    let shape = cells.shape();
-    for part in 0..shape.width() / 64 + 1 {
-        add_part(cells, row, part, coords);
-    }
-}
-
 // Appends the coordinates of the cells in 64 columns of a row. The list has all cells before them, and no others.
-fn add_part(cells: &Rows, row: u8, part: u8, coords: &mut Vec<Coord>)
+fn add_part(cells: &Rows, row: u8, part: u8, coords: &mut Vec<Coord>) -> Result<(), AllocError>
     requires within { (row ≤ cells.now.extent.height) × (64 * part ≤ cells.now.extent.width) }
     requires listed { IsListedTo cells.now.members row (64 * part) coords.old.items }
-    requires room { set.len cells.now.members ≤ vec_capacity coords.old }
-    ensures listed { IsListedTo cells.now.members row (64 * part + 64) coords.new.items }
-    ensures capacity { vec_capacity coords.new ≡ vec_capacity coords.old }
+    ensures { OnOk result (IsListedTo cells.now.members row (64 * part + 64) coords.new.items) }
 {
     let mut bits = cells.row(row, part);
     while bits != 0 {
         let k = bits.trailing_zeros() as u16;
         bits &= !(1 << k);
-        coords.push_reserved(Coord {
+        coords.push(Coord {
             row: row as u16,
             column: 64 * part as u16 + k,
-        });
+        })?;
     }
+    Ok(())
 }

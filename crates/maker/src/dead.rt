@@ -28,7 +28,7 @@ pub fn dead_rows<S: CellSet>(alloc: Global, board: &Board<S>) -> Result<(Rows, R
 {
     let shape = board.shape();
     let mut live = Rows::new(alloc, shape)?;
-    add_cells(board.goals(), &mut live);
+    insert_all(board.goals(), &mut live);
     live.grow::<ByPull>(board.room_rows());
     let Ok(mut dead) = Rows::new(alloc, shape) else {
         drop(live);
@@ -49,11 +49,11 @@ fn add_boxes<S: CellSet>(board: &Board<S>, rows: &mut Rows)
     if board.boxes().is_subset(board.room()) {
         return;
     }
-    add_cells(board.boxes(), rows);
+    insert_all(board.boxes(), rows);
 }
 
 // Inserts the cells of a set one by one. That takes fewer steps than reading every row, because a board has few goals and boxes.
-fn add_cells<S: CellSet>(cells: &S, rows: &mut Rows)
+fn insert_all<S: CellSet>(cells: &S, rows: &mut Rows)
     requires { S.extent cells.now ≡ rows.old.extent }
     ensures extent { rows.new.extent ≡ rows.old.extent }
     ensures members { (c : GridCell) → Has rows.new.members c ↔ (Has rows.old.members c ⊎ Has (S.members cells.now) c) }

@@ -3,10 +3,11 @@
 use Rattle.std.proofs.Common.{◌≡◌, ℕ, ◌<◌, List, [], ◌∷◌, length, refl, ◌∙◌, ap, arith}
 use Rattle.std.{specs.Prelude.map, specs.List.Contains, proofs.lemmas.List.get_or-map, proofs.lemmas.List.length-map}
 use Rattle.std.specs.FinSet as set
+use Rattle.std.proofs.lemmas.List.{get_or_default}
 use Rattle.cellset.specs.declared.cell.Cell.{Cell}
-use Rattle.patterns.specs.{Pattern.cell_of, Pattern.cells_of, Pattern.pattern_of, Sides.cells_in, declared.arena.Arena.Arena}
+use Rattle.cell_lists.specs.CellLists.{cell_of, cells_of, cells_in}
+use Rattle.patterns.specs.{Pattern.pattern_of, declared.arena.Arena.Arena}
 use Rattle.patterns.specs.Arena.{boxes_at, coord_of, line_at, line_in, lines_in, list_in, pattern_at}
-use Rattle.patterns.proofs.CellLists.{at_any}
 
 -- Cells are the cells of their coordinates.
 back_again : (cells : List Cell) → map cell_of (map coord_of cells) ≡ cells
@@ -23,7 +24,7 @@ list_long arena = search (length-map)
 
 -- The pattern of each line is in the list.
 pub listed_at : (arena : Arena) (j : ℕ) → j < length arena.lines.items → Contains (list_in arena) (pattern_at (list_in arena) j)
-listed_at arena j lt = search (list_long, at_any)
+listed_at arena j lt = search (list_long, get_or_default)
 
 -- The pattern of a line is read by the number of the line.
 pub line_pattern : (arena : Arena) (j : ℕ) → j < length arena.lines.items

@@ -3,9 +3,10 @@ use Rattle.std.proofs.Common.{◌≡◌, ◌⊎◌, ℕ, ◌<◌, length, Some, 
 use Rattle.std.{specs.List.Contains, proofs.lemmas.Option.same_Some}
 use Rattle.cellset.proofs.Truth.{either}
 use Rattle.reach.specs.declared.pushes.Push.{Push}
+use Rattle.cell_lists.specs.CellLists.{cells_in}
 use Rattle.patterns.specs.{Lookups.AreAsked, Lookups.HasAsked, Lookups.IsSettling, Place.IsPlace, Place.IsSubset, Search.IsPassed, Search.IsSearch, Settling.CoversNone, Settling.IsTask}
 use Rattle.patterns.specs.{declared.lookups.Lookups.Lookups, declared.task.Task.Task}
-use Rattle.patterns.specs.{Lookups.IsOnward, Lookups.IsSearched, Piece.AreInPiece, Settling.AreTaken, Settling.IsSettled, Sides.cells_in}
+use Rattle.patterns.specs.{Lookups.IsOnward, Lookups.IsSearched, Piece.AreInPiece, Settling.AreTaken, Settling.IsSettled}
 use Rattle.patterns.proofs.{Grouped.covered_by_group, OpenPushes.open_in, OpenPushes.taken_on, Settled.after_within}
 use Rattle.cellset.specs.CellSet.{Has}
 use Rattle.patterns.specs.Run.{state_after}

@@ -4,7 +4,8 @@ use Rattle.std.specs.List.{Contains}
 use Rattle.cellset.specs.{CellSet.CellsOn, CellSet.Has, declared.cell.Cell.Cell}
 use Rattle.cellset.proofs.Truth.{either}
 use Rattle.reach.specs.{Region.Joined, declared.pushes.Push.Push}
-use Rattle.patterns.specs.{Hits.AreHits, Piece.AreInPiece, Piece.IsFreeOf, Place.AreCoveredAlike, Settling.IsPushOut, Settling.IsTask, Sides.cells_in}
+use Rattle.cell_lists.specs.CellLists.{cells_in}
+use Rattle.patterns.specs.{Hits.AreHits, Piece.AreInPiece, Piece.IsFreeOf, Place.AreCoveredAlike, Settling.IsPushOut, Settling.IsTask}
 use Rattle.patterns.specs.declared.task.Task.{Task}
 use Rattle.patterns.proofs.{OpenPushes.open_in, Pieces.joined_free, Settled.IsPushIn, Settled.alike, Settled.alike_back, Settled.alike_hits}
 

@@ -4,17 +4,20 @@
 -- and its region lies on that side. A push out of a pattern is a push out of its group.
 use Rattle.std.proofs.Common.{◌≡◌, ◌≢◌, Bool, false, ℕ, ◌<◌, ◌≤◌, List, length, get_or, set, refl, sym, ◌∙◌, ap, subst, inl, inr, arith}
 use Rattle.std.{specs.Prelude.IsTrue, specs.Prelude.slice_index, specs.List.Contains, proofs.lemmas.Bool.cases_lt}
-use Rattle.std.proofs.lemmas.List.{get_or-set_other, get_or-set_same, length-set}
+use Rattle.std.proofs.lemmas.List.{get_or-set_other, get_or-set_same, length-set, get_or_default}
 use Rattle.cellset.specs.{Cell.IsOn, Cell.neighbor, Cell.opposite, CellSet.Cells, CellSet.Has, declared.cell.Cell.Cell, declared.dir.Dir.Dir}
 use Rattle.cellset.specs.declared.dir.Dir.TheVariants.{L, U, R, D}
 use Rattle.cellset.proofs.Neighbors.{neighbor_back}
 use Rattle.reach.specs.{declared.pushes.Push.Push}
 use Rattle.board.specs.Game.{Level, moved}
+use Rattle.cell_lists.specs.CellLists.{cell_no, cells_in}
+use Rattle.cell_lists.proofs.CellLists.{in_list, no_cell}
+use Rattle.cellset.proofs.CellLists.{has_listed}
 use Rattle.patterns.specs.Pattern.{Pattern, InPatternRegion, IsCovered, PushesOut, after_push, CoversPushesOf}
-use Rattle.patterns.specs.{Arena.pattern_at, Run.state_after, Sides.cell_no, Sides.cells_in, declared.groups.Groups.Groups, declared.pushes.PushedBox.PushedBox}
+use Rattle.patterns.specs.{Arena.pattern_at, Run.state_after, declared.groups.Groups.Groups, declared.pushes.PushedBox.PushedBox}
 use Rattle.patterns.specs.{declared.tables.Tables.Tables, Groups.IsGrouped, Groups.boxes_of, Groups.list_of, Groups.position_at, Tables.AreTables}
 use Rattle.patterns.specs.GroupPushes.{AreNoted, CoversFrom, CoversToward, HasNoPush, IsPushAt, IsPushedBox, IsStepBack, pushed_cell}
-use Rattle.patterns.proofs.{Arenas.list_long, CellLists.at_any, CellLists.in_list, CellLists.no_cell, CellLists.of_list, RegionCells.region_on}
+use Rattle.patterns.proofs.{Arenas.list_long, RegionCells.region_on}
 use Rattle.patterns.proofs.Grouped.{box_floor, boxes_on, covered_of_group, group_in_room, line_boxes, of_line}
 use Rattle.patterns.proofs.Traps.{onto_trap, trapped_push}
 
@@ -47,7 +50,7 @@ covered_each_way level patterns pattern cell l u r d push out from = grind arith
 -- The results of the pushes out of a pattern are covered if the results are for each of its boxes.
 pub covered_each_box : (level : Level) (patterns : List Pattern) (pattern : Pattern) (boxes : List Cell) (n : ℕ) → length boxes ≤ n →
     cells_in boxes ≡ pattern.boxes → ((i : ℕ) → i < n → CoversFrom level patterns pattern (cell_no boxes i)) → CoversPushesOf level patterns pattern
-covered_each_box level patterns pattern boxes n past own each push out = grind (arith, of_list, at_any, no_cell)
+covered_each_box level patterns pattern boxes n past own each push out = grind (arith, has_listed, get_or_default, no_cell)
 
 -- A push out of a pattern is one out of its group.
 pub out_of_group : (level : Level) (groups : Groups) → IsGrouped groups → (j : ℕ) → j < length groups.arena.lines.items → (push : Push)
@@ -132,5 +135,5 @@ module _ (level : Level) (groups : Groups) (noted : List Bool) (are : AreNoted l
       let into = grouped.all.into k lt in
       let long = are.long in
       let in_notes : g < length noted = omega arith in
-      subst (CoversPushesOf level (list_of groups)) (at_any (list_of groups) k _ p low ∙ is)
+      subst (CoversPushesOf level (list_of groups)) (get_or_default (list_of groups) k _ p low ∙ is)
       (pattern_of_group level groups grouped k lt (are.covers g in_notes (all g in_notes)))

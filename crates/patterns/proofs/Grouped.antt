@@ -5,16 +5,19 @@ use Rattle.std.proofs.Common.{◌≡◌, Bool, true, false, ℕ, zero, suc, ◌<
 use Rattle.std.specs.Prelude.{◌↔◌, cond, nat_eq, slice_index}
 use Rattle.std.specs.FinSet as set
 use Rattle.std.proofs.lemmas.Bool.{cond-true, eq-eqb, eqb-true}
+use Rattle.std.proofs.lemmas.List.{get_or_default}
 use Rattle.cellset.specs.{Cell.IsOn, Cell.neighbor, CellSet.Cells, CellSet.Has, CellSet.Lacks, declared.cell.Cell.Cell}
 use Rattle.cellset.proofs.Members.{has_empty}
 use Rattle.reach.specs.{Region.InRegion, Region.IsFree, Reached.Reached, Reached.at_seed, Reached.by_step, Reached.WalksTo}
 use Rattle.reach.specs.Region as region
 use Rattle.board.specs.{Game.Level, Game.State, Game.IsFloor, Board.IsWellFormed}
+use Rattle.cell_lists.specs.CellLists.{cells_in}
+use Rattle.cell_lists.proofs.Sets.{has_difference, has_union, in_difference, in_union_left, in_union_right}
 use Rattle.patterns.specs.Pattern.{Pattern, Seeds, whole_room, listed, seed_cells, Covers, InPatternRegion, IsCovered}
-use Rattle.patterns.specs.{Pattern.IsLawful, Pattern.AreLawful, Pattern.IsListedSeed, Arena.pattern_at, Sides.cells_in, declared.groups.Groups.Groups}
+use Rattle.patterns.specs.{Pattern.IsLawful, Pattern.AreLawful, Pattern.IsListedSeed, Arena.pattern_at, declared.groups.Groups.Groups}
 use Rattle.patterns.specs.Groups.{HasLine, IsGrouped, IsSeed, IsSeedOf, SeedsAreIn, boxes_of, list_of, position_at, seeds_with}
-use Rattle.patterns.{specs.Tables.GroupCovers, proofs.Arenas.boxes_is, proofs.Arenas.list_long, proofs.Arenas.listed_at, proofs.CellLists.at_any}
-use Rattle.patterns.proofs.{RegionCells.region_lacks, Sets.has_difference, Sets.has_union, Sets.in_difference, Sets.in_union_left, Sets.in_union_right}
+use Rattle.patterns.{specs.Tables.GroupCovers, proofs.Arenas.boxes_is, proofs.Arenas.list_long, proofs.Arenas.listed_at}
+use Rattle.patterns.proofs.RegionCells.{region_lacks}
 
 -- ---- seeds
 -- The seeds of a group are the seeds of the patterns with its number.
@@ -94,7 +97,7 @@ module _ (level : Level) (groups : Groups) (grouped : IsGrouped groups) where
   covered_by_group s (pattern, (k, low, is), covers) =
       let long = list_long groups.arena in
       let lt : k < length groups.arena.lines.items = omega arith in
-      let here : pattern_at (list_of groups) k ≡ pattern = at_any (list_of groups) k _ pattern low ∙ is in
+      let here : pattern_at (list_of groups) k ≡ pattern = get_or_default (list_of groups) k _ pattern low ∙ is in
       let g = slice_index groups.of.items k in (
         g,
         (

@@ -1,11 +1,14 @@
 -- Lookups of a state among groups. A group of a lawful list has a box, so it may be in a bucket, and a key is an index of the table.
 use Rattle.std.proofs.Common.{◌≡◌, ℕ, ◌+◌, ◌-◌, ◌*◌, ◌<◌, ◌≤◌, List, [], ◌∷◌, ◌++◌, length, get_or, ◌∙◌, ap, inl, inr, arith}
 use Rattle.std.{specs.Prelude.slice_index, proofs.lemmas.Bool.cases_lt}
+use Rattle.std.proofs.lemmas.List.{get_or_default}
 use Rattle.cellset.{specs.SortedList.index, specs.CellSet.Has, specs.declared.cell.Cell.Cell, proofs.ReadingOrder.below_index}
 use Rattle.board.specs.{Game.Level, Game.State, Board.IsWellFormed}
-use Rattle.patterns.specs.{Pattern.IsCovered, Pattern.AreLawful, Buckets.IsInBucket, Chains.AreChains, Chains.IsLast, Sides.cells_in}
+use Rattle.cell_lists.specs.CellLists.{cells_in}
+use Rattle.cellset.proofs.CellLists.{has_listed}
+use Rattle.patterns.specs.{Pattern.IsCovered, Pattern.AreLawful, Buckets.IsInBucket, Chains.AreChains, Chains.IsLast}
 use Rattle.patterns.specs.{Groups.IsGrouped, Groups.boxes_of, Groups.list_of, Tables.GroupCovers, Tables.AreTables, declared.groups.Groups.Groups}
-use Rattle.patterns.{specs.declared.tables.Tables.Tables, proofs.CellLists.at_any, proofs.CellLists.of_list}
+use Rattle.patterns.specs.declared.tables.Tables.{Tables}
 use Rattle.patterns.proofs.{Grouped.box_on, Grouped.covered_by_group, Grouped.group_in_room, Grouped.some_box}
 use Rattle.patterns.proofs.Lists.{new_item, old_item}
 
@@ -13,10 +16,10 @@ use Rattle.patterns.proofs.Lists.{new_item, old_item}
 -- The links at the beginning of a chain and within it.
 module _ (keys first next : List ℕ) (count key : ℕ) (chains : AreChains keys count first next) where
   pub begun : (got : ℕ) → key < count → got ≡ get_or first key got → IsLast keys key (length keys) got
-  begun got low read = grind (arith, at_any)
+  begun got low read = grind (arith, get_or_default)
 
   pub led_on : (at got : ℕ) → 0 < at → at ≤ length keys → got ≡ get_or next (at - 1) got → slice_index keys (at - 1) ≡ key → IsLast keys key (at - 1) got
-  led_on at got up within read here = grind (arith, at_any)
+  led_on at got up within read here = grind (arith, get_or_default)
 
 module _ (level : Level) (groups : Groups) (lawful : AreLawful level (list_of groups)) (grouped : IsGrouped groups) (g : ℕ)
     (lt : g < length groups.spans.items) where
@@ -24,7 +27,7 @@ module _ (level : Level) (groups : Groups) (lawful : AreLawful level (list_of gr
   pub listed_some : 0 < length (boxes_of groups g)
   listed_some =
       let box = some_box level groups lawful grouped g lt in
-      let low = (of_list (boxes_of groups g) box.0 box.1).1 in
+      let low = (has_listed (boxes_of groups g) box.0 box.1).1 in
       omega arith
 
   -- The indexes of a group's boxes, and so its key, are within the table.

@@ -1,7 +1,5 @@
 pub mod Arenas
 pub mod Asked
-pub mod CellLists
-pub mod Counts
 pub mod Entered
 pub mod GroupPushes
 pub mod FirstLeft
@@ -19,7 +17,6 @@ pub mod Numbered
 pub mod OpenPushes
 pub mod Pieces
 pub mod RegionCells
-pub mod Sets
 pub mod Taken
 pub mod Traps
 pub mod Turns

@@ -2,6 +2,13 @@
 use Rattle.std.proofs.Common.{◌≡◌, ℕ, ◌+◌, ◌<◌, List, [], ◌∷◌, ◌++◌, length, get_or, refl, ◌∙◌, ap, arith}
 use Rattle.std.{specs.Prelude.map, specs.List.Contains, proofs.lemmas.Bool.cases_lt, proofs.lemmas.List.Elements.Contains-append_right}
 use Rattle.std.proofs.lemmas.List.{get_or-map, get_or_append_left, get_or_push, length-append, length-map}
+use Rattle.cellset.specs.declared.dir.Dir.TheVariants.{L}
+use Rattle.reach.specs.declared.pushes.Push.{Push}
+use Rattle.cell_lists.proofs.CellLists.{no_cell}
+
+-- The push that a read past the end of a list gives.
+abbrev pub no_push : Push
+no_push = record { player = no_cell; dir = L; from = no_cell; to = no_cell }
 
 -- What stands within a list is one of its items.
 pub middle : {X : Type 0} (before : List X) (x : X) (after : List X) → Contains (before ++ x ∷ after) x

@@ -9,12 +9,14 @@ use Rattle.cellset.specs.{Cell.IsOn, Cell.neighbor, Cell.opposite, CellSet.Cells
 use Rattle.cellset.proofs.{Members.not_both, Neighbors.neighbor_back, Truth.either}
 use Rattle.reach.specs.declared.pushes.Push.{Push}
 use Rattle.board.specs.Game.{Level}
+use Rattle.cell_lists.specs.CellLists.{cell_no, cells_in}
+use Rattle.cell_lists.proofs.CellLists.{in_list, no_cell}
 use Rattle.patterns.specs.Pattern.{Pattern, InPatternRegion, CoversPushesOf}
-use Rattle.patterns.specs.{Sides.IsAround, Sides.cell_no, Sides.cells_in, Run.state_after, Trap.AreOff, Tables.GroupCovers, Place.IsSubset, Piece.AreInPiece}
+use Rattle.patterns.specs.{Sides.IsAround, Run.state_after, Trap.AreOff, Tables.GroupCovers, Place.IsSubset, Piece.AreInPiece}
 use Rattle.patterns.specs.{declared.groups.Groups.Groups, declared.sides.Sides.Sides, declared.task.Task.Task, Groups.boxes_of, Groups.list_of, Groups.position_at}
 use Rattle.patterns.specs.Settling.{AreTaken, IsMet, IsPushOut, IsSettled, IsTask, Misses}
 use Rattle.patterns.specs.declared.unsettled.Missing.TheVariants.{One, More}
-use Rattle.patterns.proofs.{CellLists.in_list, CellLists.no_cell, Grouped.box_floor, Grouped.boxes_on, Grouped.covered_of_group, Grouped.group_in_room}
+use Rattle.patterns.proofs.Grouped.{box_floor, boxes_on, covered_of_group, group_in_room}
 use Rattle.patterns.proofs.{GroupPushes.unreached, Traps.off_after, Traps.onto_trap, Traps.to_room}
 use Rattle.patterns.proofs.Settled.{IsPushIn, push_in, ahead_decides, after_within, back_inside, lacks_pushed, loose_push, subsumed_push}
 

@@ -7,7 +7,8 @@ use Rattle.cellset.specs.{Cell.IsOn, Cell.neighbor, CellSet.Cells, CellSet.Cells
 use Rattle.reach.specs.{Region.InRegion, Region.IsFree, Region.Joined, Region.at_seed, Region.beside, Reached.Reached, Reached.WalksTo}
 use Rattle.reach.proofs.Instances.{joined_is, joined_map, walked_more}
 use Rattle.board.specs.{Game.Level, Board.IsWellFormed}
-use Rattle.patterns.{specs.Pattern.Pattern, specs.Pattern.whole_room, specs.Pattern.InPatternRegion, specs.Piece.IsFreeOf, proofs.Pieces.joined_free, proofs.Sets.has_difference, proofs.Sets.in_difference}
+use Rattle.cell_lists.proofs.Sets.{has_difference, in_difference}
+use Rattle.patterns.{specs.Pattern.Pattern, specs.Pattern.whole_room, specs.Pattern.InPatternRegion, specs.Piece.IsFreeOf, proofs.Pieces.joined_free}
 
 -- A region has no box.
 pub region_lacks : (level : Level) (pattern : Pattern) (c : Cell) → InPatternRegion level pattern c → Lacks pattern.boxes c

@@ -2,10 +2,13 @@
 -- has each group of the bucket. If it goes on to the next group, it has come past that one and no other.
 use Rattle.std.proofs.Common.{◌≡◌, ℕ, ◌+◌, ◌-◌, ◌*◌, ◌<◌, ◌≤◌, length, get_or, inl, inr, arith}
 use Rattle.std.{specs.Prelude.◌⊎◌, specs.Prelude.slice_index, proofs.lemmas.Bool.cases_lt}
+use Rattle.std.proofs.lemmas.List.{get_or_default}
 use Rattle.cellset.specs.{Shape.Extent, Cell.IsOn, CellSet.Has, SortedList.index, declared.cell.Cell.Cell}
 use Rattle.cellset.proofs.{Truth.either}
-use Rattle.patterns.specs.{Chains.IsLast, Search.IsPassed, Search.IsSearch, declared.groups.Groups.Groups, Sides.cell_no, Sides.cells_in, declared.buckets.Buckets.Buckets, declared.search.Search.Search}
-use Rattle.patterns.proofs.CellLists.{at_any, in_list, no_cell, of_list}
+use Rattle.cell_lists.specs.CellLists.{cell_no, cells_in}
+use Rattle.cell_lists.proofs.CellLists.{in_list, no_cell}
+use Rattle.cellset.proofs.CellLists.{has_listed}
+use Rattle.patterns.specs.{Chains.IsLast, Search.IsPassed, Search.IsSearch, declared.groups.Groups.Groups, declared.buckets.Buckets.Buckets, declared.search.Search.Search}
 
 module _ (shape : Extent) (buckets : Buckets) (old new : Search) (cells_is : new.cells.items ≡ old.cells.items) where
   pub past_bucket : old.link ≡ 0 → new.begun ≡ old.begun + 1
@@ -43,12 +46,12 @@ module _ (shape : Extent) (buckets : Buckets) (old new : Search) (cells_is : new
 pub past_all : (shape : Extent) (buckets : Buckets) (s : Search) → s.link ≡ 0 → s.begun ≡ length s.cells.items → (g : ℕ) (c : Cell)
     → Has (cells_in s.cells.items) c → slice_index buckets.keys.items g ≡ index shape c → IsPassed shape buckets s g
 past_all shape buckets s none all g c has key =
-    let there = of_list s.cells.items c has in
+    let there = has_listed s.cells.items c has in
     let low = there.1 in
     record {
       at = there.0;
       begun = omega arith;
-      key = rw (at_any s.cells.items there.0 no_cell c low, there.2) key;
+      key = rw (get_or_default s.cells.items there.0 no_cell c low, there.2) key;
       past = inr (omega arith);
     }
 

@@ -10,9 +10,9 @@ use Rattle.cellset.proofs.Members.{has_or_lacks, has_remove, kept_by_remove, lac
 use Rattle.cellset.proofs.{Neighbors.neighbor_back, ReadingOrder.below_index, ReadingOrder.index_apart}
 use Rattle.reach.specs.Region.{Joined, at_seed, beside}
 use Rattle.board.specs.{Game.Level, Game.IsFloor, Board.IsWellFormed}
+use Rattle.cell_lists.proofs.Sets.{removed_lacks}
 use Rattle.patterns.specs.{SpanningTree.AreJoinedBeside, SpanningTree.AreNodes, SpanningTree.IsGrowing, SpanningTree.IsNumbered}
 use Rattle.patterns.{specs.declared.tree.Node.Node, specs.declared.tree.Tree.Tree, proofs.Lists.old_item, proofs.Lists.new_item, proofs.Lists.length_more}
-use Rattle.patterns.proofs.Sets.{removed_lacks}
 
 -- Cells that don't compare equal are two cells.
 pub other_cell : (a b : Cell) → same a b ≡ false → a ≡ b → ⊥

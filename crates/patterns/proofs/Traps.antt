@@ -9,9 +9,11 @@ use Rattle.cellset.proofs.Members.{has_empty, has_insert, has_only, has_remove, 
 use Rattle.cellset.proofs.{Neighbors.neighbor_back, Truth.either}
 use Rattle.reach.specs.declared.pushes.Push.{Push}
 use Rattle.board.specs.{Game.Level, Game.State, Game.IsFloor, Game.moved, Game.start, Board.IsWellFormed}
+use Rattle.cell_lists.specs.CellLists.{cells_in}
+use Rattle.cell_lists.proofs.Sets.{other_member, other_where}
 use Rattle.patterns.specs.Pattern.{Pattern, InPatternRegion, IsCovered, PushesOut, after_push}
-use Rattle.patterns.specs.{Sides.cells_in, Trap.AreOff, Trap.IsTrapOf, Trap.single}
-use Rattle.patterns.proofs.{RegionCells.region_on, RegionCells.room_outside, Sets.other_member, Sets.other_where, Spanning.other_cell}
+use Rattle.patterns.specs.Trap.{AreOff, IsTrapOf, single}
+use Rattle.patterns.proofs.{RegionCells.region_on, RegionCells.room_outside, Spanning.other_cell}
 
 -- No box is on a trap without cells.
 pub none_off : (trap : Cells) → trap ≡ set.empty → (boxes : List Cell) → AreOff trap boxes

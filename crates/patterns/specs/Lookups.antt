@@ -4,8 +4,9 @@ use Rattle.std.specs.List.{Contains}
 use Rattle.cellset.specs.{CellSet.Has, SortedList.index, declared.cell.Cell.Cell}
 use Rattle.reach.specs.declared.pushes.Push.{Push}
 use Rattle.board.specs.Game.{Level}
+use Rattle.cell_lists.specs.CellLists.{cells_in}
 use Rattle.patterns.specs.Pattern.{IsCovered, PushesOut, after_push}
-use Rattle.patterns.specs.{Sides.cells_in, Around.IsOnePiece, Buckets.AreBuckets, Place.IsPlace, Place.IsSubset, Piece.AreInPiece, Piece.IsFreeOf, Search.IsPassed, Search.IsSearch}
+use Rattle.patterns.specs.{Around.IsOnePiece, Buckets.AreBuckets, Place.IsPlace, Place.IsSubset, Piece.AreInPiece, Piece.IsFreeOf, Search.IsPassed, Search.IsSearch}
 use Rattle.patterns.specs.{Groups.boxes_of, Groups.list_of, Groups.position_at, Settling.AreOpen, Settling.AreTaken, Settling.CoversNone, declared.groups.Groups.Groups}
 use Rattle.patterns.specs.{declared.lookups.Lookups.Lookups, declared.tables.Tables.Tables, declared.task.Task.Task}
 

@@ -1,5 +1,4 @@
 -- Patterns, the states that they cover, and which patterns may be in a list.
---   cells of a list     the set of the cells of its coordinates, whatever their order
 --   pattern             a set of boxes, with seeds of the cells where the player may be
 --   seeds               some cells, or `*`, which means the room less the boxes
 --   region              the cells that a chain of neighbours joins to a seed; each cell of the chain, first and last too, is
@@ -12,18 +11,11 @@
 --                       room and not on a box of the pattern; some box is off the goals
 use Rattle.std.specs.{Prelude.◌⊎◌, Prelude.List, Prelude.Option, Prelude.None, Prelude.Some, Prelude.map, List.Contains}
 use Rattle.std.specs.FinSet as set
-use Rattle.cellset.specs.{Cell.IsOn, Cell.cell_at, CellSet.Cells, CellSet.Has, CellSet.Lacks, declared.cell.Cell.Cell}
+use Rattle.cellset.specs.{Cell.IsOn, CellSet.Cells, CellSet.Has, CellSet.Lacks, declared.cell.Cell.Cell}
 use Rattle.reach.specs.{Region.InRegion, Pushes.IsPushOut, Pushes.PushBefore, declared.pushes.Push.Push}
 use Rattle.board.specs.Game.{Level, State, moved}
 use Rattle.answers.specs.{declared.pattern.Coord.Coord, Body.PatternLine}
-
--- the cell of a coordinate
-abbrev pub cell_of : Coord → Cell
-cell_of c = cell_at c.column c.row
-
--- the set of the cells of a list
-abbrev pub cells_of : List Coord → Cells
-cells_of coords = set.from_list (map cell_of coords)
+use Rattle.cell_lists.specs.CellLists.{cells_of}
 
 -- where the region of a pattern begins
 pub data Seeds : Type 0 where

@@ -2,7 +2,8 @@
 use Rattle.std.specs.Prelude.{◌≡◌, ℕ, ◌<◌, ◌≤◌, MatchBool, length, vec_capacity}
 use Rattle.cellset.specs.{CellSet.Cells, CellSet.Has, declared.cell.Cell.Cell}
 use Rattle.board.specs.Game.{Level}
-use Rattle.patterns.specs.{Pattern.Covers, Pattern.Pattern, Sides.cells_in, Groups.boxes_of, declared.groups.Groups.Groups, Hits.AreHits, SpanningTree.IsTree}
+use Rattle.cell_lists.specs.CellLists.{cells_in}
+use Rattle.patterns.specs.{Pattern.Covers, Pattern.Pattern, Groups.boxes_of, declared.groups.Groups.Groups, Hits.AreHits, SpanningTree.IsTree}
 use Rattle.patterns.specs.{declared.place.Place.Place, declared.tree.Tree.Tree}
 
 -- a group whose boxes are among these

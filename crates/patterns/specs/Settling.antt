@@ -3,8 +3,9 @@ use Rattle.std.specs.Prelude.{◌≡◌, ◌≢◌, ◌⊎◌, ℕ, ◌<◌, ◌
 use Rattle.std.specs.List.{Contains}
 use Rattle.cellset.specs.{Cell.opposite, CellSet.Cells, CellSet.Has, CellSet.Lacks, declared.cell.Cell.Cell}
 use Rattle.reach.specs.declared.pushes.Push.{Push}
+use Rattle.cell_lists.specs.CellLists.{cell_no, cells_in}
 use Rattle.patterns.specs.Pattern.{IsCovered, PushesOut}
-use Rattle.patterns.specs.{Run.state_after, Sides.cell_no, Sides.cells_in, Sides.toward, Trap.AreOff, Tables.AreTables, Tables.GroupCovers, GroupPushes.AreNoted}
+use Rattle.patterns.specs.{Run.state_after, Sides.toward, Trap.AreOff, Tables.AreTables, Tables.GroupCovers, GroupPushes.AreNoted}
 use Rattle.patterns.specs.{declared.task.Task.Task, declared.unsettled.Ahead.Ahead, declared.unsettled.Unsettled.Unsettled}
 use Rattle.patterns.specs.declared.unsettled.Missing.{Missing, TheVariants.Nothing, TheVariants.One, TheVariants.More}
 use Rattle.patterns.specs.Groups.{boxes_of, list_of, position_at}

@@ -1,11 +1,15 @@
 //! The lines of a list in two vectors of cells.
 //!
 //! A place in them takes four bytes, which saves a quarter of the memory of a long list.
-ghost use Rattle.std.specs.Prelude.{◌≡◌, ◌≤◌, ◌^◌, IfErr, IfOk, length};
+ghost use Rattle.std.specs.Prelude.{◌≡◌, ◌<◌, ◌≤◌, ◌^◌, ◌++◌, ◌∷◌, [], IfErr, IfOk, List, MatchBool, MatchOption, length, map};
+ghost use Rattle.cellset.specs.{Cell.IsOn, CellSet.Has, declared.cell.Cell.Cell as GridCell};
+ghost use Rattle.cell_lists.specs.CellLists.{cell_of, cells_of};
 ghost use Rattle.patterns.specs.Spans.{AreWithin, IsWithin, part as part_of};
 
-use cellset::Cell;
-use std::alloc::AllocError;
+use answers::{Coord, Pattern, Seeds};
+use cell_lists::add_cells;
+use cellset::{Cell, Shape};
+use std::alloc::{AllocError, Global};
 
 /// Cells next to each other in a vector: the number of the first one, and of the one after the last.
 #[derive(Clone, Copy, Debug, PartialEq, Eq)]
@@ -22,6 +26,13 @@ pub struct StoredLine {
     pub seeds: Option<Span>,
 }
 
+/// A pattern as cells of the board: its boxes, and its seeds unless it says `*`.
+#[derive(Clone, Copy, Debug, PartialEq, Eq)]
+pub struct CellPattern<'a> {
+    pub boxes: &'a [Cell],
+    pub seeds: Option<&'a [Cell]>,
+}
+
 /// The boxes of all lines, the seeds of all lines, and the lines.
 #[derive(Debug, Drop)]
 pub struct Arena {
@@ -29,6 +40,133 @@ pub struct Arena {
     pub seeds: Vec<Cell>,
     pub lines: Vec<StoredLine>,
     ghost within: { AreWithin boxes.items seeds.items lines.items },
+}
+
+// The number of lines for which there is room at first. Without that lists of single boxes take 2 % more instructions.
+const FIRST_LINES: usize = 64;
+
+impl Arena {
+    ghost use Rattle.answers.specs.Grammar.{said_pattern};
+    ghost use Rattle.patterns.specs.Pattern.{pattern_of, patterns_of};
+    ghost use Rattle.patterns.specs.Arena.{AreOnGrid, IsOffGrid, IsOnGrid, IsStored, boxes_at, line_at, lines_in, list_in, pattern_at, pattern_in, stored_pattern};
+
+    /// Returns an arena without lines.
+    pub fn new(alloc: Global) -> Arena
+        ensures { lines_in result ≡ [] }
+    {
+        Arena {
+            boxes: Vec::new(alloc),
+            seeds: Vec::new(alloc),
+            lines: Vec::new(alloc),
+        }
+    }
+
+    /// Returns an arena with the lines of patterns, which are on the grid.
+    pub fn with_lines(
+        alloc: Global,
+        shape: Shape,
+        patterns: &[Pattern],
+    ) -> Result<Arena, AllocError>
+        requires { AreOnGrid shape (patterns_of (map said_pattern patterns.now)) }
+        ensures { IfOk result (λ arena. lines_in arena ≡ map said_pattern patterns.now) }
+    {
+        let mut arena = Arena::new(alloc);
+        for pattern in patterns {
+            arena.add(shape, pattern)?;
+        }
+        Ok(arena)
+    }
+
+    /// Makes room for the first lines, if there are none yet.
+    pub fn make_room(&mut self) -> Result<(), AllocError>
+        ensures { lines_in self.new ≡ lines_in self.old }
+    {
+        if self.lines.is_empty() {
+            self.boxes.reserve(FIRST_LINES)?;
+            self.lines.reserve(FIRST_LINES)?;
+        }
+        Ok(())
+    }
+
+    /// Adds a pattern if its boxes and seeds are on the grid. Returns whether they are.
+    pub fn add(&mut self, shape: Shape, pattern: &Pattern) -> Result<bool, AllocError>
+        ensures added { IfOk result (λ all. MatchBool all
+            (lines_in self.new ≡ lines_in self.old ++ said_pattern pattern.now ∷ [])
+            (lines_in self.new ≡ lines_in self.old)) }
+        ensures on { IfOk result (λ all. MatchBool all
+            (IsOnGrid shape (pattern_of (said_pattern pattern.now)))
+            (IsOffGrid shape (pattern_of (said_pattern pattern.now)))) }
+    {
+        let Some(boxes) = add_span(shape, &pattern.boxes, &mut self.boxes)? else {
+            return Ok(false);
+        };
+        let seeds = match &pattern.seeds {
+            Seeds::Room => None,
+            Seeds::Cells(cells) => {
+                let Some(span) = add_span(shape, cells, &mut self.seeds)? else {
+                    return Ok(false);
+                };
+                Some(span)
+            }
+        };
+        self.lines.push(StoredLine {
+            number: pattern.line,
+            boxes,
+            seeds,
+        })?;
+        Ok(true)
+    }
+
+    /// Returns a line.
+    pub fn line(&self, line: usize) -> StoredLine
+        requires { line < length self.now.lines.items }
+        ensures line { result ≡ line_at self.now line }
+        ensures within { IsStored self.now result }
+        ensures pattern { stored_pattern self.now result ≡ pattern_at (list_in self.now) line }
+    {
+        self.lines[line]
+    }
+
+    /// Returns the pattern of a line.
+    pub fn pattern(&self, line: usize) -> CellPattern<'_>
+        requires { line < length self.now.lines.items }
+        ensures boxes { result.boxes.now ≡ boxes_at self.now line }
+        ensures pattern { pattern_in result ≡ pattern_at (list_in self.now) line }
+    {
+        let line = self.line(line);
+        let seeds = match line.seeds {
+            Some(span) => Some(part(&self.seeds, span)),
+            None => None,
+        };
+        CellPattern {
+            boxes: part(&self.boxes, line.boxes),
+            seeds,
+        }
+    }
+}
+
+// Adds the cells of coordinates to a list, up to the first that is off the grid. Returns their span if all of them are on it.
+#[inline(always)]
+fn add_span(
+    shape: Shape,
+    coords: &[Coord],
+    cells: &mut Vec<Cell>,
+) -> Result<Option<Span>, AllocError>
+    ensures grown { (more : List GridCell) × (cells.new.items ≡ cells.old.items ++ more) }
+    ensures exact { IfOk result (λ span. MatchOption span
+        ((c : GridCell) × Has (cells_of coords.now) c × (IsOn shape c → ⊥))
+        (λ s. (s ≡ record { from = length cells.old.items; to = length cells.new.items })
+        × (cells.new.items ≡ cells.old.items ++ map cell_of coords.now)
+        × ((c : GridCell) → Has (cells_of coords.now) c → IsOn shape c))) }
+{
+    let from = cells.len();
+    if !add_cells(shape, coords, cells)? {
+        return Ok(None);
+    }
+    Ok(Some(Span {
+        from: to_u32(from)?,
+        to: to_u32(cells.len())?,
+    }))
 }
 
 /// Returns the cells of a span.

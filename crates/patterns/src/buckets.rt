@@ -1,7 +1,8 @@
 //! Buckets: by cell, groups that have a box there. Each group is in the bucket of one of its boxes, the one that the fewest groups have.
 ghost use Rattle.std.specs.Prelude.{◌≡◌, ◌*◌, ◌<◌, IfOk, length};
 ghost use Rattle.cellset.specs.{CellSet.Has, Cell.IsOn, SortedList.index, declared.cell.Cell.Cell as GridCell};
-ghost use Rattle.patterns.specs.{Pattern.AreLawful, Buckets.AreBuckets, Groups.IsGrouped, Groups.list_of, Sides.cells_in};
+ghost use Rattle.cell_lists.specs.CellLists.{cells_in};
+ghost use Rattle.patterns.specs.{Pattern.AreLawful, Buckets.AreBuckets, Groups.IsGrouped, Groups.list_of};
 
 use crate::arena::to_u32;
 use crate::chains::{Chains, chain};
@@ -19,6 +20,7 @@ pub struct Buckets {
 }
 
 // Puts each group into the bucket of one of its boxes, the one that the fewest groups have.
+#[tactic(auto, using(crate::proofs::Lists::length_more, crate::proofs::InBuckets::bucket_more))]
 pub(crate) fn fill_buckets<S: CellSet>(
     alloc: Global,
     board: &Board<S>,
@@ -59,6 +61,7 @@ fn count_groups<S: CellSet>(
 }
 
 // Counts the boxes of a group.
+#[tactic(auto, using(cell_lists::proofs::CellLists::over_cells))]
 fn count_boxes(shape: Shape, boxes: &[Cell], counts: &mut Vec<u32>)
     requires on { (c : GridCell) → Has (cells_in boxes.now) c → IsOn shape c }
     requires counts { length counts.old.items ≡ shape.width * shape.height }
@@ -71,6 +74,7 @@ fn count_boxes(shape: Shape, boxes: &[Cell], counts: &mut Vec<u32>)
 }
 
 // Returns the index of the box with the lowest count.
+#[tactic(auto, using(cell_lists::proofs::CellLists::over_cells))]
 fn rarest_box(shape: Shape, counts: &[u32], boxes: &[Cell]) -> usize
     requires some { 0 < length boxes.now }
     requires on { (c : GridCell) → Has (cells_in boxes.now) c → IsOn shape c }

@@ -4,7 +4,7 @@
 //! is in the region of the seeds. Read `specs/Pattern.antt` for patterns, regions, pushes out and lawful patterns. The crate `closure` checks
 //! lists by these parts, from the lines of a list up:
 //!
-//! - **Lines**: each becomes cells in one arena (`arena`, `cell_patterns`; `cells` has the loops over lists of cells).
+//! - **Lines**: each becomes cells in one arena (`arena`; the crate `cell_lists` has the loops over lists of cells).
 //! - **Trap**: the cells of the lines of one box with `*` may be a trap, which no box leaves (`trap`). The list covers each state with a box
 //!   on it.
 //! - **Groups**: lines with the same boxes are one group, found by a hash (`groups`, `hints`, `chains`). One flood for each group off the trap
@@ -29,8 +29,6 @@
 
 mod arena;
 mod buckets;
-mod cell_patterns;
-mod cells;
 mod chains;
 mod group_regions;
 mod groups;
@@ -47,10 +45,8 @@ mod trap;
 mod tree;
 mod unsettled;
 
-pub use arena::{Arena, Span, StoredLine, part};
+pub use arena::{Arena, CellPattern, Span, StoredLine, part};
 pub use buckets::Buckets;
-pub use cell_patterns::{CellPattern, arena_of};
-pub use cells::{add_cells, are_in, are_outside, is_among, load, number_of, take_out};
 pub use chains::Chains;
 pub use group_regions::{Flood, Region, Regions};
 pub use groups::Groups;

@@ -7,13 +7,13 @@ ghost use Rattle.patterns.specs.Lookups.{AreLookups};
 ghost use Rattle.patterns.specs.{Tables.AreTables, Tables.GroupCovers};
 
 use crate::buckets::{Buckets, fill_buckets};
-use crate::cells::{are_in, is_among};
 use crate::group_regions::Flood;
 use crate::place::Place;
 use crate::search::Search;
 use crate::tables::Tables;
 use crate::tree::{Tree, grow_tree};
 use crate::unsettled::Unsettled;
+use cell_lists::{are_in, is_among};
 use cellset::{Cell, CellSet, MembersOf};
 use reach::{Push, Rows};
 use std::alloc::{AllocError, Global};

@@ -4,13 +4,14 @@
 //! the group on it decides, by the side on which the path meets the box. If the path meets none of its boxes, the root decides.
 ghost use Rattle.std.specs.Prelude.{◌≡◌, ◌<◌, ◌↔◌, [], IsTrue, length, vec_capacity};
 ghost use Rattle.cellset.specs.CellSet.{Lacks};
-ghost use Rattle.patterns.specs.{Pattern.InPatternRegion, Sides.cells_in, Groups.boxes_of, Groups.position_at};
+ghost use Rattle.cell_lists.specs.CellLists.{cells_in};
+ghost use Rattle.patterns.specs.{Pattern.InPatternRegion, Groups.boxes_of, Groups.position_at};
 ghost use Rattle.patterns.specs.{Hits.AreHits, Place.IsPlace, Place.IsSubset, SpanningTree.IsTree, Tables.AreTables, Trap.AreOff};
 
-use crate::cells::number_of;
 use crate::tables::Tables;
 use crate::tree::{Hit, Tree};
 use board::Board;
+use cell_lists::number_of;
 use cellset::{Cell, CellSet};
 use reach::Rows;
 

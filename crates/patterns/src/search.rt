@@ -3,7 +3,8 @@ ghost use Rattle.std.specs.Prelude.{◌≡◌, ◌⊎◌, ◌<◌, ℕ, OnOk, Op
 ghost use Rattle.std.specs.List.{Contains};
 ghost use Rattle.cellset.specs.{CellSet.Has, SortedList.index, declared.cell.Cell.Cell as GridCell};
 ghost use Rattle.reach.specs.declared.pushes.Push.{Push as OutPush};
-ghost use Rattle.patterns.specs.{Buckets.AreBuckets, Search.IsPassed, Search.IsSearch, Search.searches_left, Settling.AreOpen, Settling.IsTask, Sides.cells_in};
+ghost use Rattle.cell_lists.specs.CellLists.{cells_in};
+ghost use Rattle.patterns.specs.{Buckets.AreBuckets, Search.IsPassed, Search.IsSearch, Search.searches_left, Settling.AreOpen, Settling.IsTask};
 
 use crate::buckets::Buckets;
 use crate::task::Task;

@@ -3,9 +3,10 @@ ghost use Rattle.std.specs.Prelude.{◌≡◌, ◌⊎◌, ◌<◌, ◌↔◌, �
 ghost use Rattle.std.specs.List.{Contains};
 ghost use Rattle.cellset.specs.{Cell.IsOn, CellSet.Has, declared.cell.Cell.Cell as GridCell};
 ghost use Rattle.reach.specs.{Pushes.PushBefore, Pushes.dir_rank, declared.pushes.Push.Push as OutPush};
+ghost use Rattle.cell_lists.specs.CellLists.{cells_in};
 ghost use Rattle.patterns.specs.{Arena.pattern_at, Pattern.CoversPushesOf, Pattern.IsFirstUncovered, Groups.boxes_of, Groups.list_of};
 ghost use Rattle.patterns.specs.Lookups.{AreAsked, AreLookups, HasAsked, IsOnward, IsRest, IsSearched, IsSettling};
-ghost use Rattle.patterns.specs.{Hits.AreHits, Piece.AreInPiece, Piece.IsFreeOf, Search.searches_left, Place.IsSubset, Sides.cells_in, Tables.AreTables};
+ghost use Rattle.patterns.specs.{Hits.AreHits, Piece.AreInPiece, Piece.IsFreeOf, Search.searches_left, Place.IsSubset, Tables.AreTables};
 ghost use Rattle.patterns.specs.Settling.{CoversNone, IsPushOut, IsSettled, IsTask};
 
 use crate::hints::{TRIES, hash_of, hash_with, hash_without};
@@ -274,6 +275,7 @@ impl Lookups {
 }
 
 // Makes rows those of these cells.
+#[tactic(auto, using(cell_lists::proofs::CellLists::over_cells, cellset::proofs::Members::inserted, cellset::proofs::Members::kept_by_insert))]
 fn load_rows(cells: &[Cell], rows: &mut Rows)
     requires { (c : GridCell) → Has (cells_in cells.now) c → IsOn rows.old.extent c }
     ensures extent { rows.new.extent ≡ rows.old.extent }

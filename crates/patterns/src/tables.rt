@@ -1,7 +1,8 @@
 //! The tables of an index: all that is kept of a list of patterns.
 ghost use Rattle.std.specs.Prelude.{◌≡◌, ◌<◌, ◌↔◌, IfOk, IsTrue, MatchBool, length};
 ghost use Rattle.cellset.specs.{CellSet.Has, CellSet.Lacks, declared.cell.Cell.Cell as GridCell};
-ghost use Rattle.patterns.specs.{Pattern.InPatternRegion, Sides.IsAround, Sides.cell_no, Sides.cells_in, Pattern.AreLawful, Arena.list_in};
+ghost use Rattle.cell_lists.specs.CellLists.{cell_no, cells_in};
+ghost use Rattle.patterns.specs.{Pattern.InPatternRegion, Sides.IsAround, Pattern.AreLawful, Arena.list_in};
 ghost use Rattle.patterns.specs.{Trap.AreOff, Trap.IsTrapOf, Groups.boxes_of, Groups.position_at};
 ghost use Rattle.patterns.specs.Tables.{AreTables};
 
@@ -71,6 +72,7 @@ impl<'a, S: CellSet> Tables<'a, S> {
     }
 
     /// Returns whether one of the boxes is on the trap.
+    #[tactic(auto, using(crate::proofs::Traps::none_off))]
     pub fn is_trapped(&self, boxes: &[Cell]) -> bool
         requires { AreTables self.now }
         ensures { MatchBool result

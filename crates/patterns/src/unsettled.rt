@@ -7,15 +7,16 @@ ghost use Rattle.std.specs.Prelude.{◌≡◌, ◌⊎◌, ◌↔◌, ◌<◌, �
 ghost use Rattle.std.specs.List.{Contains};
 ghost use Rattle.cellset.specs.{CellSet.Has, CellSet.Lacks, declared.cell.Cell.Cell as GridCell};
 ghost use Rattle.reach.specs.declared.pushes.Push.{Push as OutPush};
-ghost use Rattle.patterns.specs.{Sides.cell_no, Sides.cells_in, Groups.boxes_of, Place.IsPlace, Place.IsSubset, Piece.AreInPiece, Piece.InPiece, Piece.IsFreeOf};
+ghost use Rattle.cell_lists.specs.CellLists.{cell_no, cells_in};
+ghost use Rattle.patterns.specs.{Groups.boxes_of, Place.IsPlace, Place.IsSubset, Piece.AreInPiece, Piece.InPiece, Piece.IsFreeOf};
 ghost use Rattle.patterns.specs.Settling.{AreOpen, AreTaken, CoversNone, IsMet, IsPushOut, IsParted, IsSettled, IsTask, LeadsTo, Misses};
 
-use crate::cells::{is_same, number_of};
 use crate::group_regions::Flood;
 use crate::place::Place;
 use crate::sides::Sides;
 use crate::task::Task;
 use crate::tree::Tree;
+use cell_lists::{is_same, number_of};
 use cellset::{Cell, CellSet, Dir};
 use reach::{Push, Rows};
 use std::alloc::AllocError;
@@ -223,7 +224,7 @@ fn find_missing(kept: &[Cell], boxes: &Rows) -> Missing
 }
 
 // Takes out the pushes of boxes that a group lacks, and of these only the ones that lead to the cell ahead if there is one.
-#[tactic(auto, using(crate::proofs::Taken::taken_only, crate::proofs::Taken::taken_kept, crate::proofs::CellLists::at_any))]
+#[tactic(auto, using(crate::proofs::Taken::taken_only, crate::proofs::Taken::taken_kept, std::proofs::lemmas::List::get_or_default))]
 fn take_met(pushes: &mut Vec<Push>, kept: &[Cell], ahead: Option<Ahead>)
     ensures kept { (push : OutPush) → Contains pushes.old.items push → Contains pushes.new.items push ⊎ IsMet kept.now ahead push }
     ensures only { (push : OutPush) → Contains pushes.new.items push → Contains pushes.old.items push }
@@ -241,6 +242,7 @@ fn take_met(pushes: &mut Vec<Push>, kept: &[Cell], ahead: Option<Ahead>)
 }
 
 // Returns whether a push moves a box that a group lacks, and leads to the cell ahead if there is one.
+#[tactic(auto, using(cell_lists::proofs::CellLists::in_list, cellset::proofs::Members::not_both))]
 #[inline(always)]
 fn is_met(push: Push, kept: &[Cell], ahead: Option<Ahead>) -> bool
     ensures { IsTrue result ↔ IsMet kept.now ahead push }

@@ -1,6 +1,7 @@
 //! Plays walks, a group of letters at a time.
 //!
-//! Letter by letter, long solutions take 37 % more instructions, and the solutions of small levels 3 %. A group with a push gains nothing.
+//! Letter by letter, 10 million letters with one push take three times as many instructions, and 10,000 solutions with one push each 40 %
+//! more. A group with a push gains nothing.
 //!
 //! The letters of a group are tested together. One sum holds the player's place in its low 16 bits and the number of letters in its
 //! high bits. A field has a power of two of bytes, so masking a place keeps it in the field. The place of a walk passes unchanged, because

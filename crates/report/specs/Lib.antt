@@ -26,6 +26,7 @@ pub use Rattle.devices.specs.Reading
 pub use Rattle.answers.specs.Body
 pub use Rattle.answers.specs.Grammar
 pub use Rattle.answers.specs.RoundTrip
+pub use Rattle.cell_lists.specs.CellLists
 pub use Rattle.closure.specs.Closed
 pub use Rattle.patterns.specs.Pattern
 pub use Rattle.closure.specs.Zone

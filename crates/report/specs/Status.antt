@@ -14,7 +14,8 @@ use Rattle.play.specs.declared.tally.Tally.{Tally}
 use Rattle.play.specs.declared.fault.ReplayFault.{ReplayFault}
 use Rattle.answers.specs.Body.{Body, LetterLines, PatternLines, OneZone, FirstBad, PatternLine, ZoneLine}
 use Rattle.answers.specs.declared.record.BadLineWhy.{BadLineWhy}
-use Rattle.patterns.specs.Pattern.{cells_of, patterns_of}
+use Rattle.cell_lists.specs.CellLists.{cells_of}
+use Rattle.patterns.specs.Pattern.{patterns_of}
 use Rattle.closure.specs.Closed.{Closed}
 use Rattle.closure.specs.Zone.{IsRefuting}
 use Rattle.closure.specs.FirstFault.{IsFirstPatternFault, IsFirstZoneFault}

@@ -1,9 +1,9 @@
 -- The levels of a text are found from its end on, as the contract has them: a line of text in front of the rest is skipped, and a run in
 -- front of the rest is one more level. So the invariant is about whatever spans the rest may have: those found, followed by these, are spans
 -- of the whole text. At the end the rest has no lines and no spans.
-use Rattle.std.proofs.Common.{◌≡◌, ℕ, suc, ◌+◌, ◌<◌, ◌≤◌, List, [], ◌∷◌, ◌++◌, length, map, take, drop, slice_set, refl, sym, ◌∙◌, ap, arith, length-append, length-drop, append_assoc, take_all}
+use Rattle.std.proofs.Common.{◌≡◌, ℕ, ◌+◌, ◌<◌, ◌≤◌, List, [], ◌∷◌, ◌++◌, length, map, refl, sym, ◌∙◌, ap, arith, length-append, length-drop, append_assoc}
 use Rattle.std.specs.Prelude.{All}
-use Rattle.std.proofs.lemmas.List.{append-nil, drop_all, map-append, nil_from_length}
+use Rattle.std.proofs.lemmas.List.{append-nil, map-append, nil_from_length}
 use Rattle.std.proofs.lemmas.List.Elements.{All-nil, All-cons, All-push}
 use Rattle.bstr.specs.Text.{lines_of, without_terminator}
 use Rattle.lines.specs.Lines.{IsFirstLine, IsLineCut, lines_in}
@@ -13,6 +13,7 @@ use Rattle.board.specs.Lines.{without_mark}
 use Rattle.sokoaudit_c.specs.Outcome.{Holds}
 use Rattle.sokoaudit_c.specs.Spans.{AreSpansOf, HasSpans, IsRunCut}
 use Rattle.sokoaudit_c.specs.declared.spans.Span.{Span}
+use Rattle.sokoaudit_c.proofs.Written.{none_yet}
 
 -- ---- the run that a text begins with
 
@@ -25,7 +26,7 @@ pub record IsRunSoFar (text rest : List ℕ) : Type 0 where
 pub run_none : (text : List ℕ) → IsRunSoFar text text
 run_none text = record { run = []; cut = cut_none text; board = rw lines_in-nil (All-nil IsBoardLine) }
 
-both_lines : (text front rest piece left : List ℕ) → IsLineCut text front rest → IsLineCut rest piece left → lines_in (front ++ piece) ≡ lines_in front ++ lines_in piece
+pub both_lines : (text front rest piece left : List ℕ) → IsLineCut text front rest → IsLineCut rest piece left → lines_in (front ++ piece) ≡ lines_in front ++ lines_in piece
 both_lines text front rest piece left cut next =
     ap (map without_terminator) (more_lines text front rest piece left cut next) ∙ map-append without_terminator (lines_of front) (lines_of piece)
 
@@ -125,37 +126,6 @@ with_run total rest after span cut spans levels shorter at end_at others =
       others,
     )
 
--- ---- what is written
-
-put : (old found : List Span) (span : Span) → length found < length old → slice_set (take (length old) found ++ drop (length found) old) (length found) span
-    ≡ take (length old) (found ++ span ∷ []) ++ drop (length (found ++ span ∷ [])) old
-put [] found span room = absurd (omega arith)
-put (o ∷ old) [] span room = grind (arith, take_all)
-put (o ∷ old) (f ∷ found) span room = ap (λ l. f ∷ l) (put old found span (omega arith))
-
-left_out : (old found : List Span) (span : Span) → length old ≤ length found → take (length old) found ++ drop (length found) old
-    ≡ take (length old) (found ++ span ∷ []) ++ drop (length (found ++ span ∷ [])) old
-left_out [] found span full = grind (arith, drop_all)
-left_out (o ∷ old) [] span full = absurd (omega arith)
-left_out (o ∷ old) (f ∷ found) span full = ap (λ l. f ∷ l) (left_out old found span (omega arith))
-
-long_as : (old found : List Span) → length (take (length old) found ++ drop (length found) old) ≡ length old
-long_as [] found = grind (arith, drop_all)
-long_as (o ∷ old) [] = grind arith
-long_as (o ∷ old) (f ∷ found) = ap suc (long_as old found)
-
-pub one_written : (old new found : List Span) (count : ℕ) (span : Span) → count ≡ length found → Holds old new found → count < length new
-    → Holds old (slice_set new count span) (found ++ span ∷ [])
-one_written old new found count span is holds room =
-    let long = ap length holds ∙ long_as old found in
-    rw (holds, is) (put old found span (omega arith))
-
-pub none_written : (old new found : List Span) (count : ℕ) (span : Span) → count ≡ length found → Holds old new found → length new ≤ count
-    → Holds old new (found ++ span ∷ [])
-none_written old new found count span is holds full =
-    let long = ap length holds ∙ long_as old found in
-    holds ∙ left_out old found span (omega arith)
-
 -- ---- the loop
 
 -- The spans of the levels before the rest are written.
@@ -178,7 +148,7 @@ spans_none text rest old is = record {
   spans = [];
   number = refl;
   same = refl;
-  written = grind arith;
+  written = none_yet old;
   few = let within = mark_within text in omega (arith, ap length is);
   so_far = λ more others are. rw is at are;
 }

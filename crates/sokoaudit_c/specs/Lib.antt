@@ -3,3 +3,4 @@ pub mod Numbers
 pub mod Lines
 pub mod Judged
 pub mod Spans
+pub mod Records

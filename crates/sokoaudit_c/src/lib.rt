@@ -1,12 +1,14 @@
 //! The library for C: verdicts in numbers, the report of an audit, made answers and a map, over bytes that the caller lends.
 //!
-//! The module `verdicts` exports the verdicts on a collection, and `judge` the verdict on one level and one record. The first
-//! three exports of this module each call one function of the library `report`. They state what its clauses say of a text that is
-//! read whole, with a buffer in the place of the sink. `sokoaudit_fault_text` states how much of its buffer it leaves alone.
+//! The module `verdicts` exports the verdicts on a collection, `judge` the verdict on one level and one record, and `spans` and
+//! `records` where levels and records are. The first three exports of this module each call one function of the library `report`.
+//! They state what its clauses say of a text that is read whole, with a buffer in the place of the sink. `sokoaudit_fault_text`
+//! states how much of its buffer it leaves alone.
 //! `include/sokoaudit.h` explains to callers from C what each call takes, writes and returns.
 //!
 //! Read `specs/Outcome.antt` for what a call leaves in the memory that it is lent, `specs/Numbers.antt` and
-//! `specs/Lines.antt` for the numbers of verdicts and what they claim, and `specs/Judged.antt` for the texts around a body.
+//! `specs/Lines.antt` for the numbers of verdicts and what they claim, `specs/Judged.antt` for the texts around a body, and
+//! `specs/Spans.antt` and `specs/Records.antt` for what levels and records have in their texts.
 #![tactic(auto)]
 
 ghost use Rattle.std.specs.Prelude.{◌≡◌, ◌≤◌, ◌<◌, ◌⊎◌, ℕ, List, length};
@@ -26,6 +28,7 @@ ghost use Rattle.sokoaudit_c.specs.Outcome.{Holds, outcome_of_answers, outcome_o
 mod judge;
 mod numbers;
 mod outcome;
+mod records;
 mod spans;
 mod verdicts;
 
@@ -34,6 +37,7 @@ pub use judge::{Fault, bodies_without_end_are_judged, sokoaudit_judge};
 pub use numbers::Line;
 pub use outcome::Outcome;
 use outcome::{error_of, of_answers, of_error, of_map, of_report};
+pub use records::{RecordSpan, sokoaudit_records};
 use report::{DeadError, MOST_WORDS, Words, audit_texts, dead_map, make_answers};
 pub use spans::{Span, sokoaudit_levels};
 use std::alloc::Global;

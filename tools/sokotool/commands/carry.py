@@ -7,12 +7,11 @@ one of the most similar level is printed. The status is 1 if a record has no lev
 import argparse
 import sys
 
-from .. import answers, boards, levels, output, texts
+from .. import answers, forms, levels, output, texts
 from ..carrying import carried
 
 
 def arguments(parser: argparse.ArgumentParser) -> None:
-    """Adds the arguments of the command."""
     parser.add_argument("old", metavar="OLD.xsb", help="the levels as they were")
     parser.add_argument("answers", metavar="OLD.answers", help="the answers to them")
     parser.add_argument("new", metavar="NEW.xsb", help="the levels as they are")
@@ -21,7 +20,7 @@ def arguments(parser: argparse.ArgumentParser) -> None:
 def run(options: argparse.Namespace) -> int:
     old, new = (levels.read_file(name) for name in (options.old, options.new))
     read = answers.read_file(options.answers, len(old))
-    found = carried(read.records, boards.forms_of(old), boards.forms_of(new))
+    found = carried(read.records, forms.forms_of(old), forms.forms_of(new))
     lost = [record for record in read.records if record.level not in
             {read.records[at].level for several in found.values() for at, _ in several}]
     answers_name, new_name = map(texts.shown, (options.answers, options.new))

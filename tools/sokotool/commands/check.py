@@ -17,10 +17,9 @@ import math
 import os
 from typing import Dict, List, Optional, Sequence, Tuple
 
-from .. import (answers, auditor, blocks, boards, exports, memory, merging, own_files,
-                places, sheet, summary, system, texts, transaction)
-from ..changes import Snapshot
-from ..collection import BOTH, MOVES, PUSHES, Collection
+from .. import (answers, auditor, forms, level_texts, memory, merging, output, own_files, places,
+                sheet, sources, summary, system, texts, transaction)
+from ..builder import BOTH, MOVES, PUSHES, Collection
 from ..conversion import Conversion, Reading, code
 from ..outcomes import Result
 from ..own_files import (ANSWERS, KEPT_ANSWERS, KEPT_XSB, MEMORY, OTHER, PAGE, REPORT, SHEET, XSB,
@@ -35,7 +34,6 @@ ROUNDS = 3
 
 
 def arguments(parser: argparse.ArgumentParser) -> None:
-    """Adds the arguments of the command."""
     parser.add_argument("name", metavar="NAME", help="NAME.xsb, .answers, .report and .html are "
                         "written, and the former ones are read")
     parser.add_argument("exports", metavar="EXPORT", nargs="*",
@@ -91,7 +89,8 @@ def gathered(options: argparse.Namespace) -> Run:
     given = Run(options, Progress("check"), auditor.find())
     if options.solver and not system.ENDS_CHILDREN:
         given.shown.keep("this system ends the solver alone: what it starts may go on")
-    own_files.check_writable(options.name, *[SHEET] * options.csv)
+    for end in (*own_files.ENDS, *[SHEET] * options.csv, MEMORY):
+        output.check_writable(options.name + end)
     given.more = [(name, answers.read_file(name, rising=False)) for name in options.answers]
     read_exports(given)
     return given
@@ -107,21 +106,20 @@ def read_exports(given: Run) -> None:
     if not named:
         raise texts.Stop(f"would write over {texts.shown(options.exports[0])}: choose another "
                          "NAME, such as checked")
-    reading = Reading(exports.listed(named, is_own), options.best, options.encoding)
+    reading = Reading(sources.listed(named, is_own), options.best, options.encoding)
     remembered = memory.exports(own_files.bytes_of(given.name + MEMORY))
     found = reading.remembered(remembered)
-    for note in found.notes if found else ():
-        given.shown.keep(note.place.said(note.why))
+    for place, why in found.notes if found else ():
+        given.shown.keep(place.said(why))
     found = found or converted(given, reading)
     given.conversion = found.data()
     text, exported, others = found.files
-    given.exports = merging.collection(blocks.read(text))
+    given.exports = merging.collection(level_texts.read(text))
     given.origins = found.origins
     given.records = [record for it in (exported, others) for record in answers.read(it).records]
 
 
 def converted(given: Run, reading: Reading) -> Conversion:
-    """Converts the exports."""
     # loads all forms of exports
     from . import convert
     options = given.options
@@ -129,7 +127,7 @@ def converted(given: Run, reading: Reading) -> Conversion:
     notes: List[places.Problem] = []
 
     def say(place: places.Place, why: str, is_fault: bool) -> None:
-        (problems if is_fault else notes).append(places.Problem(place, why))
+        (problems if is_fault else notes).append((place, why))
         if not is_fault:
             given.shown.keep(place.said(why))
 
@@ -138,8 +136,8 @@ def converted(given: Run, reading: Reading) -> Conversion:
     if not collection.count:
         whole = " ".join(options.exports)
         quotes = f"; put a name with blanks into quotes: '{texts.shown(whole)}'"
-        for problem in problems:
-            given.shown.keep(problem.place.said(problem.why))
+        for place, why in problems:
+            given.shown.keep(place.said(why))
         raise texts.Stop("these files have no level" + quotes * (
             len(options.exports) > 1 and os.path.exists(whole)))
     others = answers.text([record for _, record in sorted(collection.others.items())])
@@ -156,7 +154,13 @@ def settled(given: Run, state: Optional[State] = None) -> State:
         try:
             with own_files.alone(given.name, given.shown):
                 made = state or State(given)
-                write(given, made)
+                made.audit(given)
+                given.shown.show("writing")
+                files = contents(given, made)
+                with unbroken():
+                    made.files.write(files)
+                given.has_backups = made.files.has_backups
+                given.written.update(made.files.written)
                 return made
         except transaction.Changed as changed:
             if state:
@@ -167,17 +171,6 @@ def settled(given: Run, state: Optional[State] = None) -> State:
     with own_files.alone(given.name, given.shown):
         more = ", and the next run has what was found" if given.keep() else ""
     raise texts.Stop(f"{why}, again and again: the files are as they were{more}")
-
-
-def write(given: Run, state: State) -> None:
-    """Audits, and writes the files."""
-    state.audit(given)
-    given.shown.show("writing")
-    files = contents(given, state)
-    with unbroken():
-        state.files.write(files)
-    given.has_backups = state.files.has_backups
-    given.written.update(state.files.written)
 
 
 def compared(given: Run) -> int:
@@ -200,15 +193,23 @@ def contents(given: Run, state: State) -> Dict[str, Optional[bytes]]:
                                        found=given.without(state.now.forms))
     kept_text, kept_answers = state.left.files()
     other = noted(given.program, state.pool.other_answers())
-    sources = given.origins.sources(state.merged.written.places)
-    table = {SHEET: sheet_of(given.name, state.now, sources)} if given.options.csv else {}
+    own = texts.shown(os.path.basename(given.name)) + XSB
+    sources: Dict[int, page.Source] = {
+        number: {"file": texts.shown(place.published), "line": place.line, "left": left}
+        for number, (place, left) in given.origins.sources(state.merged.written.places).items()}
+    table = {SHEET: sheet.text([
+        (level, line, it["file"], it["line"])
+        for level, line in zip(state.now.levels, state.now.lines)
+        for it in [sources.get(level.number, {"file": own, "line": level.line})]
+    ])} if given.options.csv else {}
     files = [state.text, state.answers, state.report]
-    froms = [(number, page.source_of(it)) for number, it in sources.items()]
     made_of = texts.digest(b"\n".join([ascii([
-        code(), page.skeleton(), page_names(given), froms]).encode(), *files]))
+        code(), page.skeleton(), page_names(given), sources]).encode(), *files]))
     made = state.files.now.get(PAGE) or b""
     if state.memory.made.get(PAGE) != f"{made_of} {texts.digest(made)}":
-        made = page_of(given, files, sources)
+        made, fault = page.written(files, page_names(given), sources=sources)
+        if fault:
+            raise texts.Stop(f"the report isn't of these levels and answers: {fault}")
     if not given.options.compare:
         digests = {PAGE: f"{made_of} {texts.digest(made)}", OTHER: texts.digest(other)}
         if all(state.now.lines[number - 1].is_answered for number in state.pool.chosen):
@@ -220,15 +221,6 @@ def contents(given: Run, state: State) -> Dict[str, Optional[bytes]]:
             MEMORY: memory.text(remembered)}
 
 
-def sheet_of(name: str, now: Snapshot, sources: Dict[int, places.Source]) -> bytes:
-    """Returns the table of the levels, with the file and line from which each comes."""
-    own = texts.shown(os.path.basename(name)) + XSB
-    froms = {number: (texts.shown(source.place.published), source.place.line)
-             for number, source in sources.items()}
-    return sheet.text([(level, line, *froms.get(level.number, (own, level.line)))
-                       for level, line in zip(now.levels, now.lines)])
-
-
 # ---- the search
 
 def searched(given: Run, state: State) -> State:
@@ -237,19 +229,19 @@ def searched(given: Run, state: State) -> State:
     if not (given.options.solver or given.options.seconds > 0 < given.options.search):
         return state
 
-    def take(way: str, results: Sequence[Tuple[boards.Form, Result]]) -> None:
+    def take(way: str, results: Sequence[Tuple[forms.Form, Result]]) -> None:
         nonlocal state
         for form, result in results:
             for outcomes in (known, given.outcomes):
-                outcomes.keep(form, way, result.what, result.seconds)
+                outcomes.keep(form.digest, way, result.what, result.seconds)
             if result.record:
                 given.found.append((form, answers.answer_of(result.record)))
         state = settled(given, state)
 
     # loads the search and the solvers
     from .. import rounds
-    rounds.search(given.shown, rounds.ways(given.options, given.program),
-                  lambda: state.unanswered(), known, take)
+    rounds.search(rounds.ways(given.options, given.program, given.shown, known),
+                  lambda: state.unanswered(), take)
     return state
 
 
@@ -265,14 +257,6 @@ def report(given: Run, state: State) -> int:
     for said in summary.lines(given, state, problems):
         print(said)
     return int(bool(problems) or not all(line.is_answered for line in state.now.lines))
-
-
-def page_of(given: Run, files: List[bytes], sources: Dict[int, places.Source]) -> bytes:
-    """Returns the page of the three files, with the sources of the levels."""
-    made, fault = page.written(files, page_names(given), sources=sources)
-    if fault:
-        raise texts.Stop(f"the report isn't of these levels and answers: {fault}")
-    return made
 
 
 def page_names(given: Run) -> List[str]:

@@ -14,9 +14,8 @@ import re
 import sys
 from typing import List, Optional, Sequence, Tuple
 
-from .. import collection as collections
-from .. import answers, exports, levels, output, own_files, texts
-from ..collection import Collection
+from .. import answers, builder, levels, output, own_files, sources, texts
+from ..builder import Collection
 from ..formats import dress, entries, foreign, letters, lists, plain, slc
 from ..places import Place
 from . import encoding_argument
@@ -27,12 +26,11 @@ _DRAWN = re.compile(r"#[-_ #]*[@$.*+][-_ #@$.*+]+#")
 
 
 def arguments(parser: argparse.ArgumentParser) -> None:
-    """Adds the arguments of the command."""
     parser.add_argument("name", metavar="NAME",
                         help="the files NAME.xsb and NAME.answers are written")
     parser.add_argument("files", metavar="FILE", nargs="+",
                         help="an export, or a folder of them; - is standard input")
-    parser.add_argument("--best", choices=[collections.MOVES, collections.PUSHES], default="",
+    parser.add_argument("--best", choices=[builder.MOVES, builder.PUSHES], default="",
                         help="keep the solution with the fewest moves or pushes instead of the "
                              "first one")
     parser.add_argument("--replace", action="store_true",
@@ -46,7 +44,7 @@ def arguments(parser: argparse.ArgumentParser) -> None:
 def run(options: argparse.Namespace) -> int:
     """Converts the files, and reports how much was read."""
     own_files.check_name(options.name)
-    listed = exports.listed(options.files, own_files.own(options.name))
+    listed = sources.listed(options.files, own_files.own(options.name))
     files = [export.name for export in listed]
     _check_inputs(files, [options.name + end for end in (own_files.XSB, own_files.ANSWERS)])
     said = 0
@@ -61,7 +59,7 @@ def run(options: argparse.Namespace) -> int:
     read_files(collection, listed)
     if said > MOST_MESSAGES:
         print(f"convert: {said - MOST_MESSAGES} more messages", file=sys.stderr)
-    written = [file for pair in collection.parts(options.name) for file in pair]
+    written = collection.files(options.name)
     _check_inputs(files, [name for name, _ in written])
     output.write_files(_replaced(written, options.replace) + written)
     print(f"convert: {collection.summary()}", file=sys.stderr)
@@ -91,12 +89,12 @@ def _check_inputs(files: Sequence[str], written: Sequence[str]) -> None:
 
 # ---- what to read
 
-def read_files(collection: Collection, listed: Sequence[exports.Export]) -> None:
+def read_files(collection: Collection, listed: Sequence[sources.Export]) -> None:
     """Reads exports into the collection, but no other file that sokotool wrote for some NAME than
     its levels and answers. A file that can't be read is reported, unless it is the only one."""
     before: Tuple[str, int] = ("", 0)
     waiting = lists.Lists(collection)
-    collection.names = names = exports.published([export.name for export in listed])
+    collection.names = names = sources.published([export.name for export in listed])
     for export in listed:
         try:
             data = export.read()
@@ -112,7 +110,7 @@ def read_files(collection: Collection, listed: Sequence[exports.Export]) -> None
             collection.end_level()
         collection.file, collection.published = export.name, name
         if answers.is_begun(data):
-            _read_answers(collection, data, exports.levels_of(export, listed), waiting)
+            _read_answers(collection, data, sources.levels_of(export, listed), waiting)
         elif export.end == ".sol":
             _read_solution(collection, data, before, waiting)
         else:
@@ -125,7 +123,7 @@ def read_files(collection: Collection, listed: Sequence[exports.Export]) -> None
     collection.report_idle()
 
 
-def _read_answers(collection: Collection, data: bytes, its_levels: Optional[exports.Export],
+def _read_answers(collection: Collection, data: bytes, its_levels: Optional[sources.Export],
                   waiting: lists.Lists) -> None:
     """Reads answers that sokotool or sokoaudit wrote to the levels of another export."""
     if its_levels is None:
@@ -144,7 +142,10 @@ def _read_answers(collection: Collection, data: bytes, its_levels: Optional[expo
 def _read_levels(collection: Collection, data: bytes, is_found: bool, waiting: lists.Lists) -> None:
     text, coding = texts.text_of(data, collection.encoding)
     game = foreign.game_of(text) if text else ""
-    if is_found and (game or _is_idle(data, text)):
+    lines = dress.lines_of(text) if text and not game else []
+    is_slc = slc.is_slc(text or "")
+    is_list = not is_slc and entries.is_list(lines)
+    if is_found and (game or not is_slc and not is_list and _is_idle(data, text, lines)):
         collection.idle.setdefault(game, []).append(collection.published)
         return
     if game:
@@ -153,14 +154,13 @@ def _read_levels(collection: Collection, data: bytes, is_found: bool, waiting: l
     _report_coding(collection, text, coding)
     if text is None:
         return
-    lines = dress.lines_of(text)
-    if not slc.is_slc(text) and entries.is_list(lines):
+    if is_list:
         waiting.add(collection.file, lines, collection.published if is_found else "")
         return
     if collection.file != "-":
         collection.add_text(collection.source())
     count = collection.total
-    if slc.is_slc(text):
+    if is_slc:
         slc.read(collection, data, text)
     else:
         plain.read(collection, lines)
@@ -168,13 +168,12 @@ def _read_levels(collection: Collection, data: bytes, is_found: bool, waiting: l
         collection.fault(1, "no level in this file")
 
 
-def _is_idle(data: bytes, text: Optional[str]) -> bool:
+def _is_idle(data: bytes, text: Optional[str], lines: List[str]) -> bool:
     """Returns whether a file has neither a row nor letters, nor anything that looks like them."""
     if text is None:
         return not any(len(line) > 2 and levels.is_row(line)
                        for line in texts.lines(data.replace(b"\0", b"")))
-    lines = dress.lines_of(text)
-    if slc.is_slc(text) or entries.is_list(lines) or _DRAWN.search(text):
+    if _DRAWN.search(text):
         return False
     tried = Collection(split=True)
     plain.read(tried, lines)

@@ -8,11 +8,10 @@ import argparse
 import json
 from typing import Iterator, Sequence
 
-from .. import boards, change_page, changes, levels, output, report, texts
+from .. import change_page, changes, forms, levels, output, report, texts
 
 
 def arguments(parser: argparse.ArgumentParser) -> None:
-    """Adds the arguments of the command."""
     parser.add_argument("old", metavar="OLD.xsb", help="the levels as they were")
     parser.add_argument("old_report", metavar="OLD.report", help="the report on them")
     parser.add_argument("new", metavar="NEW.xsb", help="the levels as they are")
@@ -29,23 +28,18 @@ def run(options: argparse.Namespace) -> int:
     if options.page:
         names = [texts.shown(options.old), texts.shown(options.new)]
         output.write_files([(options.page, change_page.text(old, new, found, names))])
-    for line in map(_object, found) if options.json else lines(found):
+    objects = (json.dumps({"change": it.kind, "level": it.level or None, "was": it.was or None,
+                           "title": it.title, "words": it.words}) for it in found)
+    for line in objects if options.json else lines(found):
         print(line)
     return int(bool(found))
 
 
 def state(levels_name: str, report_name: str) -> changes.Snapshot:
-    """Returns the levels of a file with a report on them."""
     found = levels.read_file(levels_name)
     read = report.read(texts.read(report_name))
     report.demand(read, report_name, levels_name, len(found))
-    return changes.Snapshot(found, boards.forms_of(found), read.lines)
-
-
-def _object(change: changes.Change) -> str:
-    return json.dumps({"change": change.kind, "level": change.level or None,
-                       "was": change.was or None,
-                       "title": change.title, "words": change.words})
+    return changes.Snapshot(found, forms.forms_of(found), read.lines)
 
 
 def lines(found: Sequence[changes.Change]) -> Iterator[str]:

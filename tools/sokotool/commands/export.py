@@ -11,12 +11,13 @@ a solution would not come back, or if a solution was left out."""
 import argparse
 import os
 import sys
-from typing import Dict, Iterator, List, Tuple
+from typing import Dict, Iterator, List, Sequence, Tuple
 
-from .. import answers, game, levels, output, texts
-from ..collection import BOTH, Collection
-from ..formats import dress, plain, slc, written
-from ..formats.written import Solution
+from .. import answers, levels, output, texts
+from ..board import board_of
+from ..builder import BOTH, Collection
+from ..formats import dress, exporting, plain, slc
+from ..formats.exporting import Solution
 from ..own_files import ANSWERS, OTHER
 
 
@@ -25,9 +26,8 @@ NEAR = 5
 
 
 def arguments(parser: argparse.ArgumentParser) -> None:
-    """Adds the arguments of the command."""
     parser.add_argument("name", metavar="NAME", help="NAME.xsb and NAME.answers are read")
-    parser.add_argument("--to", choices=sorted(written.FORMS), required=True, help="the form")
+    parser.add_argument("--to", choices=sorted(exporting.FORMS), required=True, help="the form")
 
 
 def run(options: argparse.Namespace) -> int:
@@ -40,9 +40,9 @@ def run(options: argparse.Namespace) -> int:
     solutions, certificates, faults = solutions_of(options.name + ANSWERS, found)
     others, _, more = solutions_of(options.name + OTHER, found)
     faults += more
-    content = written.content_of(data, found, solutions, others)
-    text = "".join(line + "\n" for line in written.FORMS[options.to](content)).encode()
-    faults += differences_of(content, text)
+    head, entries = exporting.content_of(data, found, solutions, others)
+    text = "".join(line + "\n" for line in exporting.FORMS[options.to](head, entries)).encode()
+    faults += differences_of(entries, text)
     for line in faults:
         print(f"export: {line}", file=sys.stderr)
     output.put(text)
@@ -59,11 +59,12 @@ def solutions_of(name: str, found: List[levels.Level]
     there is such a file, how many certificates there are, and what is wrong."""
     data = texts.read(name) if os.path.exists(name) else answers.text([])
     records = answers.read_text(name, data, len(found), rising=False).records
-    solutions, faults = {}, []
+    solutions: Dict[int, Solution] = {}
+    faults = []
     for record in records:
         if record.kind != "solution":
             continue
-        board = game.board_of(found[record.level - 1])
+        board = board_of(found[record.level - 1])
         why = board.replay(record.letters).fault if board.player is not None else "board player"
         if why:
             faults.append(f"{texts.shown(name)} line {record.line}: not exported, as it is refused "
@@ -71,14 +72,14 @@ def solutions_of(name: str, found: List[levels.Level]
         else:
             notes = [texts.decoded(line) for line in record.answer.comments]
             letters = record.letters.translate(None, b" \t\r").decode()
-            solutions[record.level] = Solution(letters, notes)
+            solutions[record.level] = letters, notes
     certificates = sum(record.kind != "solution" for record in records)
     return solutions, certificates, faults
 
 
 # ---- there and back
 
-def read_back(text: bytes, best: str) -> List[written.Entry]:
+def read_back(text: bytes, best: str) -> List[exporting.Entry]:
     """Returns the levels of an exported text as convert or check reads them."""
     collection = Collection(best)
     collection.file = "-"
@@ -88,19 +89,19 @@ def read_back(text: bytes, best: str) -> List[written.Entry]:
     else:
         plain.read(collection, dress.lines_of(decoded))
     collection.end_level()
-    (_, data), (_, solved) = collection.files("")
+    ((data, solved),) = collection.parts()
     found = levels.read(data)
-    solutions, others = ({record.level: Solution(record.letters.decode())
+    solutions, others = ({record.level: (record.letters.decode(), ())
                           for record in answers.read(text).records}
                          for text in (solved, answers.text([*collection.others.values()])))
-    return written.content_of(data, found, solutions, others).entries
+    return exporting.content_of(data, found, solutions, others)[1]
 
 
-def differences_of(content: written.Content, text: bytes) -> Iterator[str]:
+def differences_of(entries: Sequence[exporting.Entry], text: bytes) -> Iterator[str]:
     """Yields what of a collection an exported text would not give back, in words."""
-    best = BOTH if any(entry.other for entry in content.entries) else ""
+    best = BOTH if any(entry.other for entry in entries) else ""
     found, at = read_back(text, best), 0
-    for number, entry in enumerate(content.entries, 1):
+    for number, entry in enumerate(entries, 1):
         near = [index for index in range(at, min(len(found), at + NEAR))
                 if found[index].rows == entry.rows]
         if not near:
@@ -111,5 +112,5 @@ def differences_of(content: written.Content, text: bytes) -> Iterator[str]:
             yield f"level {number}: its title is not the same when it is read again"
         if {entry.letters, entry.other} != {back.letters, back.other}:
             yield f"level {number}: its solution is not the same when it is read again"
-    if len(found) > len(content.entries):
+    if len(found) > len(entries):
         yield f"there are {texts.count(len(found), 'level')} when it is read again"

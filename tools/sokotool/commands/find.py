@@ -25,7 +25,6 @@ NAMES = {"found": (FOUND,), "solvable": (SOLVABLE,), "stopped": (LATE,),
 
 
 def arguments(parser: argparse.ArgumentParser) -> None:
-    """Adds the arguments of the command."""
     parser.add_argument("levels", metavar="LEVELS", help="the levels file; - is standard input")
     parser.add_argument("report", metavar="REPORT", nargs="?",
                         help="a report on them: look only at the levels that are missing there")
@@ -48,22 +47,23 @@ def run(options: argparse.Namespace) -> int:
     def done() -> str:
         return f"{sum(counts.values())} of {len(found)} done, {answered()} found"
 
-    def add(result: Result) -> int:
-        count = put(result.record)
+    def add(result: Result) -> None:
+        output.put(result.record)
         counts[result.what] += 1
         shown.keep(f"level {result.level.number}: {result.words} ({done()})")
-        return count
 
     search = Searches(found, Limits(options.seconds, math.inf, options.jobs), Budget(math.inf),
                       is_ordered=True)
-    printed = put(answers.text([]))
-    status = 130
+    head, status = answers.text([]), 130
+    output.put(head)
+    printed = len(head)
     try:
         for result in search.results(lambda: shown.show(f"{done()}: {search.at_work()}")):
             if printed + len(result.record) > texts.MOST_BYTES:
                 result = result._replace(what=LONG, record=b"", words=WORDS[LONG])
             with unbroken():
-                printed += add(result)
+                add(result)
+            printed += len(result.record)
         status = int(answered() < len(found))
     except KeyboardInterrupt:
         for result in search.rest():
@@ -74,14 +74,7 @@ def run(options: argparse.Namespace) -> int:
     return status
 
 
-def put(text: bytes) -> int:
-    """Writes to standard output at once. Returns the number of bytes."""
-    output.put(text)
-    return len(text)
-
-
 def chosen(every: List[levels.Level], options: argparse.Namespace) -> List[levels.Level]:
-    """Returns the levels to look at."""
     if not every:
         raise texts.Stop(f"{texts.shown(options.levels)} has no level")
     if not options.report:

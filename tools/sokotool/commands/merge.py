@@ -12,13 +12,11 @@ from .. import answers, levels, output, texts
 
 
 def arguments(parser: argparse.ArgumentParser) -> None:
-    """Adds the arguments of the command."""
     parser.add_argument("answers", metavar="ANSWERS", nargs="+",
                         help="an answers file; - is standard input")
 
 
 def run(options: argparse.Namespace) -> int:
-    """Prints the joined answers file."""
     texts.check_names(options.answers)
     kept: Dict[int, answers.Record] = {}
     version = 1

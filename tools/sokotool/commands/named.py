@@ -9,14 +9,13 @@ import argparse
 import json
 import sys
 
-from .. import boards, levels, messages, report, sheet, texts
+from .. import forms, levels, messages, report, sheet, texts
 
 # the version of the form of objects
 VERSION = 1
 
 
 def arguments(parser: argparse.ArgumentParser) -> None:
-    """Adds the arguments of the command."""
     parser.add_argument("levels", metavar="LEVELS", help="the levels file of the audit")
     parser.add_argument("report", metavar="REPORT",
                         help="the report of the audit; - is standard input")
@@ -42,7 +41,7 @@ def run(options: argparse.Namespace) -> int:
             if line and level:
                 print(json.dumps({"version": VERSION, **line.fields(), "file": name,
                                   "line": level.line, "title": level.title,
-                                  "board": boards.form_of(level).digest,
+                                  "board": forms.form_of(level).digest,
                                   **({"reason": messages.reason(level, line)}
                                      if line.status == "refused" else {})}))
         else:

@@ -14,15 +14,17 @@ import re
 import sys
 from typing import Any, Dict, List, Optional, Sequence, Tuple
 
-from .. import answers, game, levels, messages, places, report, texts
+from .. import answers, levels, messages, report, texts
+from ..board import Board, board_of
 
 _MARK = re.compile(r"@([A-Za-z.]+)@")
 # how many rows and characters of a row are drawn; no legal level has more
 _MOST_SIDE = 255
+# the file and the line of a level, and what was left out of it
+Source = Dict[str, Any]
 
 
 def arguments(parser: argparse.ArgumentParser) -> None:
-    """Adds the arguments of the command."""
     parser.add_argument("levels", metavar="LEVELS", help="the levels file of the audit")
     parser.add_argument("answers", metavar="ANSWERS", help="the answers file of the audit")
     parser.add_argument("report", metavar="REPORT", help="the report of the audit")
@@ -44,7 +46,7 @@ def run(options: argparse.Namespace) -> int:
 
 
 def written(files: Sequence[bytes], names: List[str], above: str = "",
-            sources: Optional[Dict[int, places.Source]] = None) -> Tuple[bytes, Optional[str]]:
+            sources: Optional[Dict[int, Source]] = None) -> Tuple[bytes, Optional[str]]:
     """Returns the page of levels, answers and report with some HTML above it, and why the report
     is of others, or None. `sources` has where the levels come from, by their numbers."""
     found = levels.read_within(files[0], names[0])
@@ -55,10 +57,17 @@ def written(files: Sequence[bytes], names: List[str], above: str = "",
         fault = difference(found, records, read)
     except answers.Fault as wrong:
         fault = f"answers line {wrong.line} {wrong.why}"
-    data = {"names": names, "fault": fault or "", "levels": [_level_of(level) for level in found],
-            "records": {number: _record_of(record) for number, record in records.items()},
-            "verdicts": {line.level: _verdict_of(line) for line in read.lines},
-            "sources": {number: source_of(source) for number, source in (sources or {}).items()}}
+    # Letters and rows have one character for each byte.
+    data = {"names": names, "fault": fault or "",
+            "levels": [{"number": level.number, "line": level.line, "title": level.title,
+                        "rows": [row[:_MOST_SIDE].decode("latin-1")
+                                 for row in level.rows[:_MOST_SIDE]]} for level in found],
+            "records": {number: {"kind": record.kind, "body": [
+                [at, line.decode("latin-1")] for at, line in record.body]}
+                        for number, record in records.items()},
+            "verdicts": {line.level: {"status": line.status, "words": line.words, "line": line.text}
+                         for line in read.lines},
+            "sources": sources or {}}
     return _page_of(data, above), fault
 
 
@@ -71,12 +80,12 @@ def difference(found: Sequence[levels.Level], records: Dict[int, answers.Record]
     if fault:
         return fault
     for level, line in zip(found, read.lines):
-        if not is_of(game.board_of(level), records.get(level.number), line):
+        if not is_of(board_of(level), records.get(level.number), line):
             return f"its line '{line.text}' isn't what this level and its answer give"
     return None
 
 
-def is_of(board: game.Board, record: Optional[answers.Record], line: report.Line) -> bool:
+def is_of(board: Board, record: Optional[answers.Record], line: report.Line) -> bool:
     """Returns whether a report line can be the one on a level and its record. Certificates aren't
     checked."""
     said = line.said
@@ -92,36 +101,10 @@ def is_of(board: game.Board, record: Optional[answers.Record], line: report.Line
                         f"changes {replay.changes}")
     if said.startswith("refused line"):
         return any(str(number) == line.words[1] for number, _ in record.body)
-    return said in ("refused start", "unsolvable " + _size_of(record))
-
-
-def _size_of(record: answers.Record) -> str:
-    """Returns the report's words on an accepted certificate: its kind and size."""
-    if len(record.body) == 1 and record.body[0][1].startswith(b"zone "):
-        return f"zone {record.body[0][1].count(b',')}"
-    return f"patterns {len(record.body)}"
-
-
-# ---- the data of the page's script: letters and rows have one character for each byte
-
-def _level_of(level: levels.Level) -> Dict[str, Any]:
-    return {"number": level.number, "line": level.line, "title": level.title,
-            "rows": [row[:_MOST_SIDE].decode("latin-1") for row in level.rows[:_MOST_SIDE]]}
-
-
-def _record_of(record: answers.Record) -> Dict[str, Any]:
-    return {"kind": record.kind,
-            "body": [[number, line.decode("latin-1")] for number, line in record.body]}
-
-
-def _verdict_of(line: report.Line) -> Dict[str, Any]:
-    return {"status": line.status, "words": line.words, "line": line.text}
-
-
-def source_of(source: places.Source) -> Dict[str, Any]:
-    """Returns where a level comes from."""
-    return {"file": texts.shown(source.place.published), "line": source.place.line,
-            "left": source.left}
+    body = [text for _, text in record.body]
+    is_zone = len(body) == 1 and body[0].startswith(b"zone ")
+    size = f"zone {body[0].count(b',')}" if is_zone else f"patterns {len(body)}"
+    return said in ("refused start", "unsolvable " + size)
 
 
 # ---- the page
@@ -143,9 +126,10 @@ def _page_of(data: Dict[str, Any], above: str) -> bytes:
     """Returns the page of some data. It runs no script but those whose checksums its policy has."""
     page = skeleton()
     scripts = re.findall(r"<script>(.*?)</script>", page + above, re.S)
+    sums = [base64.b64encode(hashlib.sha256(it.encode()).digest()).decode() for it in scripts]
     # No text may end the block of the data: '<' is escaped.
     values = {"DATA": json.dumps(data).replace("<", "\\u003c"),
-              "POLICY": " ".join(map(_checksum, scripts))}
+              "POLICY": " ".join(f"'sha256-{it}'" for it in sums)}
     page = _MARK.sub(lambda mark: values.get(mark[1], mark[0]), page)
     return page.replace("<body>\n", "<body>\n" + above, 1).encode("utf-8")
 
@@ -153,9 +137,3 @@ def _page_of(data: Dict[str, Any], above: str) -> bytes:
 def words() -> str:
     """Returns what each refusal and each error means, and what to do, for the page's script."""
     return json.dumps({**messages.REFUSALS, **messages.ERRORS})
-
-
-def _checksum(script: str) -> str:
-    """Returns how a policy names a script."""
-    digest = hashlib.sha256(script.encode()).digest()
-    return f"'sha256-{base64.b64encode(digest).decode()}'"

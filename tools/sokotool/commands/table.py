@@ -29,7 +29,6 @@ STANDINGS_HEAD = ("place", "entrant", "solved", "unsolvable", "refused", "missin
 
 
 def arguments(parser: argparse.ArgumentParser) -> None:
-    """Adds the arguments of the command."""
     parser.add_argument("levels", metavar="LEVELS", help="the levels; - is standard input")
     parser.add_argument("entrants", metavar="ENTRANT.answers", nargs="+",
                         help="the answers of an entrant, who is named after the file")

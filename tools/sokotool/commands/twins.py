@@ -6,11 +6,10 @@ authors of the two. With several files it shows which levels of a collection are
 The status is 1 if something is printed."""
 import argparse
 
-from .. import boards, levels, texts
+from .. import forms, levels, texts
 
 
 def arguments(parser: argparse.ArgumentParser) -> None:
-    """Adds the arguments of the command."""
     parser.add_argument("levels", metavar="LEVELS", nargs="+",
                         help="a levels file; - is standard input")
 
@@ -23,7 +22,7 @@ def run(options: argparse.Namespace) -> int:
         if not several:
             raise texts.Stop(f"{texts.shown(name)} has no level")
         found += [(texts.shown(name), level) for level in several]
-    duplicates = boards.duplicates_of(boards.forms_of(level for _, level in found))
+    duplicates = forms.duplicates_of(forms.forms_of(level for _, level in found))
     for later, first, turn in duplicates:
         both = [found[later], found[first]]
         print(*(f"level {level.number}\t{name}:{level.line}" for name, level in both), turn.words,

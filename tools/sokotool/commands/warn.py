@@ -7,7 +7,8 @@ import argparse
 import re
 from typing import Iterator, List, Sequence, Tuple
 
-from .. import game, levels, output, texts
+from .. import levels, output, texts
+from ..board import Board
 from ..formats import plain, rows
 
 MOST_PRINTED = 1000
@@ -19,23 +20,26 @@ Warning = Tuple[int, str]
 
 
 def arguments(parser: argparse.ArgumentParser) -> None:
-    """Adds the arguments of the command."""
     parser.add_argument("levels", metavar="LEVELS", nargs="+",
                         help="a levels file; - is standard input")
 
 
 def run(options: argparse.Namespace) -> int:
-    """Prints the warnings of all files."""
     texts.check_names(options.levels)
     return int(sum([_warn_of(name) for name in options.levels]) > 0)
 
 
 def _warn_of(name: str) -> int:
     """Prints the warnings about a file, and returns how many there are."""
-    data = texts.read(name)
-    if data.startswith(texts.MARK):
-        data = data[len(texts.MARK):]
-    found, count = _first([_of_levels(data), _of_coding(data), _of_lines(texts.lines(data))])
+    data = texts.unmarked(texts.read(name))
+    found: List[Warning] = []
+    count = 0
+    # the first warnings of each kind
+    for kind in (_of_levels(data), _of_coding(data), _of_lines(texts.lines(data))):
+        for at, warning in enumerate(kind):
+            count += 1
+            if at < MOST_PRINTED:
+                found.append(warning)
     shown = texts.shown(name)
     said = [f"{shown} line {line}: {why}\n" for line, why in sorted(found)]
     if count > len(found):
@@ -44,22 +48,10 @@ def _warn_of(name: str) -> int:
     return count
 
 
-def _first(kinds: Sequence[Iterator[Warning]]) -> Tuple[List[Warning], int]:
-    """Returns the first warnings of each kind, and how many warnings there are."""
-    found: List[Warning] = []
-    count = 0
-    for kind in kinds:
-        for at, warning in enumerate(kind):
-            count += 1
-            if at < MOST_PRINTED:
-                found.append(warning)
-    return found, count
-
-
 def _of_levels(data: bytes) -> Iterator[Warning]:
     listed = levels.read(data, levels.MOST_LEVELS + 1)
     for level in listed[:levels.MOST_LEVELS]:
-        doubt = game.Board(level).doubt
+        doubt = Board(level).doubt
         if doubt:
             yield level.line, f"level {level.number} {doubt}"
     if len(listed) > levels.MOST_LEVELS:

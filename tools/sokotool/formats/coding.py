@@ -24,7 +24,14 @@ def is_coded(text: str) -> bool:
 
 def expand(text: str, most: int) -> str:
     """Returns a coded text written out, up to `most` characters. Never builds anything longer."""
-    groups, times = [_Group(1)], None
+    # the open groups: how often each is repeated, and its text so far
+    groups, times = [(1, io.StringIO())], None
+
+    def add(text: str, times: int) -> None:
+        if groups[-1][1].tell() + len(text) * times > most:
+            raise TooLong(f"is longer than {most} when it is written out")
+        groups[-1][1].write(text * times)
+
     for number, bracket, plain in (match.groups() for match in _TOKEN.finditer(text)):
         if number:
             # No number of ten digits is within a limit.
@@ -32,7 +39,7 @@ def expand(text: str, most: int) -> str:
             continue
         repeats = 1 if times is None else times
         if bracket == "(":
-            groups.append(_Group(repeats))
+            groups.append((repeats, io.StringIO()))
             if len(groups) > DEEPEST + 1:
                 raise Wrong(f"has brackets more than {DEEPEST} deep")
         elif bracket:
@@ -40,28 +47,14 @@ def expand(text: str, most: int) -> str:
                 raise Wrong("has a number with nothing after it")
             if len(groups) == 1:
                 raise Wrong("has a closing bracket too many")
-            group = groups.pop()
-            groups[-1].add(group.text.getvalue(), group.repeats, most)
+            again, group = groups.pop()
+            add(group.getvalue(), again)
         else:
-            groups[-1].add(plain[0], repeats, most)
-            groups[-1].add(plain[1:], 1, most)
+            add(plain[0], repeats)
+            add(plain[1:], 1)
         times = None
     if times is not None:
         raise Wrong("has a number with nothing after it")
     if len(groups) > 1:
         raise Wrong("has an unclosed bracket")
-    return groups[0].text.getvalue()
-
-
-class _Group:
-    """An open group: how often it is repeated, and its text so far."""
-
-    def __init__(self, repeats: int) -> None:
-        self.repeats, self.length, self.text = repeats, 0, io.StringIO()
-
-    def add(self, text: str, times: int, most: int) -> None:
-        """Adds a text `times` times."""
-        self.length += len(text) * times
-        if self.length > most:
-            raise TooLong(f"is longer than {most} when it is written out")
-        self.text.write(text * times)
+    return groups[0][1].getvalue()

@@ -6,8 +6,9 @@ A line stays a line. Rows are taken only if they are dressed alike and are a leg
 import re
 from typing import Callable, Iterator, List, NamedTuple, Optional, Sequence, Tuple
 
-from .. import game, levels, texts
-from ..alphabet import ROW
+from .. import levels, texts
+from ..board import Board
+from ..levels import ROW
 from . import rows
 
 FEWEST = 3
@@ -92,7 +93,7 @@ def _is_level(drawn: Sequence[str]) -> bool:
     """Returns whether rows are a legal level."""
     if not FEWEST <= len(drawn) <= levels.LARGEST_SIDE:
         return False
-    return game.Board(levels.Level(1, [row.encode() for row in drawn], 1)).fault is None
+    return Board(levels.Level(1, [row.encode() for row in drawn], 1)).fault is None
 
 
 # ---- one line

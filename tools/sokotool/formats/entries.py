@@ -38,7 +38,6 @@ class Words(NamedTuple):
 
     @property
     def kind(self) -> int:
-        """The kind of the line."""
         return _kind_of(self.text)
 
 
@@ -77,7 +76,7 @@ def is_list(lines: Sequence[str]) -> bool:
     return (len(lines) <= MOST_LINES and not any(rows.is_plain(line) for line in lines)
             and max(map(len, lines), default=0) <= LONGEST
             and any(letters.are_alone(line) or _words(0, line, {}).letters for line in lines)
-            and not any(plain.rows_of(lines).rows))
+            and not any(plain.rows_of(lines)[0]))
 
 
 def entries(lines: Sequence[str], titles: Container[str]) -> Iterator[Entry]:

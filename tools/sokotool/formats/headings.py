@@ -35,15 +35,15 @@ _DRESS = re.compile(r"[\W\d_]*")
 
 
 def kind_of(line: str) -> int:
-    """Returns the kind of a line."""
     if not line or line.isspace():
         return BLANK
     if len(line) < SHORT and "#" not in line:
         return LETTERS if _LETTER.search(line) and letters.are_alone(line) else TEXT
     if letters.are_alone(line):
         return LETTERS
-    bare = undressed(line)
-    if is_plain_heading(bare):
+    bare = letters.untagged(line) or line
+    bare = bare[_DRESS.match(bare).end():]  # type: ignore[union-attr]
+    if _is_heading(bare):
         return HEADING
     if "#" in line and (rows.is_plain(line) or rows.why_no_row(line, False)):
         return WALLS
@@ -69,13 +69,7 @@ def _kind_of_words(line: str, bare: str) -> int:
     return KEY if is_key else TEXT
 
 
-def undressed(line: str) -> str:
-    """Returns a line without tags, marks and numbers in front."""
-    line = letters.untagged(line) or line
-    return line[_DRESS.match(line).end():]  # type: ignore[union-attr]
-
-
-def is_plain_heading(bare: str) -> bool:
+def _is_heading(bare: str) -> bool:
     """Returns whether a line without tags, marks and numbers in front can only be the heading of a
     solution."""
     match = _HEADING.match(bare)
@@ -96,11 +90,6 @@ def says_more(line: str) -> bool:
 def ends_in_letters(line: str) -> bool:
     """Returns whether a heading has nothing but letters after its colon."""
     return letters.are_alone(re.split("[:=]", line)[-1]) and bool(_KEY.match(line))
-
-
-def is_heading(tag: str) -> bool:
-    """Returns whether the name of an XML element heads a solution."""
-    return "solution" in tag.lower() or tag.lower() == "lurd"
 
 
 def other_game(line: str) -> Optional[str]:

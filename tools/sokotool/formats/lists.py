@@ -6,10 +6,11 @@ sokotool and sokoaudit go by the boards of their levels.
 """
 import os
 import re
-from typing import Dict, List, NamedTuple, Optional, Sequence, Tuple
+from typing import Dict, List, Optional, Sequence, Tuple
 
-from .. import answers, boards, carrying, game, levels, texts
-from ..collection import Attempt, Collection, Try
+from .. import answers, carrying, forms, levels, texts
+from ..board import board_of
+from ..builder import Attempt, Collection, Try
 from . import headings
 from .entries import DRESS, Entry, entries, key_of, names
 
@@ -20,36 +21,22 @@ _NUMBER = re.compile(r"\W*(?:[^\W\d_]+\W+){0,3}([0-9]{1,5})(?![0-9])")
 _BARE_NUMBER = re.compile(r"\W*(?:level|puzzle|no|nr|number)?\W*[0-9]+\W*", re.I)
 
 
-class Target(NamedTuple):
-    """A level: its collection (0, or more if it was split), its number there, and its board."""
-
-    part: int
-    number: int
-    board: game.Board
-    level: levels.Level
-
-
-class Export(NamedTuple):
-    """An export: its path without the end, and its levels, from `first` up to `end` of all."""
-
-    stem: str
-    first: int
-    end: int
-
-
 class Lists:
-    """The lists of a conversion. They are read after all levels."""
+    """The lists of a conversion. They are read after all levels. A level is known by its place
+    among all of them, from 0."""
 
     def __init__(self, collection: Collection) -> None:
         self.collection = collection
         self._lists: List[Tuple[str, Sequence[str], str]] = []
         # files of answers, with the forms of the levels that they count
-        self._answers: List[Tuple[str, Sequence[boards.Form], Sequence[answers.Record]]] = []
-        self._certificates: Dict[Tuple[int, int], bytes] = {}
-        self._exports: List[Export] = []
-        self._targets: List[Target] = []
-        self._by_title: Dict[str, List[Target]] = {}
-        self._found: Dict[Tuple[int, int], List[Try]] = {}
+        self._answers: List[Tuple[str, Sequence[forms.Form], Sequence[answers.Record]]] = []
+        self._certificates: Dict[int, bytes] = {}
+        # the exports by their paths without the end, with the places of their levels
+        self._exports: List[Tuple[str, range]] = []
+        # each level, with its collection: 0, or more if it was split
+        self._levels: List[Tuple[int, levels.Level]] = []
+        self._by_title: Dict[str, List[int]] = {}
+        self._found: Dict[int, List[Try]] = {}
         self._reported = 0
 
     def add(self, file: str, lines: Sequence[str], idle: str = "") -> None:
@@ -58,25 +45,26 @@ class Lists:
 
     def add_answers(self, file: str, its_levels: Sequence[levels.Level], found: answers.Answers
                     ) -> None:
-        """Adds answers to the levels of an export."""
-        self._answers.append((file, boards.forms_of(its_levels), found.records))
+        self._answers.append((file, forms.forms_of(its_levels), found.records))
 
     def add_export(self, file: str, first: int, end: int) -> None:
-        """Adds an export, whose levels are those from `first` up to `end`, counted from 0."""
+        """Adds an export, whose levels are those from `first` up to `end`."""
         if first < end:
-            self._exports.append(Export(os.path.splitext(file)[0], first, end))
+            self._exports.append((os.path.splitext(file)[0], range(first, end)))
 
     def place(self) -> None:
-        """Gives the solutions of all lists to their levels."""
         if not self._lists and not self._answers:
             return
-        parts = [*self.collection.full, (bytes(self.collection.text),
-                                         answers.text(self.collection.records))]
-        self._index([text for text, _ in parts])
+        parts = self.collection.parts()
+        self._levels = [(part, level) for part, (text, _) in enumerate(parts)
+                        for level in levels.read(text)]
+        for at, (_, level) in enumerate(self._levels):
+            for name in {key_of(level.title), key_of(level.title.strip(DRESS))} - {""}:
+                self._by_title.setdefault(name, []).append(at)
         for answered in self._answers:
             self._place_answers(*answered)
-        for file, lines, idle in self._lists:
-            self._read(file, lines, idle)
+        for listed in self._lists:
+            self._read(*listed)
         for part, (text, written) in enumerate(parts):
             records = self._joined(part, answers.read(written).records)
             if part < len(self.collection.full):
@@ -84,44 +72,38 @@ class Lists:
             else:
                 self.collection.records = records
 
-    def _index(self, parts: Sequence[bytes]) -> None:
-        for part, text in enumerate(parts):
-            for level in levels.read(text):
-                target = Target(part, level.number, game.board_of(level), level)
-                self._targets.append(target)
-                for name in {key_of(level.title), key_of(level.title.strip(DRESS))} - {""}:
-                    self._by_title.setdefault(name, []).append(target)
-
     # ---- answers
 
-    def _place_answers(self, file: str, forms: Sequence[boards.Form],
+    def _place_answers(self, file: str, its_forms: Sequence[forms.Form],
                        records: Sequence[answers.Record]) -> None:
         """Gives answers to the levels that have the boards of theirs. One that doesn't hold is
         reported once, although several levels may have its board."""
         whys: Dict[int, str] = {}
-        for part in sorted({target.part for target in self._targets}):
-            targets = [it for it in self._targets if it.part == part]
-            carried = carrying.carried(records, forms, boards.forms_of(it.level for it in targets))
+        for part in sorted({part for part, _ in self._levels}):
+            places = [at for at, (other, _) in enumerate(self._levels) if other == part]
+            carried = carrying.carried(records, its_forms,
+                                       forms.forms_of(self._levels[at][1] for at in places))
             for number, several in sorted(carried.items()):
                 for at, answer in several:
                     line = records[at].line
-                    why = self._place_answer(file, line, targets[number - 1], answer)
-                    whys.setdefault(line, why)
+                    whys.setdefault(line, self._place_answer(file, line, places[number - 1],
+                                                             answer))
         for record in records:
             why = whys.get(record.line, "no level has the board of this record")
             if why:
                 self._fault(file, record.line, why)
 
-    def _place_answer(self, file: str, line: int, target: Target, answer: answers.Answer) -> str:
+    def _place_answer(self, file: str, line: int, at: int, answer: answers.Answer) -> str:
         """Gives an answer to a level. Returns in words why it doesn't hold, or ""."""
+        level = self._levels[at][1]
         if answer.kind != "solution":
-            self._certificates.setdefault(target[:2], answer.record(target.number))
+            self._certificates.setdefault(at, answer.record(level.number))
             return ""
-        attempt = self.collection.attempt_on(target.board, answer.letters.decode("latin-1"))
+        attempt = self.collection.attempt_on(board_of(level), answer.letters.decode("latin-1"))
         if attempt.why:
-            return f"the solution of level {target.number} {attempt.why}"
+            return f"the solution of level {level.number} {attempt.why}"
         notes = [texts.decoded(it) for it in answer.comments]
-        self._found.setdefault(target[:2], []).append(Try(file, line, attempt, notes))
+        self._found.setdefault(at, []).append(Try(file, line, attempt, notes))
         return ""
 
     # ---- entries
@@ -129,7 +111,7 @@ class Lists:
     def _read(self, file: str, lines: Sequence[str], idle: str) -> None:
         self._reported = 0
         within = self._within(file)
-        groups: List[List[Target]] = []
+        groups: List[List[int]] = []
         rest: List[str] = []
         last: Optional[Try] = None
         for entry in entries(lines, self._by_title):
@@ -149,41 +131,35 @@ class Lists:
             if not self._reported:
                 self._fault(file, 1, "no level in this file")
 
-    def _named(self, within: Sequence[Export], entry: Entry) -> List[List[Target]]:
+    def _within(self, file: str) -> List[range]:
+        """Returns the places of the levels that a list counts: those of the exports of its name, or
+        of the only one."""
+        stem = os.path.splitext(file)[0]
+        name = os.path.basename(stem).lower()
+        return ([its for other, its in self._exports if other == stem]
+                or [its for other, its in self._exports if os.path.basename(other).lower() == name]
+                or [its for _, its in self._exports if len(self._exports) == 1])
+
+    def _named(self, within: Sequence[range], entry: Entry) -> List[List[int]]:
         """Returns the levels that the words of an entry may mean: those with a title, those with a
         number, and the only one of an export."""
-        by_title: List[Target] = []
-        by_number: List[Target] = []
+        by_title: List[int] = []
+        by_number: List[int] = []
         for words in reversed(entry.words):
             name_at = [words.front, words.text] if words.letters else [words.text]
             for name in dict.fromkeys(name for text in name_at for name in names(text)):
                 by_title += [it for it in self._by_title.get(name, ()) if it not in by_title]
-            number = _NUMBER.match(name_at[0])
-            if number:
-                by_number += [it for export in within for it in self._numbered(
-                    export, int(number.group(1))) if it not in by_number]
-        single = [self._targets[export.first] for export in within
-                  if export.end == export.first + 1]
+            match = _NUMBER.match(name_at[0])
+            number = int(match[1]) if match else 0
+            for its in within:
+                by_number += [at for at in its[number - 1:number] if at not in by_number]
+        single = [its[0] for its in within if len(its) == 1]
         groups = [by_title, by_number, single]
         return groups if any(groups) else []
 
-    def _within(self, file: str) -> List[Export]:
-        """Returns the exports in which a list counts its levels: those of the same name, or the
-        only one."""
-        stem = os.path.splitext(file)[0]
-        same = [it for it in self._exports if it.stem == stem]
-        name = os.path.basename(stem).lower()
-        same = same or [it for it in self._exports if os.path.basename(it.stem).lower() == name]
-        return same or (self._exports if len(self._exports) == 1 else [])
-
-    def _numbered(self, export: Export, number: int) -> List[Target]:
-        at = export.first + number - 1
-        return [self._targets[at]] if export.first <= at < export.end else []
-
-    def _placed(self, file: str, entry: Entry, groups: Sequence[Sequence[Target]]
-                ) -> Optional[Try]:
+    def _placed(self, file: str, entry: Entry, groups: Sequence[Sequence[int]]) -> Optional[Try]:
         """Gives an entry to its level, or reports it."""
-        failed: Optional[Tuple[Target, Attempt]] = None
+        failed: Optional[Tuple[int, Attempt]] = None
         for group in groups:
             solved = []
             for target in group:
@@ -197,16 +173,16 @@ class Lists:
                 solved = [it for it in solved if it[0] in others] or solved
             if len(solved) == 1:
                 found = Try(file, entry.line, solved[0][1], [])
-                self._found.setdefault(solved[0][0][:2], []).append(found)
+                self._found.setdefault(solved[0][0], []).append(found)
                 return found
             if solved:
-                numbers = ", ".join(str(target.number) for target, _ in solved)
+                numbers = ", ".join(str(self._levels[at][1].number) for at, _ in solved)
                 self._fault(file, entry.line,
                             f"a solution of levels {numbers}, which have the same title")
                 return None
         if entry.is_sure:
-            self._fault(file, entry.line,
-                        f"the solution of level {failed[0].number} {failed[1].why}" if failed
+            self._fault(file, entry.line, "the solution of level "
+                        f"{self._levels[failed[0]][1].number} {failed[1].why}" if failed
                         else "a solution with no level of its title or number")
         return None
 
@@ -214,9 +190,10 @@ class Lists:
         self._reported += 1
         self.collection.fault(line, why, file)
 
-    def _attempt(self, target: Target, entry: Entry) -> Optional[Attempt]:
+    def _attempt(self, at: int, entry: Entry) -> Optional[Attempt]:
         """Plays the letters of an entry on a level, as they solve it or as they were written."""
-        tried = [self.collection.attempt_on(target.board, text) for text in entry.readings]
+        board = board_of(self._levels[at][1])
+        tried = [self.collection.attempt_on(board, text) for text in entry.readings]
         return next((it for it in tried if it.why is None), tried[0] if tried else None)
 
     def _notes(self, entry: Entry) -> List[str]:
@@ -234,24 +211,24 @@ class Lists:
         own = {record.level: record.letters for record in records}
         others = {record.level: record.letters for record in answers.read(
             answers.text(list(self.collection.others.values())), rising=False).records}
-        for target in self._targets:
-            several = self._found.get(target[:2], [])
-            if target.part != part:
+        for at, (other_part, level) in enumerate(self._levels):
+            several = self._found.get(at, [])
+            if other_part != part:
                 continue
-            if target[:2] in self._certificates and not several:
-                texts_of.setdefault(target.number, self._certificates[target[:2]])
+            if at in self._certificates and not several:
+                texts_of.setdefault(level.number, self._certificates[at])
             if not several:
                 continue
-            before = [Try("", 0, self.collection.attempt_on(target.board, it.decode()), [])
-                      for it in [own.get(target.number), others.get(target.number)] if it]
+            before = [Try("", 0, self.collection.attempt_on(board_of(level), it.decode()), [])
+                      for it in [own.get(level.number), others.get(level.number)] if it]
             kept, other = self.collection.choose(
-                target.number, [it for it in before if not it.attempt.why] + several)
-            self.collection.others.pop(target.number, None)
+                level.number, [it for it in before if not it.attempt.why] + several)
+            self.collection.others.pop(level.number, None)
             if other:
-                self.collection.others[target.number] = _record(target.number, other)
+                self.collection.others[level.number] = _record(level.number, other)
             self.collection.solutions += not before
             if kept.line:
-                texts_of[target.number] = _record(target.number, kept)
+                texts_of[level.number] = _record(level.number, kept)
         return [text for _, text in sorted(texts_of.items())]
 
 

@@ -1,15 +1,17 @@
 """Reads levels from lines of text, in all forms of rows, with text and solutions between them."""
 import re
-from typing import Dict, Iterator, List, NamedTuple, Optional, Sequence, Tuple
+from typing import Dict, Iterator, List, Optional, Sequence, Tuple
 
-from .. import game, levels, texts
-from ..collection import Collection
-from . import below, headings, letters, maze, rows
-from .below import Reason
+from .. import levels, texts
+from ..board import Board
+from ..builder import Collection
+from . import between, headings, letters, rows
 from .rows import Row
 
 Rows = List[Optional[Row]]
 Span = Tuple[int, int]
+# by the first lines of lines that look like rows and are none: where they end, and why
+Reasons = Dict[int, Tuple[int, str]]
 _IN_COMMENT = bytes(
     headings.WORDS if kind in (headings.HEADING, headings.SOFT, headings.SAVED)
     else headings.TEXT if kind in (headings.TITLE, headings.TYPE, headings.SOLID) else kind
@@ -34,23 +36,28 @@ def read(collection: Collection, lines: List[str]) -> None:
     for first, end in comments:
         kinds[first:end] = kinds[first:end].translate(_IN_COMMENT)
     reasons.update(_banners(lines, found))
-    for at, reason in reasons.items():
-        kinds[at:reason.end] = bytes([headings.WALLS]) * (reason.end - at)
+    for at, (end, _) in reasons.items():
+        kinds[at:end] = bytes([headings.WALLS]) * (end - at)
     spans = list(runs(found))
-    games = _other_games(lines, kinds, spans)
-    heads = _heads(kinds, spans)
-    text = below.Below(collection, lines, bytes(kinds), found, reasons)
-    _report_comments(collection, lines, comments)
+    # the lines between boards
+    gaps = list(zip([0] + [end for _, end in spans], [at for at, _ in spans] + [len(lines)]))
+    text = between.Between(collection, lines, bytes(kinds), found, reasons)
+    for first, end in comments:
+        at = next((at for at in range(first, end) if rows.is_plain(lines[at])), -1)
+        if at >= 0:
+            collection.note(at + 1, "rows in a comment, which stay text")
     at = 0
-    for number, (first, end) in enumerate(spans):
-        head = heads[number]
+    for (first, end), head, game_of in zip(spans, _heads(kinds, gaps),
+                                           _other_games(lines, kinds, gaps)):
         text.read(at, head)
-        if games[number]:
-            _skip(collection, lines, first, end, games[number])
+        if game_of:
+            collection.end_level()
+            collection.fault(first + 1, f"a level of {game_of}, which is not read")
+            for line in lines[first:end]:
+                collection.add_text(line)
         else:
-            for level in _levels_of(found[first:end], first):
-                _add_level(collection, *level)
-        text.is_skipping = bool(games[number])
+            _add_levels(collection, found[first:end], first)
+        text.is_skipping = bool(game_of)
         text.read(head, first)
         at = end
     text.read(at, len(lines))
@@ -59,27 +66,18 @@ def read(collection: Collection, lines: List[str]) -> None:
 
 # ---- which lines are rows
 
-class Found(NamedTuple):
-    """The row of each line, or None; the spans of comments, which have no rows; and why some lines
-    that look like rows are none.
-
-    `has_marks` is true if byte order marks are left at the start of lines.
+def rows_of(lines: Sequence[str]) -> Tuple[Rows, List[Span], Reasons, bool]:
+    """Returns the row of each line, or None; the spans of comments, which have no rows; why some
+    lines that look like rows are none; and whether byte order marks are left at the start of lines.
     """
-
-    rows: Rows
-    comments: List[Span]
-    reasons: Dict[int, Reason]
-    has_marks: bool
-
-
-def rows_of(lines: Sequence[str]) -> Found:
-    """Returns which lines are rows."""
     reader = rows.Reader()
     # Most lines of a long text have none of these characters.
     found = [reader[line] if "#" in line or ":" in line or rows.MARK in line else None
              for line in lines]
-    if reader.has_mazes:
-        _read_mazes(lines, found)
+    is_maze = False
+    for at, line in enumerate(lines if reader.has_mazes else ()):
+        is_maze = is_maze or rows.is_maze_head(line)
+        found[at] = is_maze and rows.read_maze(line) or found[at]
     comments = list(_comments(lines)) if reader.has_comments else []
     for first, end in comments:
         found[first:end] = [None] * (end - first)
@@ -87,9 +85,9 @@ def rows_of(lines: Sequence[str]) -> Found:
              ] if reader.has_mazes else []
     for first, end in list(runs(found)):
         _drop_others(found, first, end)
-    return Found(found, comments, {
-        at: Reason(at + 1, "a row of a maze without others") for at in mazes if found[at] is None},
-        reader.has_marks)
+    return found, comments, {
+        at: (at + 1, "a row of a maze without others") for at in mazes if found[at] is None
+    }, reader.has_marks
 
 
 def distinct(found: Rows) -> List[Row]:
@@ -98,18 +96,8 @@ def distinct(found: Rows) -> List[Row]:
 
 
 def runs(found: Rows) -> Iterator[Span]:
-    """Yields the spans of consecutive rows."""
     for match in _RUN.finditer(bytes(map(bool, found))):
         yield match.span()
-
-
-def _read_mazes(lines: Sequence[str], found: Rows) -> None:
-    is_maze = False
-    for at, line in enumerate(lines):
-        is_maze = is_maze or maze.is_head(line)
-        row = maze.read(line) if is_maze else None
-        if row:
-            found[at] = Row("maze", (row,))
 
 
 def _comments(lines: Sequence[str]) -> Iterator[Span]:
@@ -177,13 +165,10 @@ def _drop_between(found: Rows, first: int, end: int) -> None:
     for at in range(first, end):
         if _is_heading(found[at]) and at > top:
             above, under = sum(players[top - first:at - first]), sum(players[at - first + 1:])
-            if above == 1 and under and _is_wall_row(found[at - 1]) and _is_wall_row(found[at + 1]):
+            if above == 1 and under and all(row and row.is_wall
+                                            for row in (found[at - 1], found[at + 1])):
                 found[at] = None
                 top = at + 1
-
-
-def _is_wall_row(row: Optional[Row]) -> bool:
-    return row is not None and row.is_wall
 
 
 def _drop_short(found: Rows, first: int, end: int) -> None:
@@ -200,19 +185,15 @@ def _drop_inner_marks(found: Rows, first: int, end: int) -> None:
     """Reads marks of outer floor as floor, and drops rows with such a mark inside the walls."""
     run = [row for row in found[first:end] if row is not None]
     is_outside = _are_outside_room(run)
-
-    def unmarked(row: Row) -> Optional[Row]:
-        inner = set(rows.inner_marks(row.rows[0]))
-        if is_outside or inner <= {"\u00a0"}:
-            return row._replace(kind="spaced" if inner and not is_outside else "marked",
-                                rows=(rows.without_marks(row.rows[0]),))
-        return None
-
-    known = texts.Cache(unmarked)
-    for at in range(first, end):
-        row = found[at]
-        if row is not None and row.kind == "marked":
-            found[at] = known[row]
+    new: Dict[int, Optional[Row]] = {}
+    for row in distinct(list(run)):
+        text = row.rows[0]
+        inner = {*text[text.index("#"):text.rindex("#")]} & {*rows.OUTER}
+        if row.kind == "marked":
+            new[id(row)] = row._replace(
+                kind="spaced" if inner and not is_outside else "marked",
+                rows=(rows.without_marks(text),)) if is_outside or inner <= {"\u00a0"} else None
+    found[first:end] = [row and new.get(id(row), row) for row in found[first:end]]
 
 
 def _are_outside_room(run: Sequence[Row]) -> bool:
@@ -220,7 +201,7 @@ def _are_outside_room(run: Sequence[Row]) -> bool:
     drawn = [text for row in run for text in row.rows]
     if not 0 < len(drawn) <= levels.LARGEST_SIDE:
         return False
-    board = game.Board(levels.Level(1, [rows.without_marks(text).encode() for text in drawn], 1))
+    board = Board(levels.Level(1, [rows.without_marks(text).encode() for text in drawn], 1))
     if board.player is None or board.fault in ("size", "open"):
         return False
     marked = {board.place(x, y) for y, text in enumerate(drawn, 1)
@@ -230,69 +211,43 @@ def _are_outside_room(run: Sequence[Row]) -> bool:
 
 # ---- what is no level
 
-def _banners(lines: Sequence[str], found: Rows) -> Dict[int, Reason]:
+def _banners(lines: Sequence[str], found: Rows) -> Reasons:
     """Drops runs of walls alone, unless a line next to one looks like a row that can't be read.
 
     Returns the reasons by their first lines.
     """
-    reasons = {}
+    reasons: Reasons = {}
     for first, end in list(runs(found)):
         if not all(row.is_wall for row in distinct(found[first:end])):
             continue
         beside = [lines[at] for at in (first - 1, end) if 0 <= at < len(lines)]
         if not any(rows.why_no_row(line, "#" not in line) for line in beside):
             found[first:end] = [None] * (end - first)
-            reasons[first] = Reason(end, "walls alone, and no level: a banner, or torn off a level "
-                                         "by an empty line?")
+            reasons[first] = end, ("walls alone, and no level: a banner, or torn off a level by an "
+                                   "empty line?")
     return reasons
 
 
-def _other_games(lines: Sequence[str], kinds: bytearray, spans: Sequence[Span]) -> List[str]:
+def _other_games(lines: Sequence[str], kinds: bytearray, gaps: Sequence[Span]) -> List[str]:
     """Returns for each board the game that it belongs to if that isn't Sokoban, or ''. A line above
     the first board is about all boards."""
-    found = []
-    firsts = [first for first, _ in spans] + [len(lines)]
-    for_all = _game_in(lines, kinds, 0, firsts[0])
-    for number, (_, end) in enumerate(spans):
-        found.append(_game_in(lines, kinds, end, firsts[number + 1]) or for_all)
-    return found
-
-
-def _game_in(lines: Sequence[str], kinds: bytearray, first: int, end: int) -> str:
-    at = kinds.find(headings.TYPE, first, end)
-    return headings.other_game(lines[at]) or "" if at >= 0 else ""
-
-
-def _skip(collection: Collection, lines: Sequence[str], first: int, end: int, name: str) -> None:
-    collection.end_level()
-    collection.fault(first + 1, f"a level of {name}, which is not read")
-    for line in lines[first:end]:
-        collection.add_text(line)
-
-
-def _report_comments(collection: Collection, lines: Sequence[str], comments: Sequence[Span]
-                     ) -> None:
-    for first, end in comments:
-        at = next((at for at in range(first, end) if rows.is_plain(lines[at])), None)
-        if at is not None:
-            collection.note(at + 1, "rows in a comment, which stay text")
+    ats = [kinds.find(headings.TYPE, *gap) for gap in gaps]
+    for_all, *games = (at >= 0 and headings.other_game(lines[at]) or "" for at in ats)
+    return [name or for_all for name in games]
 
 
 # ---- levels
 
-def _heads(kinds: bytearray, spans: Sequence[Span]) -> List[int]:
+def _heads(kinds: bytearray, gaps: Sequence[Span]) -> List[int]:
     """Returns for each board the line above it at which its text begins, or its first line.
 
     The titles of a file are above the boards if one is above the first board, none is below the
     last, and one is between two boards if there are several.
     """
     title = headings.TITLE
-    firsts = [first for first, _ in spans]
-    if not spans:
-        return []
-    gaps = list(zip([0] + [end for _, end in spans], firsts + [len(kinds)]))
+    firsts = [first for _, first in gaps[:-1]]
     has = [kinds.find(title, *gap) >= 0 for gap in gaps]
-    if not has[0] or has[-1] or len(spans) > 1 and not any(has[1:-1]):
+    if not has[0] or has[-1] or len(firsts) > 1 and not any(has[1:-1]):
         return firsts
     return [kinds.rfind(title, *gap) if is_titled else gap[1]
             for gap, is_titled in zip(gaps[:-1], has)]
@@ -303,6 +258,9 @@ def _split(run: Rows, first: int) -> Iterator[Tuple[List[Row], int]]:
 
     Rows joined by '|', in one line or several, are a level of their own.
     """
+    if all(row.kind == "plain" and not row.starts for row in distinct(run)):
+        yield [row for row in run if row], first
+        return
     level: List[Row] = []
     is_joined = goes_on = False
     start = first
@@ -318,26 +276,18 @@ def _split(run: Rows, first: int) -> Iterator[Tuple[List[Row], int]]:
         yield level, start
 
 
-def _levels_of(run: Rows, first: int) -> Iterator[Tuple[List[str], int, str]]:
-    """Yields the levels of a run: the rows, the first line, and a note or ''."""
-    known = distinct(run)
-    if all(row.kind == "plain" and not row.starts for row in known):
-        yield [row.rows[0] for row in run if row], first, ""
-        return
+def _add_levels(collection: Collection, run: Rows, first: int) -> None:
+    """Adds the levels of a run, each with a note of what was read with a change."""
     for level, at in _split(run, first):
         kinds = {row.kind for row in level}
-        yield ([text for row in level for text in row.rows], at,
-               next((note for kind, note in NOTES.items() if kind in kinds), ""))
-
-
-def _add_level(collection: Collection, drawn: List[str], at: int, note: str) -> None:
-    bullets = {row[:2] for row in drawn}
-    if len(drawn) > 2 and bullets in ({"* "}, {". "}):
-        drawn = [row[2:] for row in drawn]
-        note = note or "each row has a bullet in front, which is left out"
-    collection.add_level(drawn, at + 1)
-    if note:
-        collection.note(at + 1, note)
+        note = next((note for kind, note in NOTES.items() if kind in kinds), "")
+        drawn = [text for row in level for text in row.rows]
+        if len(drawn) > 2 and {row[:2] for row in drawn} in ({"* "}, {". "}):
+            drawn = [row[2:] for row in drawn]
+            note = note or "each row has a bullet in front, which is left out"
+        collection.add_level(drawn, at + 1)
+        if note:
+            collection.note(at + 1, note)
 
 
 def _report_codes(collection: Collection, lines: Sequence[str]) -> None:

@@ -4,6 +4,8 @@ are rewritten.
 - plain     only the auditor's characters, and a wall
 - coded     run-length coded (4#, 3(ab)), in letters (b B p P o), or joined by '|'
 - marked    floor outside the walls as ~ x ^; or no-break spaces for floor
+- maze      files of older sites: 'Maze: 1', 'Size X: ..', then rows with X for walls, * for boxes
+            and & for boxes on goals
 
 Each may be indented by tabs, quoted by '>' as in mail, or tagged as in a web page.
 
@@ -16,8 +18,8 @@ import re
 from typing import NamedTuple, Optional, Tuple
 
 from .. import levels, texts
-from ..alphabet import BOXES, GOALS, LETTERS, PLAYERS, ROW
-from . import coding, maze
+from ..levels import BOXES, GOALS, LETTERS, PLAYERS, ROW, WALL
+from . import coding
 
 WIDEST = levels.LARGEST_SIDE
 OUTER = "~x^\u00a0"
@@ -34,6 +36,9 @@ _BREAK = re.compile(r"<br */?>(?=.)", re.I)
 _TAG = re.compile(r"</?[A-Za-z][^<>]*>|\[/?[A-Za-z]+\]")
 _MARKS = str.maketrans(OUTER, " " * len(OUTER))
 _THINGS = frozenset(PLAYERS + BOXES + GOALS)
+_MAZE = re.compile(r"\s*Maze:\s*[0-9]+\s*", re.I)
+_NOT_MAZE = re.compile(r"[^X *.&@+]")
+_MAZE_CELLS = str.maketrans("X*&", WALL + BOXES)
 
 
 class Row(NamedTuple):
@@ -70,7 +75,7 @@ class Reader(texts.Cache):
         self.has_marks = self.has_marks or line[:1] == MARK
         if "#" in line:
             return read(line)
-        self.has_mazes = self.has_mazes or maze.is_head(line)
+        self.has_mazes = self.has_mazes or is_maze_head(line)
         self.has_comments = self.has_comments or is_comment_end(line)
         return None
 
@@ -78,6 +83,18 @@ class Reader(texts.Cache):
 def is_comment_end(line: str) -> bool:
     """Returns whether a line ends the comment of a level, as some editors write it."""
     return line[:40].strip(" \t:;").lower() in ("comment-end", "comment_end", "comment end")
+
+
+def is_maze_head(line: str) -> bool:
+    """Returns whether a line begins a maze."""
+    return bool(_MAZE.fullmatch(line))
+
+
+def read_maze(line: str) -> Optional[Row]:
+    """Returns the row that a line of a maze is, or None."""
+    row = line.rstrip()
+    is_row = "X" in row and not _NOT_MAZE.search(row)
+    return Row("maze", (row.translate(_MAZE_CELLS),)) if is_row else None
 
 
 def is_plain(line: str) -> bool:
@@ -127,7 +144,9 @@ def _spelled(line: str) -> Optional[Tuple[str, ...]]:
     """Returns the rows of a coded line, written out, or None."""
     if re.search("[0-9]", line) and " " in line.strip(" ") or line.lstrip().startswith("|"):
         return None
-    if re.search("(?<![0-9])[01](?![0-9])|(?<![0-9])0", line) or _is_numbered_wall(line):
+    # No program encodes a row as walls and numbers with a number after a wall: '#5#' is a heading.
+    if re.search("(?<![0-9])[01](?![0-9])|(?<![0-9])0", line) or (
+            not line.strip("#0123456789") and re.search("#[0-9]", line)):
         return None
     try:
         text = coding.expand(line, WIDEST * (WIDEST + 1)) if coding.is_coded(line) else line
@@ -138,12 +157,6 @@ def _spelled(line: str) -> Optional[Tuple[str, ...]]:
     return found if is_level else None
 
 
-def _is_numbered_wall(line: str) -> bool:
-    """Returns whether a line has only walls and numbers, with a number after a wall, as the heading
-    '#5#'. No program encodes a row that way."""
-    return not line.strip("#0123456789") and bool(re.search("#[0-9]", line))
-
-
 def _is_enclosed(row: str) -> bool:
     core = row.strip("-_ ")
     return len(row) <= WIDEST and core.startswith("#") and core.endswith("#")
@@ -152,11 +165,6 @@ def _is_enclosed(row: str) -> bool:
 def without_marks(row: str) -> str:
     """Returns a row with spaces for marks of outer floor."""
     return row.translate(_MARKS)
-
-
-def inner_marks(row: str) -> str:
-    """Returns the marks between the first and the last wall of a row."""
-    return "".join(c for c in row[row.index("#"):row.rindex("#")] if c in OUTER)
 
 
 def why_no_row(line: str, is_between: bool) -> Optional[str]:

@@ -3,8 +3,8 @@ import re
 from typing import Dict, List, Optional
 from xml.parsers import expat
 
-from ..collection import Collection
-from . import headings, letters, rows
+from ..builder import Collection
+from . import letters, rows
 
 _HEAD = re.compile(r"\s*<(?:\?xml|!--|!DOCTYPE|SokobanLevels)", re.I)
 _KEYS = {"title": "Collection", "url": "URL"}
@@ -13,7 +13,6 @@ _SIZES = {"width", "height", "maxwidth", "maxheight"}
 
 
 def is_slc(text: str) -> bool:
-    """Returns whether a file's text is of this format."""
     return bool(_HEAD.match(text))
 
 
@@ -46,7 +45,6 @@ class _Reader:
         self.text, self.line = [], self.parser.CurrentLineNumber
 
     def data(self, text: str) -> None:
-        """Takes text within an element."""
         self.text.append(text)
 
     def comment(self, text: str) -> None:
@@ -56,7 +54,6 @@ class _Reader:
                 self._add("; " + line.strip())
 
     def end(self, tag: str) -> None:
-        """Ends an element."""
         tag = tag.rpartition(":")[2]
         text = "".join(self.text)
         self.text = []
@@ -66,8 +63,12 @@ class _Reader:
             self.text = [text]
             self._stray()
             self.end_level()
-        elif headings.is_heading(tag) and text.strip():
-            self._add_solution(text)
+        elif text.strip() and ("solution" in tag.lower() or tag.lower() == "lurd"):
+            if self.rows is None:
+                self._try(text)
+            else:
+                self.solutions.append(text)
+                self.said.append("")
         elif text.strip():
             self._say(tag, text)
 
@@ -104,13 +105,6 @@ class _Reader:
         elif self.rows:
             self.rows.append("")
 
-    def _add_solution(self, text: str) -> None:
-        if self.rows is not None:
-            self.solutions.append(text)
-            self.said.append("")
-        else:
-            self._try(text)
-
     def _try(self, text: str) -> None:
         found = letters.packed("".join(text.split()))
         if self.collection.level is None:
@@ -130,9 +124,13 @@ class _Reader:
             self._add_levels(drawn, title)
         elif title:
             self.collection.add_text("; " + title)
-        for line in self.said:
-            if line:
-                self._add_said(line)
+        for line in filter(None, self.said):
+            self.collection.add_text(line)
+            found = letters.among_words(line.partition(":")[2])
+            for text in found if self.collection.level else ():
+                attempt = self.collection.attempt(text)
+                if attempt.why is None:
+                    self.collection.add_spare(self.first, attempt)
         solutions, self.said, self.solutions = self.solutions, [], []
         for text in solutions:
             self._try(text)
@@ -147,14 +145,6 @@ class _Reader:
             if drawn[at:end]:
                 self.collection.add_level(drawn[at:end], self.first, title)
             at = end + 1
-
-    def _add_said(self, line: str) -> None:
-        self.collection.add_text(line)
-        if self.collection.level is not None:
-            for text in letters.among_words(line.partition(":")[2]):
-                attempt = self.collection.attempt(text)
-                if attempt.why is None:
-                    self.collection.add_spare(self.first, attempt)
 
 
 class _Refused(Exception):

@@ -15,7 +15,6 @@ class Budget:
         return self.end - time.monotonic()
 
     def is_late(self) -> bool:
-        """Returns whether the time is over."""
         return time.monotonic() > self.end
 
 

@@ -7,7 +7,7 @@ the next.
 """
 from typing import Collection, Dict, Iterable, Iterator, List, Tuple
 
-from ..game import Board
+from ..board import Board
 
 MOST_SPREADS = 200
 MOST_DETOUR = 8
@@ -38,7 +38,6 @@ class Room:
         return mask_of([place - self.low for place in places])
 
     def cell(self, bit: int) -> Tuple[int, int]:
-        """Returns the column and row of a bit."""
         return self.board.cell(bit.bit_length() - 1 + self.low)
 
     def near(self, mask: int) -> int:
@@ -59,7 +58,7 @@ class Room:
     def trace(self, start: int, free: int) -> int:
         """Floods cell by cell, which is faster along winding corridors."""
         is_free = bytearray(bin(free)[:1:-1].encode() + b"0" * self.width)
-        found = places_of(start)
+        found = [place for place, digit in enumerate(bin(start)[:1:-1]) if digit == "1"]
         for place in found:
             is_free[place] = 48
         for place in found:
@@ -140,11 +139,6 @@ def bits(mask: int) -> Iterator[int]:
 def count(mask: int) -> int:
     """Returns the number of cells of a mask."""
     return bin(mask).count("1")
-
-
-def places_of(mask: int) -> List[int]:
-    """Returns the places of the bits of a mask in order."""
-    return [place for place, digit in enumerate(bin(mask)[:1:-1]) if digit == "1"]
 
 
 def mask_of(places: Collection[int]) -> int:

@@ -110,7 +110,11 @@ def needed(room: Room, patterns: Patterns, start: int, budget: Budget) -> Option
     the time is over."""
     cover = Cover(patterns, sizes_of(patterns))
     taken = Cover({}, cover.sizes)
-    work = deque([(first_of(room, patterns, start), room.player)])
+    # the boxes of a least pattern that covers the start
+    first = min((boxes for boxes in patterns
+                 if not boxes & ~start and patterns[boxes] & room.player),
+                key=lambda boxes: (count(boxes), boxes))
+    work = deque([(first, room.player)])
     while work:
         boxes, player = work.popleft()
         if taken.patterns.get(boxes, 0) & player:
@@ -123,9 +127,3 @@ def needed(room: Room, patterns: Patterns, start: int, budget: Budget) -> Option
             if not taken.boxes(*state):
                 work.append((cover.boxes(*state), state[1]))
     return taken.patterns
-
-
-def first_of(room: Room, patterns: Patterns, start: int) -> int:
-    """Returns the boxes of a least pattern that covers the start."""
-    found = (boxes for boxes in patterns if not boxes & ~start and patterns[boxes] & room.player)
-    return min(found, key=lambda boxes: (count(boxes), boxes))

@@ -10,7 +10,7 @@ const field = (name, value) =>
 // the links, the heading and the report line of a level
 const headOf = level => [linksOf(level),
     html("h2", { id: "heading", tabindex: -1 }, `Level ${level.number}`, level.title ? html("span", { class: "title" }, ` ${level.title}`) : "",
-        html("small", {}, ` line ${level.line} of ${level.file ?? DATA.names[0]}${cameFrom(level)}`)),
+        " ", html("small", {}, `line ${level.line} of ${level.file ?? DATA.names[0]}${cameFrom(level)}`)),
     html("p", { class: `verdict ${level.verdict.status}` }, `${STATUSES[level.verdict.status] ?? ""} ${level.verdict.line}`),
     html("p", { class: "why" }, whyOf(level)), ...leftOut(level)];
 

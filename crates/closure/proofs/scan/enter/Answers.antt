@@ -3,7 +3,9 @@
 -- region, and with listed seeds the cells of the found region are, where there is no box (`RegionCells.antt`). So in both cases the entry
 -- covers what its pattern covers.
 use Rattle.std.{proofs.Common.◌≡◌, proofs.Common.sym, proofs.Common.◌∙◌, proofs.Common.ap, proofs.Common.inl, specs.Prelude.Some, specs.Prelude.None}
-use Rattle.patterns.{specs.Arena.pattern_in, specs.Sides.cells_in, proofs.CellLists.in_list, proofs.RegionCells.room_outside, proofs.RegionCells.region_outside}
+use Rattle.cell_lists.specs.CellLists.{cells_in}
+use Rattle.cell_lists.proofs.CellLists.{in_list}
+use Rattle.patterns.{specs.Arena.pattern_in, proofs.RegionCells.room_outside, proofs.RegionCells.region_outside}
 use Rattle.closure.proofs.scan.enter.Goals as goal
 use Rattle.closure.proofs.scan.enter.Goals.{in-None, in-Some+in_ok-region-in-Some}
 

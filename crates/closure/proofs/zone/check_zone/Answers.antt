@@ -1,6 +1,6 @@
 use Rattle.std.{proofs.Common.◌≡◌, specs.FinSet.len}
 use Rattle.answers.specs.Grammar.{said_zone}
-use Rattle.patterns.specs.Pattern.{cells_of}
+use Rattle.cell_lists.specs.CellLists.{cells_of}
 use Rattle.closure.{specs.Zone.IsRefuting, specs.FirstFault.IsFirstZoneFault, proofs.ZoneCounts.refuting_unsolvable}
 use Rattle.closure.{specs.declared.fault.ZoneFault.TheVariants.Memory, proofs.FirstLines.first_unless, proofs.FirstLines.where_ok}
 use Rattle.closure.proofs.OneFault.{one_zone_fault, refuting_no_fault, zone_memory_or}

@@ -19,7 +19,7 @@ pub returns-clause-exact : goal.returns-clause-exact
 returns-clause-exact g c =
     let level = c.args.board.now in
     let live = c.grow.new.self.members in
-    let seeds = added _ _ _ c.in_ok-live.ensures.1 c.add_cells.ensures.members ∙ c.goals.ensures.members in
+    let seeds = added _ _ _ c.in_ok-live.ensures.1 c.insert_all.ensures.members ∙ c.goals.ensures.members in
     let exact : (q : Cell) → Has live q ↔ Reached (PullsTo (Has level.room)) (Has level.goals) q = λ q.
     rw (seeds, c.room_rows.ensures.members) at (c.grow.ensures.exact q) in
     let within = c.add_boxes.ensures.members in

@@ -3,7 +3,7 @@
 -- indexes are within the table (`key_within`). After the loop every group has a key below the length of the table, so the groups can be
 -- chained by their keys.
 use Rattle.std.proofs.Common.{◌<◌, length, slice_index, ap, arith}
-use Rattle.patterns.proofs.{Grouped.boxes_on, Lists.length_more, InBuckets.bucket_more, InBuckets.key_within, InBuckets.listed_some}
+use Rattle.patterns.proofs.{Grouped.boxes_on, InBuckets.key_within, InBuckets.listed_some}
 use Rattle.patterns.proofs.buckets.fill_buckets.Goals as goal
 
 pub rarest_box-requires-clause-some : goal.rarest_box-requires-clause-some
@@ -18,9 +18,6 @@ rarest_box-requires-clause-on g c = λ q has.
     let count = c.len-group-end.ensures in
     rw c.shape-shape.ensures.value (boxes_on c.args.board.now c.args.groups.now c.requires.lawful c.requires.groups c.loop-group.group (omega arith) _ c.boxes.ensures q has)
 
-pub loop-group-preserved : goal.loop-group-preserved
-loop-group-preserved g c = grind (arith, length_more, bucket_more)
-
 pub chain-requires : goal.chain-requires
 chain-requires g c = λ j lt.
     let inv = c.loop-group.invariant in
@@ -34,12 +31,3 @@ chain-requires g c = λ j lt.
     let within = key_within c.args.board.now c.args.groups.now c.requires.lawful c.requires.groups j (omega arith) c.loop-group.keys.items (inv.each j low) in
     let key = ap (λ l. slice_index l j) keys in
     grind arith
-
-pub returns : goal.returns
-returns g c = grind arith
-
-pub loop-group-init : goal.loop-group-init
-loop-group-init g c = grind arith
-
-pub push_reserved-requires : goal.push_reserved-requires
-push_reserved-requires g c = grind arith

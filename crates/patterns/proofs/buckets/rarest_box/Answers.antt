@@ -1,14 +1,8 @@
 use Rattle.std.proofs.Common.{arith}
 use Rattle.cellset.proofs.ReadingOrder.{below_index}
-use Rattle.patterns.proofs.CellLists.{in_list, no_cell}
+use Rattle.cell_lists.proofs.CellLists.{in_list, no_cell}
 use Rattle.patterns.proofs.buckets.rarest_box.Goals as goal
 use Rattle.patterns.proofs.buckets.rarest_box.Goals.{then-counts-at, else-counts-at}
-
-pub index_of-at-requires : goal.index_of-at-requires
-index_of-at-requires c = c.requires.on _ (in_list c.args.boxes.now c.loop-cell.cell-index no_cell c.loop-cell-test.true)
-
-pub index_of-rarest-requires : goal.index_of-rarest-requires
-index_of-rarest-requires c = c.requires.on _ (in_list c.args.boxes.now 0 no_cell c.requires.some)
 
 pub bounds-counts-rarest : goal.bounds-counts-rarest
 bounds-counts-rarest c =
@@ -17,9 +11,6 @@ bounds-counts-rarest c =
     let is = box.2 in
     let long = c.requires.counts in
     omega arith
-
-pub loop-cell-init : goal.loop-cell-init
-loop-cell-init c = grind (arith, in_list, no_cell)
 
 pub loop-cell-preserved : goal.loop-cell-preserved
 loop-cell-preserved c = grind (arith, then-counts-at, in_list, no_cell, else-counts-at)

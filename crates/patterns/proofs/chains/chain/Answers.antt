@@ -4,8 +4,8 @@
 -- the new one doesn't have that key (`lasts_more`). After the loop all items are chained.
 use Rattle.std.proofs.Common.{◌≡◌, ℕ, ◌+◌, ◌<◌, List, [], ◌∷◌, ◌++◌, length, get_or, set, ◌∙◌, ap, arith}
 use Rattle.std.{specs.Prelude.slice_index, proofs.Math.ListN.length-set, proofs.lemmas.Bool.cases_eq, proofs.lemmas.Bool.cases_lt}
-use Rattle.std.proofs.lemmas.List.{get_or-set_same, get_or-set_other}
-use Rattle.patterns.{specs.Chains.IsLast, proofs.CellLists.at_any, proofs.Lists.length_more, proofs.Lists.new_item, proofs.Lists.old_item}
+use Rattle.std.proofs.lemmas.List.{get_or-set_same, get_or-set_other, get_or_default}
+use Rattle.patterns.{specs.Chains.IsLast, proofs.Lists.length_more, proofs.Lists.new_item, proofs.Lists.old_item}
 use Rattle.patterns.proofs.chains.chain.Goals as goal
 
 -- The chains of the items so far, with one item more.
@@ -17,7 +17,7 @@ module _ (keys first next : List ℕ) (count item : ℕ) (far : item < length ke
 
   before_more : (k : ℕ) → k ≡ get_or first (slice_index keys item) k → ((j : ℕ) → j < item → IsLast keys (slice_index keys j) j (slice_index next j))
       → (j : ℕ) → j < item + 1 → IsLast keys (slice_index keys j) j (slice_index (next ++ k ∷ []) j)
-  before_more k is before j lt = grind (arith, at_any, cases_lt, old_item, new_item)
+  before_more k is before j lt = grind (arith, get_or_default, cases_lt, old_item, new_item)
 
 pub loop-item-preserved : goal.loop-item-preserved
 loop-item-preserved c =

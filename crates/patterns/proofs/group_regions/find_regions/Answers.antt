@@ -5,12 +5,14 @@
 use Rattle.std.proofs.Common.{◌≡◌, ℕ, ◌+◌, ◌<◌, List, [], ◌∷◌, ◌++◌, length, get_or, sym, ◌∙◌, ap, subst, arith}
 use Rattle.std.proofs.lemmas.{List.length-drop, List.length-take, Bool.false≢true}
 use Rattle.std.specs.Prelude.{◌↔◌, Bool, IsTrue, MatchBool, false, true}
+use Rattle.std.proofs.lemmas.List.{get_or_default}
 use Rattle.cellset.specs.{Cell.neighbor, CellSet.Cells, CellSet.Has, CellSet.Lacks, declared.cell.Cell.Cell}
 use Rattle.cellset.proofs.{Members.not_both, Truth.either}
-use Rattle.patterns.specs.{Pattern.InPatternRegion, Sides.cell_no, Sides.cells_in, Spans.AreSpans, Spans.part, Spans.span_at, Around.IsFlooded}
+use Rattle.cell_lists.specs.CellLists.{cell_no, cells_in}
+use Rattle.patterns.specs.{Pattern.InPatternRegion, Spans.AreSpans, Spans.part, Spans.span_at, Around.IsFlooded}
 use Rattle.patterns.specs.{GroupRegions.AreSidesAt, GroupRegions.IsRegionAt, Groups.boxes_of, Groups.position_at, Trap.AreOff}
 use Rattle.patterns.{specs.declared.group_regions.Region.Region, specs.declared.arena.Span.Span, proofs.Turns.through}
-use Rattle.patterns.proofs.{CellLists.at_any, Grouped.boxes_on, Grouped.reached_position, Lists.each_more, Lists.length_more, Numbered.one_more, Pieces.room_is_one, Spans.no_span}
+use Rattle.patterns.proofs.{Grouped.boxes_on, Grouped.reached_position, Lists.each_more, Lists.length_more, Numbered.one_more, Pieces.room_is_one, Spans.no_span}
 use Rattle.patterns.proofs.group_regions.find_regions.Goals as goal
 
 -- the boxes of a group, counted from the number of its first one
@@ -19,7 +21,7 @@ span_end : (cells : List Cell) (spans : List Span) → AreSpans (length cells) s
 span_end cells spans inside g lt = grind (arith, length-take, length-drop)
 
 span_read : (spans : List Span) (g : ℕ) (span : Span) → g < length spans → span ≡ get_or spans g span → span.from ≡ (span_at spans g).from
-span_read spans g span lt read = grind (arith, at_any, no_span)
+span_read spans g span lt read = grind (arith, get_or_default, no_span)
 
 -- what holds for either of two sets holds for the one that was chosen
 chosen_has : (P : Cells → Type 0) (b : Bool) (x y z : Cells) → MatchBool b (z ≡ x) (z ≡ y) → MatchBool b (P x) (P y) → P z

@@ -3,8 +3,8 @@
 -- seeds of this line and goes to the last line of the group before it, so it skips none (`IsLast`). A line that says `*` is what the
 -- result false reports. At the end of the chain no line of the group comes earlier, so the seeds of all its lines are there.
 use Rattle.std.proofs.{Common.◌∙◌, Common.arith}
+use Rattle.std.proofs.lemmas.List.{get_or_default}
 use Rattle.cellset.proofs.{Members.has_empty}
-use Rattle.patterns.proofs.{CellLists.at_any}
 use Rattle.patterns.proofs.group_regions.seed.Goals as goal
 
 pub loop-at-init : goal.loop-at-init
@@ -12,7 +12,7 @@ loop-at-init c =
     let of = c.args.groups.now.of.items in
     let at = c.index.result.now in
     let chains = c.requires.groups.chained in
-    let read = c.index.ensures ∙ at_any c.args.groups.now.chains.first.items c.args.group at 0 (omega arith) in
+    let read = c.index.ensures ∙ get_or_default c.args.groups.now.chains.first.items c.args.group at 0 (omega arith) in
     let last = rw (← read) at (chains.lasts c.args.group c.requires.group) in
     let long = c.requires.groups.all.long in
     record {

@@ -4,9 +4,12 @@
 -- that too.
 use borrow.Author.Count.{below_more}
 use Rattle.std.{proofs.Common.get_or, proofs.Common.sym, proofs.Common.◌∙◌, proofs.Common.ap, proofs.Common.arith, specs.Prelude.◌↔◌, specs.Prelude.IsTrue}
+use Rattle.std.proofs.lemmas.List.{get_or_default}
 use Rattle.cellset.specs.{Cell.neighbor, CellSet.Lacks, declared.dir.Dir.TheVariants.L}
-use Rattle.patterns.specs.{Pattern.InPatternRegion, Sides.cell_no, Sides.cells_in, Groups.position_at, declared.tree.Hit.Hit}
-use Rattle.patterns.proofs.{CellLists.at_any, CellLists.in_list, CellLists.no_cell, Turns.through}
+use Rattle.cell_lists.specs.CellLists.{cell_no, cells_in}
+use Rattle.cell_lists.proofs.CellLists.{in_list, no_cell}
+use Rattle.patterns.specs.{Pattern.InPatternRegion, Groups.position_at, declared.tree.Hit.Hit}
+use Rattle.patterns.proofs.Turns.{through}
 use Rattle.patterns.proofs.place.is_in_region.Goals as goal
 
 pub returns-in-Some : goal.returns-in-Some
@@ -40,4 +43,4 @@ pub loop-found-preserved : goal.loop-found-preserved
 loop-found-preserved g c = λ i m.
     let d : Hit = record { cell = record { row = 0; column = 0 }; side = L } in
     below_more (λ k. Lacks (cells_in c.boxes-boxes.result.now) (get_or c.args.hits.now k m).cell) c.loop-found.found-index (λ k. c.loop-found.invariant k m)
-    (rw (at_any c.args.hits.now c.loop-found.found-index m d c.loop-found-test.true) c.in_default.ensures) i
+    (rw (get_or_default c.args.hits.now c.loop-found.found-index m d c.loop-found-test.true) c.in_default.ensures) i

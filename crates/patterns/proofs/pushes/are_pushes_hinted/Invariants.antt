@@ -1,5 +1,6 @@
 use Rattle.std.proofs.Common.{ℕ, ◌<◌}
-use Rattle.patterns.specs.{GroupPushes.CoversFrom, Groups.list_of, Groups.position_at, Sides.cell_no}
+use Rattle.cell_lists.specs.CellLists.{cell_no}
+use Rattle.patterns.specs.{GroupPushes.CoversFrom, Groups.list_of, Groups.position_at}
 use Rattle.patterns.proofs.pushes.are_pushes_hinted.Given as goal
 
 abbrev pub invariant-loop-number : goal.invariant-loop-number

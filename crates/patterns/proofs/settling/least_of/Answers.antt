@@ -2,9 +2,11 @@
 use Rattle.std.proofs.Common.{◌≡◌, Bool, true, false, ℕ, List, get_or, refl, sym, ◌∙◌, subst, arith}
 use Rattle.std.specs.{Prelude.MatchBool, Prelude.MatchOption, Prelude.Option, Prelude.None, Prelude.Some, Prelude.IsTrue, Prelude.◌↔◌, List.Contains}
 use Rattle.std.proofs.lemmas.{Bool.false≢true, List.Elements.All-contains_itself, Option.none-some, Option.same_Some}
+use Rattle.std.proofs.lemmas.List.{get_or_default}
 use Rattle.cellset.specs.CellSet.{Cells, Has}
 use Rattle.reach.{specs.Pushes.PushBefore, specs.declared.pushes.Push.Push, proofs.PushOrder.push_before_itself, proofs.PushOrder.push_before_trans}
-use Rattle.patterns.proofs.{CellLists.at_any, CellLists.no_push, Numbered.one_more}
+use Rattle.patterns.proofs.Lists.{no_push}
+use Rattle.patterns.proofs.Numbered.{one_more}
 use Rattle.patterns.proofs.settling.least_of.Goals as goal
 
 -- what the invariant says of the push with this number
@@ -52,7 +54,7 @@ loop-push-preserved c =
 
 pub returns-clause-least : goal.returns-clause-least
 returns-clause-least c = λ p (i, lt, is) inside.
-    let same = at_any c.args.pushes.now i no_push p lt ∙ is in
+    let same = get_or_default c.args.pushes.now i no_push p lt ∙ is in
     let past = c.loop-push-test.false in
     let found = c.loop-push.invariant.least i (omega arith) (subst (λ q. Has c.args.region.now.members q.player) (sym same) inside) in
     (found.0, found.1, subst (λ q. PushBefore q found.0 → ⊥) same found.2)

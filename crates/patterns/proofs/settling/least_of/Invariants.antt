@@ -1,7 +1,7 @@
 use Rattle.std.{proofs.Common.◌≡◌, proofs.Common.ℕ, proofs.Common.◌<◌, proofs.Common.Some, proofs.Common.slice_index_or, specs.List.Contains}
 use Rattle.cellset.specs.CellSet.{Has}
 use Rattle.reach.specs.{Pushes.PushBefore, declared.pushes.Push.Push}
-use Rattle.patterns.proofs.CellLists.{no_push}
+use Rattle.patterns.proofs.Lists.{no_push}
 use Rattle.patterns.proofs.settling.least_of.Given as goal
 
 abbrev pub invariant-loop-push : goal.invariant-loop-push

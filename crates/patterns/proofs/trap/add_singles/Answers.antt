@@ -4,9 +4,11 @@ use Rattle.std.proofs.Common.{◌≡◌, ◌<◌, ◌≤◌, List, [], ◌∷◌
 use Rattle.std.specs.FinSet as set
 use Rattle.std.specs.List.{Contains}
 use Rattle.cellset.{specs.declared.cell.Cell.Cell, proofs.Members.has_empty, proofs.Members.inserted, proofs.Truth.either}
-use Rattle.patterns.specs.{Arena.list_in, Arena.pattern_at, Arena.pattern_in, Pattern.Pattern, Sides.cell_no, Trap.IsTrapped, Trap.single}
-use Rattle.patterns.{specs.declared.cell_patterns.CellPattern.CellPattern, proofs.Arenas.list_long, proofs.Arenas.listed_at}
-use Rattle.patterns.proofs.CellLists.{in_list, no_cell}
+use Rattle.cell_lists.specs.CellLists.{cell_no}
+use Rattle.cell_lists.proofs.CellLists.{in_list, no_cell}
+use Rattle.patterns.specs.{Arena.list_in, Arena.pattern_at, Arena.pattern_in, Pattern.Pattern, Trap.IsTrapped, Trap.single}
+use Rattle.patterns.specs.declared.arena.CellPattern.{CellPattern}
+use Rattle.patterns.proofs.Arenas.{list_long, listed_at}
 use Rattle.patterns.proofs.Numbered.{each_pattern, one_more}
 use Rattle.patterns.proofs.trap.add_singles.Goals as goal
 

@@ -2,7 +2,8 @@ use Rattle.std.proofs.Common.{◌-◌, ◌<◌, [], ◌∷◌, ◌++◌, length,
 use Rattle.std.proofs.lemmas.Bool.{eqb-true}
 use Rattle.sokoaudit_c.specs.Outcome.{Holds}
 use Rattle.sokoaudit_c.specs.declared.spans.Span.{Span}
-use Rattle.sokoaudit_c.proofs.Places.{ends_here, none_written, one_written, spans_all, spans_more, spans_none, spans_same}
+use Rattle.sokoaudit_c.proofs.Places.{ends_here, spans_all, spans_more, spans_none, spans_same}
+use Rattle.sokoaudit_c.proofs.Written.{none_written, one_written}
 use Rattle.sokoaudit_c.proofs.spans.sokoaudit_levels.Goals as goal
 use Rattle.sokoaudit_c.proofs.spans.sokoaudit_levels.Goals.{then-count-spans, else-count-spans}
 

@@ -2,12 +2,13 @@
 -- box is on the trap, or no push is left, it covers those out of its lines (`pattern_of_group` in `GroupPushes.antt`). For any other line
 -- `first_left` decides. If it returns a push, that is the line's first one whose result isn't covered, and the lines before it are fine, so it is
 -- the first fault of the list (`FirstLines.antt`).
-use Rattle.std.proofs.Common.{◌≡◌, ℕ, true, false, ◌<◌, length, refl, sym, ◌∙◌, ap, arith}
-use Rattle.std.{specs.Prelude.slice_index, proofs.lemmas.Bool.eqb-true, proofs.lemmas.List.get_or-map, proofs.lemmas.List.length-map}
+use Rattle.std.proofs.Common.{◌≡◌, ℕ, true, false, ◌+◌, ◌<◌, length, refl, sym, ◌∙◌, ap, arith}
+use Rattle.std.{specs.Prelude.slice_index, proofs.lemmas.List.get_or-map, proofs.lemmas.List.length-map}
+use Rattle.std.proofs.lemmas.List.{get_or_default}
 use Rattle.answers.specs.Body.{PatternLine}
-use Rattle.patterns.specs.{Arena.line_at, Arena.line_in, Arena.lines_in, Arena.pattern_at, Pattern.CoversPushesOf, Pattern.Pattern, Groups.list_of}
+use Rattle.patterns.specs.{Arena.line_at, Arena.line_in, Arena.lines_in, Arena.pattern_at, Pattern.CoversPushesOf, Pattern.Pattern, Groups.list_of, Groups.position_at}
 use Rattle.closure.specs.FirstFault.{HasFirstUncovered}
-use Rattle.patterns.proofs.{Arenas.list_long, CellLists.at_any, GroupPushes.noted_more, GroupPushes.pattern_of_group, GroupPushes.trapped_pushes}
+use Rattle.patterns.proofs.{Arenas.list_long, GroupPushes.noted_more, GroupPushes.pattern_of_group, GroupPushes.trapped_pushes}
 use Rattle.patterns.proofs.Numbered.{each_pattern, one_more}
 use Rattle.closure.proofs.{FirstLines.first_line, Rests.none_rest}
 use Rattle.closure.proofs.checking.Checker.check_pushes.Goals.{After-index}
@@ -25,10 +26,20 @@ of_line g c =
     let groups = c.args.tables.now.groups in
     let long = c.requires.tables.grouped.all.long in
     let lt = is_line g c in
-    c.index.ensures ∙ at_any groups.of.items c.loop-line.line c.index.result.now 0 (omega arith)
+    c.index.ensures ∙ get_or_default groups.of.items c.loop-line.line c.index.result.now 0 (omega arith)
 
 is_group : (g : _) (c : After-index g) → c.index.result.now < length c.args.tables.now.groups.spans.items
 is_group g c = rw (of_line g c) (c.requires.tables.grouped.all.into c.loop-line.line (is_line g c))
+
+-- If the list covers the pushes out of the group, it covers those out of one line more.
+one_line : (g : _) (c : After-index g) → CoversPushesOf c.args.tables.now.board.now (list_of c.args.tables.now.groups)
+    (position_at c.args.tables.now.board.now c.args.tables.now.groups c.index.result.now) → (j : ℕ) → j < c.loop-line.line + 1
+    → CoversPushesOf c.args.tables.now.board.now (list_of c.args.tables.now.groups) (pattern_at (list_of c.args.tables.now.groups) j)
+one_line g c covers =
+    let level = c.args.tables.now.board.now in
+    let groups = c.args.tables.now.groups in
+    one_more (λ (j : ℕ). CoversPushesOf level (list_of groups) (pattern_at (list_of groups) j)) c.loop-line.line c.loop-line.invariant.covered
+    (pattern_of_group level groups c.requires.tables.grouped c.loop-line.line (is_line g c) (rw (of_line g c) at covers))
 
 pub boxes-requires-clause-group : goal.boxes-requires-clause-group
 boxes-requires-clause-group g c = is_group g (goal.at.boxes-requires-clause-group g c).After-index
@@ -46,79 +57,52 @@ index_mut-requires g c =
 pub loop-line-preserved-then-index : goal.loop-line-preserved-then-index
 loop-line-preserved-then-index g c =
     let at = (goal.at.loop-line-preserved-then-index g c).After-index in
-    let level = c.args.tables.now.board.now in
-    let groups = c.args.tables.now.groups in
-    let patterns = list_of groups in
     let inv = c.loop-line.invariant in
     let group = c.index.result.now in
     let notes = c.loop-line.covered.items in
     let within = is_group g at in
     let long = inv.noted.long in
     let low : group < length notes = omega arith in
-    let read = c.index-in-loop-line.result.now in
-    record {
-      checker = inv.checker;
-      noted = inv.noted;
-      covered = one_more (λ (j : ℕ). CoversPushesOf level patterns (pattern_at patterns j)) c.loop-line.line inv.covered
-          (pattern_of_group level groups c.requires.tables.grouped c.loop-line.line (is_line g at)
-          (rw (of_line g at) at (inv.noted.covers group low (sym (at_any notes group read false low) ∙ (sym c.index-in-loop-line.ensures ∙ c.if-index.true)))));
-    }
+    let noted = sym (get_or_default notes group c.index-in-loop-line.result.now false low) ∙ (sym c.index-in-loop-line.ensures ∙ c.if-index.true) in
+    record { checker = inv.checker; noted = inv.noted; covered = one_line g at (inv.noted.covers group low noted) }
 
 pub loop-line-preserved-then-is_trapped : goal.loop-line-preserved-then-is_trapped
 loop-line-preserved-then-is_trapped g c =
     let at = (goal.at.loop-line-preserved-then-is_trapped g c).After-index in
-    let level = c.args.tables.now.board.now in
-    let groups = c.args.tables.now.groups in
-    let patterns = list_of groups in
-    let inv = c.loop-line.invariant in
     let on = c.if-is_trapped.ensures in
     record {
-      checker = inv.checker;
-      noted = inv.noted;
-      covered = one_more (λ (j : ℕ). CoversPushesOf level patterns (pattern_at patterns j)) c.loop-line.line inv.covered
-          (pattern_of_group level groups c.requires.tables.grouped c.loop-line.line (is_line g at)
-          (rw (of_line g at) at (trapped_pushes c.args.tables.now c.requires.tables c.index.result.now (is_group g at) on.0 (rw c.boxes.ensures at on.1) on.2)));
+      checker = c.loop-line.invariant.checker;
+      noted = c.loop-line.invariant.noted;
+      covered = one_line g at (trapped_pushes c.args.tables.now c.requires.tables c.index.result.now (is_group g at) on.0 (rw c.boxes.ensures at on.1) on.2);
     }
 
 pub settle_head-requires-clause-covered : goal.settle_head-requires-clause-covered
 settle_head-requires-clause-covered g c =
     let at = (goal.at.settle_head-requires-clause-covered g c).After-index in
-    let level = c.args.tables.now.board.now in
-    let groups = c.args.tables.now.groups in
-    let group = c.index.result.now in
-    let left = c.settle.new.self.lookups.left in
-    let none = sym left.ok.0 ∙ eqb-true left.len 0 (sym c.if-is_empty.ensures) in
-    noted_more level groups c.loop-line.covered.items c.loop-line.invariant.noted group true (is_group g at)
-    (λ _. none_rest level groups group left.items none (c.in_ok-settle.ensures.checker.rest group c.in_ok-settle.ensures.settled))
+    let settled = c.in_ok-settle.ensures in
+    noted_more c.args.tables.now.board.now c.args.tables.now.groups c.loop-line.covered.items c.loop-line.invariant.noted c.index.result.now true
+    (is_group g at) (λ _. none_rest c.args.tables.now c.settle.new.self settled.checker c.index.result.now settled.settled c.if-is_empty.ensures)
 
 pub loop-line-preserved-then-is_empty : goal.loop-line-preserved-then-is_empty
 loop-line-preserved-then-is_empty g c =
-    let at = (goal.at.loop-line-preserved-then-is_empty g c).After-index in
-    let level = c.args.tables.now.board.now in
-    let groups = c.args.tables.now.groups in
-    let patterns = list_of groups in
-    let group = c.index.result.now in
-    let left = c.settle.new.self.lookups.left in
-    let none = sym left.ok.0 ∙ eqb-true left.len 0 (sym c.if-is_empty.ensures) in
-    let covers = none_rest level groups group left.items none (c.in_ok-settle.ensures.checker.rest group c.in_ok-settle.ensures.settled) in
+    let settled = c.in_ok-settle.ensures in
     record {
       checker = c.in_ok-settle_head.ensures.checker;
       noted = c.in_ok-settle_head.ensures.covered;
-      covered = one_more (λ (j : ℕ). CoversPushesOf level patterns (pattern_at patterns j)) c.loop-line.line c.loop-line.invariant.covered
-          (pattern_of_group level groups c.requires.tables.grouped c.loop-line.line (is_line g at) (rw (of_line g at) at covers));
+      covered = one_line g (goal.at.loop-line-preserved-then-is_empty g c).After-index
+          (none_rest c.args.tables.now c.settle.new.self settled.checker c.index.result.now settled.settled c.if-is_empty.ensures);
     }
 
 pub loop-line-preserved : goal.loop-line-preserved
 loop-line-preserved g c =
-    let level = c.args.tables.now.board.now in
     let patterns = list_of c.args.tables.now.groups in
-    let inv = c.loop-line.invariant in
     let checker = c.in_ok-settle.ensures.checker in
     let tried = c.in_default.ensures in
     record {
       checker = record { are = tried.are; free = λ h is. rw tried.free (checker.free h is); rest = λ h is. rw tried.left (checker.rest h is); tried = checker.tried };
-      noted = inv.noted;
-      covered = one_more (λ (j : ℕ). CoversPushesOf level patterns (pattern_at patterns j)) c.loop-line.line inv.covered tried.exact;
+      noted = c.loop-line.invariant.noted;
+      covered = one_more (λ (j : ℕ). CoversPushesOf c.args.tables.now.board.now patterns (pattern_at patterns j)) c.loop-line.line
+          c.loop-line.invariant.covered tried.exact;
     }
 
 pub returns-in-Some-clause-exact : goal.returns-in-Some-clause-exact

@@ -1,5 +1,5 @@
-use Rattle.std.proofs.Common.{true, sym, ◌∙◌, arith}
-use Rattle.std.proofs.{lemmas.Bool.eqb-true, lemmas.List.length-set}
+use Rattle.std.proofs.Common.{true, ◌∙◌, arith}
+use Rattle.std.proofs.lemmas.List.{length-set}
 use Rattle.patterns.proofs.GroupPushes.{noted_more}
 use Rattle.closure.proofs.Rests.{none_rest}
 use Rattle.closure.proofs.checking.Checker.settle_head.Goals as goal
@@ -23,8 +23,6 @@ index_mut-requires-then-is_empty g c =
 
 pub returns-then-is_empty-clause-covered : goal.returns-then-is_empty-clause-covered
 returns-then-is_empty-clause-covered g c =
-    let left = c.settle.new.self.lookups.left in
-    let none = sym left.ok.0 ∙ eqb-true left.len 0 (sym c.if-is_empty.ensures) in
     let settled = c.in_ok-settle.ensures in
     noted_more c.args.tables.now.board.now c.args.tables.now.groups c.args.covered.now.items c.requires.covered c.in-Some.head true c.in-Some.ensures.0
-    (λ _. none_rest c.args.tables.now.board.now c.args.tables.now.groups c.in-Some.head left.items none (settled.checker.rest c.in-Some.head settled.settled))
+    (λ _. none_rest c.args.tables.now c.settle.new.self settled.checker c.in-Some.head settled.settled c.if-is_empty.ensures)

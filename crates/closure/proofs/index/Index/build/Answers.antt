@@ -2,8 +2,8 @@ use Rattle.std.proofs.Common.{◌∙◌}
 use Rattle.patterns.proofs.Traps.{no_trap}
 use Rattle.closure.proofs.index.Index.build.Goals as goal
 
-pub arena_of-requires : goal.arena_of-requires
-arena_of-requires g c = λ pattern listed q has. rw c.shape.ensures.value ((c.requires pattern listed).board q has)
+pub with_lines-requires : goal.with_lines-requires
+with_lines-requires g c = λ pattern listed q has. rw c.shape.ensures.value ((c.requires pattern listed).board q has)
 
 pub build-requires-clause-lawful : goal.build-requires-clause-lawful
 build-requires-clause-lawful g c = rw c.in_ok-arena.ensures c.requires

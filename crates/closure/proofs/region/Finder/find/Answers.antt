@@ -2,7 +2,8 @@
 -- `RegionCells.antt`). With listed seeds it is what the flood reaches from them past walls and boxes. The pattern is lawful, so its boxes and
 -- seeds lie on the grid and can be put into the sets.
 use Rattle.std.proofs.Common.{inr}
-use Rattle.patterns.{specs.Sides.cells_in, proofs.RegionCells.room_region}
+use Rattle.cell_lists.specs.CellLists.{cells_in}
+use Rattle.patterns.proofs.RegionCells.{room_region}
 use Rattle.closure.proofs.region.Finder.find.Goals as goal
 
 pub load-requires-in-Some : goal.load-requires-in-Some

@@ -6,7 +6,7 @@ use Rattle.patterns.proofs.arena.Arena.add.Goals as goal
 use Rattle.patterns.proofs.arena.Arena.add.Goals.{in-Room, in-Cells+in_ok-span-in-Cells+in-Some-2}
 
 pub invariant_of-self : goal.invariant_of-self
-invariant_of-self c = record { within = kept_within _ _ _ _ c.add_cells.ensures.grown (as_it_was _) _ c.args.self.now.within }
+invariant_of-self c = record { within = kept_within _ _ _ _ c.add_span.ensures.grown (as_it_was _) _ c.args.self.now.within }
 
 pub invariant_of-self-in_default : goal.invariant_of-self-in_default
 invariant_of-self-in_default c = record { within = kept_within _ _ _ _ c.in_ok-boxes.ensures.grown (as_it_was _) _ c.args.self.now.within }
@@ -16,7 +16,7 @@ returns-in_default-clause-added c = kept_lines _ _ _ _ c.in_ok-boxes.ensures.gro
 
 pub invariant_of-self-in-Break-branch-3 : goal.invariant_of-self-in-Break-branch-3
 invariant_of-self-in-Break-branch-3 c =
-    record { within = kept_within _ _ _ _ c.in_ok-boxes.ensures.grown c.add_cells-in-Cells.ensures.grown _ c.args.self.now.within }
+    record { within = kept_within _ _ _ _ c.in_ok-boxes.ensures.grown c.add_span-in-Cells.ensures.grown _ c.args.self.now.within }
 
 pub invariant_of-self-in_default-2 : goal.invariant_of-self-in_default-2
 invariant_of-self-in_default-2 c =

@@ -1,8 +1,9 @@
 use Rattle.std.proofs.Common.{◌≡◌, refl, sym, ◌∙◌, ap}
 use Rattle.std.specs.Prelude.{Option, None, Some, List, map, option_map}
+use Rattle.std.proofs.lemmas.List.{get_or_default}
 use Rattle.cellset.specs.declared.cell.Cell.{Cell}
 use Rattle.patterns.specs.{Pattern.listed, Pattern.pattern_of, Pattern.seeds_of, Arena.coord_of, Arena.line_at, Arena.line_in, Arena.seeds_within, Spans.part}
-use Rattle.patterns.{specs.declared.arena.Span.Span, proofs.Arenas.line_pattern, proofs.Arenas.same_cells, proofs.CellLists.at_any, proofs.Spans.boxes_within}
+use Rattle.patterns.{specs.declared.arena.Span.Span, proofs.Arenas.line_pattern, proofs.Arenas.same_cells, proofs.Spans.boxes_within}
 use Rattle.patterns.proofs.arena.Arena.line.Goals as goal
 
 same_seeds : (seeds : List Cell) (span : Option Span) → seeds_within seeds span ≡ seeds_of (option_map (λ s. map coord_of (part seeds s)) span)
@@ -21,6 +22,6 @@ pub returns-clause-pattern : goal.returns-clause-pattern
 returns-clause-pattern c =
     let arena = c.args.self.now in
     let line = c.index.result.now in
-    let here : line_at arena c.args.line ≡ line = at_any arena.lines.items c.args.line _ _ c.requires ∙ sym c.index.ensures in
+    let here : line_at arena c.args.line ≡ line = get_or_default arena.lines.items c.args.line _ _ c.requires ∙ sym c.index.ensures in
     (λ i. record { boxes = sym (same_cells (part arena.boxes.items line.boxes)) i; seeds = same_seeds arena.seeds.items line.seeds i }) ∙
     (ap (λ l. pattern_of (line_in arena.boxes.items arena.seeds.items l)) (sym here) ∙ sym (line_pattern arena c.args.line c.requires))

@@ -1,7 +1,8 @@
 -- With `*` the region is all that is free (`room_outside`). Otherwise it is what the flood reaches from the seeds (`line_region`).
 use Rattle.std.specs.Prelude.{◌↔◌}
 use Rattle.cellset.{specs.CellSet.Has, proofs.Members.has_empty, proofs.Truth.either}
-use Rattle.patterns.{specs.Sides.cells_in, proofs.RegionCells.line_region, proofs.RegionCells.room_outside, proofs.Turns.through}
+use Rattle.cell_lists.specs.CellLists.{cells_in}
+use Rattle.patterns.proofs.{RegionCells.line_region, RegionCells.room_outside, Turns.through}
 use Rattle.std.proofs.Common.{inr}
 use Rattle.patterns.proofs.group_regions.Flood.find_line.Goals as goal
 

@@ -3,18 +3,10 @@
 -- taken out (`one_piece_without` in `Pieces.antt`). If that isn't sure, `whole` is false from then on and claims nothing.
 use Rattle.std.proofs.{Common.sym, Common.◌∙◌, Common.inl, Common.arith, lemmas.Bool.false≢true}
 use Rattle.cellset.{specs.CellSet.Has, proofs.Members.inserted, proofs.Members.kept_by_insert, proofs.Members.lacks_where, proofs.Members.not_both}
-use Rattle.patterns.proofs.{CellLists.over_cells, Pieces.one_piece_without}
+use Rattle.cell_lists.proofs.CellLists.{over_cells}
+use Rattle.patterns.proofs.Pieces.{one_piece_without}
 use Rattle.patterns.proofs.group_regions.Flood.take_out.Goals.{then-self, else-self}
 use Rattle.patterns.proofs.group_regions.Flood.take_out.Goals as goal
-
-pub loop-cell-init : goal.loop-cell-init
-loop-cell-init c = grind (arith, over_cells)
-
-pub remove-requires : goal.remove-requires
-remove-requires c = grind (arith, over_cells)
-
-pub are_sides_joined-self-requires : goal.are_sides_joined-self-requires
-are_sides_joined-self-requires c = grind (arith, over_cells)
 
 pub loop-cell-preserved : goal.loop-cell-preserved
 loop-cell-preserved c =
@@ -30,6 +22,3 @@ loop-cell-preserved c =
       ];
       free = grind (arith, over_cells, inserted, kept_by_insert, lacks_where, not_both);
     }
-
-pub returns-clause-free : goal.returns-clause-free
-returns-clause-free c = grind (arith, over_cells)

@@ -5,8 +5,9 @@ use Rattle.std.specs.List.{Contains}
 use Rattle.std.proofs.lemmas.List.Elements.{Contains-append_left, Contains-push, Contains-push_cases}
 use Rattle.cellset.proofs.Truth.{either}
 use Rattle.cellset.specs.Shape.{Extent}
+use Rattle.cell_lists.specs.CellLists.{cells_in}
 use Rattle.patterns.specs.{declared.buckets.Buckets.Buckets, declared.search.Search.Search, Search.IsPassed}
-use Rattle.patterns.specs.{Lookups.IsOnward, Place.IsSubset, Settling.CoversNone, Sides.cells_in, declared.lookups.Lookups.Lookups}
+use Rattle.patterns.specs.{Lookups.IsOnward, Place.IsSubset, Settling.CoversNone, declared.lookups.Lookups.Lookups}
 use Rattle.patterns.proofs.Asked.{asked_next, onward_less, onward_on, piece_less, settling_search}
 use Rattle.patterns.proofs.OpenPushes.{taken_none}
 use Rattle.patterns.proofs.lookups.Lookups.ask_next.Goals as goal

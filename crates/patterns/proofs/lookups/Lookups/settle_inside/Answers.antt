@@ -1,7 +1,8 @@
 use Rattle.std.proofs.Common.{◌≡◌, ◌<◌, length, sym, ◌∙◌, subst, arith}
 use Rattle.std.specs.Prelude.{slice_index}
+use Rattle.std.proofs.lemmas.List.{get_or_default}
 use Rattle.patterns.specs.Settling.{CoversNone}
-use Rattle.patterns.proofs.{Asked.onward_less, Asked.onward_on, CellLists.at_any, Numbered.one_more}
+use Rattle.patterns.proofs.{Asked.onward_less, Asked.onward_on, Numbered.one_more}
 use Rattle.patterns.proofs.lookups.Lookups.settle_inside.Goals as goal
 
 pub settle_by-requires-clause-group : goal.settle_by-requires-clause-group
@@ -22,7 +23,7 @@ loop-at-preserved g c =
     let lt : c.loop-at.at < length c.loop-at.self.search.inside.items = rw c.loop-at.invariant.same (omega arith) in
     let items = c.loop-at.self.search.inside.items in
     let here = c.settle_by.new.self.unsettled.here.items in
-    let read : c.index-group.result.now ≡ slice_index items c.loop-at.at = c.index-group.ensures ∙ at_any items c.loop-at.at c.index-group.result.now 0 lt in
+    let read : c.index-group.result.now ≡ slice_index items c.loop-at.at = c.index-group.ensures ∙ get_or_default items c.loop-at.at c.index-group.result.now 0 lt in
     record {
       onward = onward_on task is c.args.self.now c.loop-at.self c.settle_by.new.self inv.onward
           (onward_less task is c.loop-at.self c.settle_by.new.self inv.onward.asked now.asked now.piece);
@@ -40,4 +41,4 @@ returns-clause-none g c =
     let items = c.loop-at.self.search.inside.items in
     λ h has.
     let lt : has.0 < length c.args.self.now.search.inside.items = rw inv.same at has.1 in
-    subst (λ k. CoversNone c.args.task.now k c.loop-at.self.unsettled.here.items) (at_any items has.0 0 h has.1 ∙ has.2) (inv.none has.0 (omega arith))
+    subst (λ k. CoversNone c.args.task.now k c.loop-at.self.unsettled.here.items) (get_or_default items has.0 0 h has.1 ∙ has.2) (inv.none has.0 (omega arith))

@@ -5,9 +5,10 @@
 -- than there are nodes, for which there is room.
 use Rattle.std.proofs.Common.{◌≡◌, ◌<◌, get_or, sym, ◌∙◌, ap, subst, arith}
 use Rattle.std.proofs.lemmas.Bool.{false≢true}
+use Rattle.std.proofs.lemmas.List.{get_or_default}
 use Rattle.cellset.proofs.Members.{lacks_where}
 use Rattle.cellset.specs.{Cell.neighbor, Cell.opposite, declared.dir.Dir.TheVariants.L}
-use Rattle.patterns.{specs.Hits.HitsDecide, specs.SpanningTree.IsTree, specs.declared.tree.Hit.Hit, specs.declared.tree.Node.Node, proofs.CellLists.at_any, proofs.Lists.length_more}
+use Rattle.patterns.{specs.Hits.HitsDecide, specs.SpanningTree.IsTree, specs.declared.tree.Hit.Hit, specs.declared.tree.Node.Node, proofs.Lists.length_more}
 use Rattle.patterns.proofs.{Hits.hits_on, Hits.hits_to, place.Place.walk_to_root.Goals.After-index-in-loop-at}
 use Rattle.patterns.proofs.place.Place.walk_to_root.Goals as goal
 
@@ -28,7 +29,7 @@ leads g c d =
     let less = falls g c in
     let within = c.loop-at.invariant.within in
     (spanning g c).nodes.leads c.loop-at.at r c.loop-at-test.true within ∙ ap (λ x. (get_or nodes x.parent r).cell) (sym c.index-node.ensures) ∙
-    ap (λ x. x.cell) (at_any nodes r.parent r d (omega arith))
+    ap (λ x. x.cell) (get_or_default nodes r.parent r d (omega arith))
 
 -- The cell that is compared with the boxes is the parent's.
 parent_cell : (g : _) (c : After-index-in-loop-at g) (d : Node) → c.index-in-loop-at.result.now.cell ≡
@@ -36,7 +37,7 @@ parent_cell : (g : _) (c : After-index-in-loop-at g) (d : Node) → c.index-in-l
 parent_cell g c d =
     let less = falls g c in
     let within = c.loop-at.invariant.within in
-    ap (λ x. x.cell) (c.index-in-loop-at.ensures ∙ at_any c.args.tree.now.nodes.items c.index-node.result.now.parent c.index-in-loop-at.result.now d (omega arith))
+    ap (λ x. x.cell) (c.index-in-loop-at.ensures ∙ get_or_default c.args.tree.now.nodes.items c.index-node.result.now.parent c.index-in-loop-at.result.now d (omega arith))
 
 pub loop-at-preserved : goal.loop-at-preserved
 loop-at-preserved g c =
@@ -100,4 +101,4 @@ returns-clause-place g c =
     }
 
 pub loop-at-init : goal.loop-at-init
-loop-at-init g c = grind (arith, at_any)
+loop-at-init g c = grind (arith, get_or_default)

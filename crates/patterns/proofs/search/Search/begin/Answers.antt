@@ -2,8 +2,11 @@
 use Rattle.std.proofs.Common.{◌≡◌, refl, subst, inl, inr, arith}
 use Rattle.std.proofs.lemmas.Bool.{cases_lt}
 use Rattle.std.proofs.lemmas.List.Elements.{All-contains_itself, Contains-append_cases, Contains-append_left, Contains-append_right, Contains-push, Contains-push_cases}
+use Rattle.std.proofs.lemmas.List.{get_or_default}
 use Rattle.cellset.{specs.Cell.IsOn, proofs.Truth.either}
-use Rattle.patterns.proofs.{CellLists.at_any, CellLists.in_where, CellLists.no_push, CellLists.of_list, Grouped.boxes_on, Taken.none_in}
+use Rattle.cellset.proofs.CellLists.{listed_has, has_listed}
+use Rattle.patterns.proofs.Lists.{no_push}
+use Rattle.patterns.proofs.{Grouped.boxes_on, Taken.none_in}
 use Rattle.patterns.proofs.search.Search.begin.Goals as goal
 
 pub loop-push-init : goal.loop-push-init
@@ -30,7 +33,7 @@ loop-push-preserved g c =
           (λ same. subst (IsOn c.args.task.now.tables.now.board.now.shape) same (c.requires.pushes _ (All-contains_itself pushes n _ lt)).0.free.on);
       ahead = λ i p below. rw c.in_ok-push.ensures.items (elim (cases_lt i n) [
         | inl low ↦ Contains-append_left xs _ _ (inv.ahead i p low)
-        | inr from ↦ let here : i ≡ n = omega arith in rw (here, at_any pushes n p no_push lt) (Contains-push xs _)
+        | inr from ↦ let here : i ≡ n = omega arith in rw (here, get_or_default pushes n p no_push lt) (Contains-push xs _)
       ]);
     }
 
@@ -42,9 +45,9 @@ returns-clause-search g c = λ buckets.
     let begun = inv.begun in
     let link = inv.link in
     record {
-      on = λ q has. either (Contains-append_cases c.loop-push.self.cells.items task.boxes.now q (of_list _ q (rw c.in_ok-extend_from_slice.ensures.items at has)))
+      on = λ q has. either (Contains-append_cases c.loop-push.self.cells.items task.boxes.now q (has_listed _ q (rw c.in_ok-extend_from_slice.ensures.items at has)))
           (inv.on q)
-          (λ box. boxes_on task.tables.now.board.now task.tables.now.groups is.tables.lawful is.tables.grouped task.group is.group task.boxes.now is.boxes q (in_where _ q box));
+          (λ box. boxes_on task.tables.now.board.now task.tables.now.groups is.tables.lawful is.tables.grouped task.group is.group task.boxes.now is.boxes q (listed_has _ q box));
       begun = omega arith;
       link = omega arith;
       key = λ up. absurd (omega arith);
@@ -55,8 +58,8 @@ returns-clause-ahead g c = λ p listed.
     let low = listed.1 in
     let end = c.loop-push-test.false in
     let came = rw listed.2 at (c.loop-push.invariant.ahead listed.0 p (omega arith)) in
-    rw c.in_ok-extend_from_slice.ensures.items (in_where _ p.to (Contains-append_left _ c.args.task.now.boxes.now p.to came))
+    rw c.in_ok-extend_from_slice.ensures.items (listed_has _ p.to (Contains-append_left _ c.args.task.now.boxes.now p.to came))
 
 pub returns-clause-boxes : goal.returns-clause-boxes
 returns-clause-boxes g c = λ q has.
-    rw c.in_ok-extend_from_slice.ensures.items (in_where _ q (Contains-append_right c.loop-push.self.cells.items _ q (of_list _ q has)))
+    rw c.in_ok-extend_from_slice.ensures.items (listed_has _ q (Contains-append_right c.loop-push.self.cells.items _ q (has_listed _ q has)))

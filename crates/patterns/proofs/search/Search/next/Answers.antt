@@ -2,9 +2,12 @@
 -- link leads to the last group of the bucket (`past_bucket` in `Searches.antt`). After the loop there is a link, and the next one leads to the last
 -- group of the same bucket before it (`past_group`).
 use Rattle.std.proofs.Common.{◌≡◌, ◌<◌, ◌+◌, ◌-◌, Some, length, refl, sym, ◌∙◌, ap, inl, inr, arith}
+use Rattle.std.proofs.lemmas.List.{get_or_default}
 use Rattle.cellset.{specs.SortedList.index, proofs.ReadingOrder.below_index, proofs.Truth.either}
-use Rattle.patterns.specs.{Chains.IsLast, Sides.cell_no}
-use Rattle.patterns.proofs.{CellLists.at_any, CellLists.no_cell, InBuckets.begun, InBuckets.led_on}
+use Rattle.cell_lists.specs.CellLists.{cell_no}
+use Rattle.cell_lists.proofs.CellLists.{no_cell}
+use Rattle.patterns.specs.Chains.{IsLast}
+use Rattle.patterns.proofs.InBuckets.{begun, led_on}
 use Rattle.patterns.proofs.Searches.{fewer_on, next_on, past_all, past_bucket, past_group}
 use Rattle.patterns.proofs.search.Search.next.Goals.{After-index, After-index-2}
 use Rattle.patterns.proofs.search.Search.next.Goals as goal
@@ -39,7 +42,7 @@ loop-self-preserved g c =
     let long = all.long in
     let at : c.index_of.result ≡ index shape (cell_no cells n) =
     c.index_of.ensures.value ∙ ap (λ e. index e c.index.result.now) c.shape-shape.ensures.value ∙
-    ap (index shape) (c.index.ensures ∙ at_any cells n c.index.result.now no_cell lt) in
+    ap (index shape) (c.index.ensures ∙ get_or_default cells n c.index.result.now no_cell lt) in
     let last = begun buckets.keys.items buckets.chains.first.items buckets.chains.next.items _ (index shape (cell_no cells n)) all.chained
     c.index-in-loop-self.result.now (below_index shape (cell_no cells n) (next_on shape groups buckets c.loop-self.self inv.search lt no_cell))
     (rw at at c.index-in-loop-self.ensures) in

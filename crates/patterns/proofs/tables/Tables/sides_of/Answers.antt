@@ -1,9 +1,9 @@
 use Rattle.std.proofs.{Common.arith, lemmas.List.length-take, lemmas.List.length-drop}
-use Rattle.patterns.proofs.CellLists.{at_any}
+use Rattle.std.proofs.lemmas.List.{get_or_default}
 use Rattle.patterns.proofs.tables.Tables.sides_of.Goals as goal
 
 pub index-requires-2 : goal.index-requires-2
-index-requires-2 g c = grind (arith, at_any, length-take, length-drop)
+index-requires-2 g c = grind (arith, get_or_default, length-take, length-drop)
 
 pub returns : goal.returns
-returns g c = grind (arith, at_any, length-take, length-drop)
+returns g c = grind (arith, get_or_default, length-take, length-drop)

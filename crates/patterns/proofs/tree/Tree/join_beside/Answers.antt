@@ -5,9 +5,10 @@
 use Rattle.std.proofs.{Common.set, Common.refl, Common.sym, Common.◌∙◌, Common.ap, Common.subst, Common.arith, lemmas.List.get_or_read}
 use Rattle.std.specs.Vec.{with_item}
 use Rattle.cellset.{specs.Cell.neighbor, specs.SortedList.index, proofs.Members.remove_absent}
+use Rattle.cell_lists.proofs.Counts.{len-remove_member}
+use Rattle.cell_lists.proofs.Sets.{removed_lacks}
 use Rattle.patterns.specs.{SpanningTree.IsGrowing, declared.tree.Node.Node, declared.tree.Tree.Tree}
-use Rattle.patterns.proofs.{Counts.len-remove_member, Spanning.lacks_remove, Spanning.laid_more, Lists.length_more}
-use Rattle.patterns.proofs.Sets.{removed_lacks}
+use Rattle.patterns.proofs.{Spanning.laid_more, Lists.length_more}
 use Rattle.patterns.proofs.tree.Tree.join_beside.Goals as goal
 
 pub returns-then-not-remove-clause-growing : goal.returns-then-not-remove-clause-growing
@@ -15,30 +16,6 @@ returns-then-not-remove-clause-growing g c = grind (arith, remove_absent)
 
 pub returns-then-not-remove-clause-sum : goal.returns-then-not-remove-clause-sum
 returns-then-not-remove-clause-sum g c = grind (arith, remove_absent)
-
-pub returns-then-not-remove-clause-kept : goal.returns-then-not-remove-clause-kept
-returns-then-not-remove-clause-kept g c = grind (arith, lacks_remove)
-
-pub returns-then-not-remove-clause-beside : goal.returns-then-not-remove-clause-beside
-returns-then-not-remove-clause-beside g c = grind (arith, get_or_read, removed_lacks)
-
-pub returns-in_err-parent-clause-kept : goal.returns-in_err-parent-clause-kept
-returns-in_err-parent-clause-kept g c = grind (arith, lacks_remove)
-
-pub returns-in_err-parent-clause-beside : goal.returns-in_err-parent-clause-beside
-returns-in_err-parent-clause-beside g c = grind (arith, get_or_read, removed_lacks)
-
-pub returns-in_err-push-clause-kept : goal.returns-in_err-push-clause-kept
-returns-in_err-push-clause-kept g c = grind (arith, lacks_remove)
-
-pub returns-in_err-push-clause-beside : goal.returns-in_err-push-clause-beside
-returns-in_err-push-clause-beside g c = grind (arith, get_or_read, removed_lacks)
-
-pub returns-in_err-number-clause-kept : goal.returns-in_err-number-clause-kept
-returns-in_err-number-clause-kept g c = grind (arith, lacks_remove)
-
-pub returns-in_err-number-clause-beside : goal.returns-in_err-number-clause-beside
-returns-in_err-number-clause-beside g c = grind (arith, get_or_read, removed_lacks)
 
 pub returns-clause-growing : goal.returns-clause-growing
 returns-clause-growing g c =
@@ -57,9 +34,3 @@ returns-clause-growing g c =
 
 pub returns-clause-sum : goal.returns-clause-sum
 returns-clause-sum g c = grind (arith, len-remove_member, length_more)
-
-pub returns-clause-kept : goal.returns-clause-kept
-returns-clause-kept g c = grind (arith, lacks_remove)
-
-pub returns-clause-beside : goal.returns-clause-beside
-returns-clause-beside g c = grind (arith, get_or_read, removed_lacks)

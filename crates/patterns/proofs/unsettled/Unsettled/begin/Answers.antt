@@ -1,10 +1,14 @@
 -- Each push out of the group moves one of its boxes, in one of the four directions.
 use Rattle.std.proofs.Common.{◌≡◌, ◌⊎◌, sym, ◌∙◌, ap, subst, inl, inr, arith}
 use Rattle.std.specs.List.{Contains}
+use Rattle.std.proofs.lemmas.List.{get_or_default}
 use Rattle.cellset.{specs.CellSet.Has, proofs.Truth.either}
 use Rattle.reach.specs.declared.pushes.Push.{Push}
-use Rattle.patterns.specs.{Sides.cell_no, Sides.cells_in, Settling.IsPushOut, Settling.IsSettled}
-use Rattle.patterns.proofs.{CellLists.at_any, CellLists.no_cell, CellLists.of_list, Numbered.one_more, OpenPushes.each_dir}
+use Rattle.cell_lists.specs.CellLists.{cell_no, cells_in}
+use Rattle.cell_lists.proofs.CellLists.{no_cell}
+use Rattle.cellset.proofs.CellLists.{has_listed}
+use Rattle.patterns.specs.Settling.{IsPushOut, IsSettled}
+use Rattle.patterns.proofs.{Numbered.one_more, OpenPushes.each_dir}
 use Rattle.patterns.proofs.unsettled.Unsettled.begin.Goals as goal
 
 pub loop-number-preserved : goal.loop-number-preserved
@@ -35,6 +39,6 @@ returns-clause-all g c =
     let past = c.loop-number-test.false in
     λ push out.
     let box = subst (λ b. Has (cells_in b) push.from) (sym c.requires.task.boxes) out.box in
-    let found = of_list task.boxes.now push.from box in
+    let found = has_listed task.boxes.now push.from box in
     let lt = found.1 in
-    c.loop-number.invariant.all found.0 (omega arith) push out (sym found.2 ∙ at_any task.boxes.now found.0 push.from no_cell found.1)
+    c.loop-number.invariant.all found.0 (omega arith) push out (sym found.2 ∙ get_or_default task.boxes.now found.0 push.from no_cell found.1)

@@ -1,7 +1,8 @@
 use Rattle.std.proofs.Common.{◌≡◌, ◌⊎◌, ℕ, ◌<◌, []}
 use Rattle.std.specs.List.{Contains}
 use Rattle.reach.specs.declared.pushes.Push.{Push}
-use Rattle.patterns.specs.{Sides.cell_no, Settling.AreOpen, Settling.IsPushOut, Settling.IsSettled}
+use Rattle.cell_lists.specs.CellLists.{cell_no}
+use Rattle.patterns.specs.Settling.{AreOpen, IsPushOut, IsSettled}
 use Rattle.patterns.proofs.unsettled.Unsettled.begin.Given as goal
 
 abbrev pub invariant-loop-number : goal.invariant-loop-number

@@ -2,9 +2,10 @@
 use Rattle.std.proofs.Common.{◌≡◌, ◌<◌, [], ◌∷◌, length, refl, sym, ◌∙◌, subst, inl, inr, arith}
 use Rattle.std.proofs.lemmas.List.Elements.{Contains-append_left, Contains-push, Contains-push_cases}
 use Rattle.std.specs.List.{Contains}
+use Rattle.std.proofs.lemmas.List.{get_or_default}
 use Rattle.patterns.specs.Piece.{InPiece}
 use Rattle.reach.specs.declared.pushes.Push.{Push}
-use Rattle.patterns.proofs.{CellLists.at_any, Taken.taken_kept, Taken.taken_only}
+use Rattle.patterns.proofs.Taken.{taken_kept, taken_only}
 use Rattle.patterns.proofs.unsettled.Unsettled.enter.Goals as goal
 
 pub loop-at-preserved-then-in_piece : goal.loop-at-preserved-then-in_piece
@@ -18,7 +19,7 @@ loop-at-preserved-then-in_piece c =
     let len = c.len.ensures in
     let in_old : c.loop-at.at < length old = omega arith in
     let read = c.index-push.ensures in
-    let same : c.swap_remove.result ≡ push = c.swap_remove.ensures.value ∙ (at_any old c.loop-at.at c.swap_remove.result push in_old ∙ sym read) in
+    let same : c.swap_remove.result ≡ push = c.swap_remove.ensures.value ∙ (get_or_default old c.loop-at.at c.swap_remove.result push in_old ∙ sym read) in
     let only = taken_only old c.swap_remove.new.self.items c.loop-at.at c.swap_remove.result in_old c.swap_remove.ensures.value c.swap_remove.ensures.items in
     let kept = taken_kept old c.swap_remove.new.self.items c.loop-at.at c.swap_remove.result in_old c.swap_remove.ensures.value c.swap_remove.ensures.items in
     let more = c.in_ok-push.ensures.items in

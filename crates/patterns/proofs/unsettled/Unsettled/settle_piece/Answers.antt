@@ -2,7 +2,8 @@
 use Rattle.std.proofs.Common.{sym, ◌∙◌, inl, inr, arith}
 use Rattle.std.proofs.lemmas.Bool.{false≢true}
 use Rattle.cellset.proofs.{Truth.either}
-use Rattle.patterns.{specs.Groups.position_at, specs.Sides.cells_in, proofs.Settled.lacks_pushed, proofs.Taken.none_in}
+use Rattle.cell_lists.specs.CellLists.{cells_in}
+use Rattle.patterns.{specs.Groups.position_at, proofs.Settled.lacks_pushed, proofs.Taken.none_in}
 use Rattle.patterns.proofs.OpenPushes.{inside_player, inside_settles, noted_settles, open_in}
 use Rattle.patterns.proofs.unsettled.Unsettled.settle_piece.Goals as goal
 

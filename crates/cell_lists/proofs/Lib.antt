@@ -1,0 +1,3 @@
+pub mod CellLists
+pub mod Counts
+pub mod Sets

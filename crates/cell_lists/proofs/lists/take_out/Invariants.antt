@@ -1,0 +1,10 @@
+use Rattle.std.proofs.Common.{◌≡◌, take}
+use Rattle.std.specs.FinSet as set
+use Rattle.cell_lists.specs.CellLists.{cells_in}
+use Rattle.cell_lists.proofs.lists.take_out.Given as goal
+
+abbrev pub invariant-loop-cell : goal.invariant-loop-cell
+invariant-loop-cell g l = record {
+  extent : g.S.CellSet.extent l.set ≡ g.S.CellSet.extent l.fn.set;
+  members : g.S.CellSet.members l.set ≡ set.difference (g.S.CellSet.members l.fn.set) (cells_in (take l.cell-index l.cells));
+}

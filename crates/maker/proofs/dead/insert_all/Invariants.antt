@@ -1,0 +1,17 @@
+-- The rows have the cells seen so far, and the cells that they had before the loop.
+use Rattle.std.proofs.Common.{◌≡◌, ◌++◌}
+use Rattle.std.specs.Prelude.{◌↔◌, ◌⊎◌}
+use Rattle.std.specs.List.{Contains}
+use Rattle.cellset.specs.CellSet.{Has}
+use Rattle.cellset.specs.Members.{AreMembersOf}
+use Rattle.cellset.specs.declared.cell.Cell.{Cell}
+use Rattle.maker.proofs.dead.insert_all.Given as goal
+
+abbrev pub invariant-loop-cell : goal.invariant-loop-cell
+invariant-loop-cell g l = record {
+  can_next : (goal.iterator-loop-cell g).can_next l.cell-iterator;
+  is_finite : (goal.iterator-loop-cell g).is_finite l.cell-iterator;
+  all : AreMembersOf (g.S.CellSet.extent l.cells) (g.S.CellSet.members l.cells) (l.yielded ++ l.cell-iterator);
+  extent : l.rows.extent ≡ l.fn.rows.extent;
+  members : (q : Cell) → Has l.rows.members q ↔ (Has l.fn.rows.members q ⊎ Contains l.yielded q);
+}

@@ -1,7 +1,0 @@
-use Rattle.std.proofs.Common.{take}
-use Rattle.cellset.specs.CellSet.{Lacks}
-use Rattle.patterns.specs.Sides.{cells_in}
-use Rattle.patterns.proofs.cells.number_of.Given as goal
-
-abbrev pub invariant-loop-number : goal.invariant-loop-number
-invariant-loop-number l = Lacks (cells_in (take l.number l.cells)) l.fn.cell

@@ -1,0 +1,26 @@
+use Rattle.std.proofs.Common.{sym, ap, ◌∙◌, inl, inr, ⊎_elim}
+use Rattle.sokoaudit_c.specs.Outcome.{outcome_of_answers, outcome_of_fault}
+use Rattle.sokoaudit_c.proofs.Walks.{as_many}
+use Rattle.sokoaudit_c.proofs.records.sokoaudit_records.Goals as goal
+
+pub put_spans-requires : goal.put_spans-requires
+put_spans-requires c =
+    let (entries, spelled, are) = c.in-Ok.ensures.found in (c.args.levels, entries, spelled, rw (← c.deref.ensures.value) at are)
+
+pub returns-in-Ok-clause-done : goal.returns-in-Ok-clause-done
+returns-in-Ok-clause-done c _ =
+    let (entries, spelled, are) = c.in-Ok.ensures.found in
+    let held = rw (← c.deref.ensures.value) at are in (
+      entries,
+      spelled,
+      c.put_spans.ensures c.args.levels entries spelled held,
+      c.of_answers.ensures ∙ ap (outcome_of_answers 0) (c.len.ensures ∙ sym c.deref.ensures.len ∙ as_many c.deref.result.now entries held),
+    )
+
+pub returns-in-Ok-clause-first : goal.returns-in-Ok-clause-first
+returns-in-Ok-clause-first c = λ fault first. absurd (c.in-Ok.ensures.refused fault first)
+
+pub returns-in-Err-clause-first : goal.returns-in-Err-clause-first
+returns-in-Err-clause-first c = λ fault first.
+    ⊎_elim (λ none. inl (c.of_fault.ensures ∙ ap outcome_of_fault none)) (λ same. inr (c.of_fault.ensures ∙ ap outcome_of_fault same))
+    (c.in-Err.ensures.refused fault first)

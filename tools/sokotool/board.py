@@ -1,0 +1,183 @@
+"""The game: a level's board, whether it is legal, and how letters play on it.
+
+A place is a number: row * stride + column, both from 1. The board has a rim of walls, so a step
+adds a number to a place and never leaves the board.
+"""
+import re
+from typing import FrozenSet, List, Optional, Sequence, Set, Tuple
+
+from . import levels, texts
+from .forms import OPEN, form_of
+from .levels import LARGEST_SIDE, Level, OfRows
+
+_BLANKS = b" \t\r\n"
+
+
+class Board:
+    """The board of a level. `walls[place]` is 1 for walls, with the rim; `goals`, `boxes` and
+    `room` are sets of places.
+
+    `fault` is None for a legal level, and otherwise the auditor's word. A board with a side that is
+    too long is left empty.
+    """
+
+    def __init__(self, level: Level):
+        rows = level.rows
+        self.width, self.height = max(map(len, rows)), len(rows)
+        is_large = max(self.width, self.height) > LARGEST_SIDE
+        self.fault: Optional[str] = "size" if is_large else None
+        if is_large:
+            rows = []
+        self.stride = self.width + 2 if rows else 2
+        self.steps = {"l": -1, "u": -self.stride, "r": 1, "d": self.stride}
+        self.walls = bytearray(b"\1") * (self.stride * (len(rows) + 2))
+        self._read(rows)
+        self.player = self.players[0] if len(self.players) == 1 else None
+        self._room: Optional[FrozenSet[int]] = None
+        self._solved: Optional["Replay"] = None
+        self.fault = self.fault or self._first_fault(level)
+
+    def _read(self, rows: Sequence[bytes]) -> None:
+        goals: List[int] = []
+        boxes: List[int] = []
+        self.players: List[int] = []
+        for y, row in enumerate(rows, 1):
+            start = y * self.stride + 1
+            cells = row.ljust(self.width)
+            self.walls[start:start + self.width] = cells.translate(_WALLS)
+            for found in _MARKS.finditer(cells):
+                x, cell = start + found.start(), found[0]
+                if cell in _GOALS:
+                    goals.append(x)
+                if cell in _BOXES:
+                    boxes.append(x)
+                elif cell in _PLAYERS:
+                    self.players.append(x)
+        self.goals, self.boxes = frozenset(goals), frozenset(boxes)
+
+    def _first_fault(self, level: Level) -> Optional[str]:
+        if self.player is None:
+            return "player"
+        if not self.boxes:
+            return "box"
+        if len(self.boxes) > len(self.goals):
+            return "goals"
+        return "open" if form_of(level).kind == OPEN else None
+
+    @property
+    def doubt(self) -> Optional[str]:
+        """Why rows of the level may be missing, in words, or None."""
+        if self.fault == "size":
+            return f"has more than {LARGEST_SIDE} columns or rows"
+        if self.player is None:
+            return f"has {texts.count(len(self.players), 'player')}: are these all of its rows?"
+        if self.fault == "open":
+            return "isn't closed by walls: are these all of its rows?"
+        return None
+
+    @property
+    def room(self) -> FrozenSet[int]:
+        """The places that the player could reach if there were no boxes; none without exactly one
+        player."""
+        if self._room is None:
+            walls, steps = self.walls, tuple(self.steps.values())
+            work = [] if self.player is None else [self.player]
+            found = set(work)
+            while work:
+                place = work.pop()
+                for step in steps:
+                    near = place + step
+                    if near not in found and not walls[near]:
+                        found.add(near)
+                        work.append(near)
+            self._room = frozenset(found)
+        return self._room
+
+    def place(self, column: int, row: int) -> Optional[int]:
+        """Returns the place of a cell, or None off the board."""
+        is_on_board = 1 <= column <= self.width and 1 <= row <= self.height
+        return row * self.stride + column if is_on_board else None
+
+    def cell(self, place: int) -> Tuple[int, int]:
+        """Returns the column and the row of a place, both from 1."""
+        return place % self.stride, place // self.stride
+
+    def replay(self, letters: bytes, any_case: bool = False) -> "Replay":
+        """Plays letters (bytes) from the start. With `any_case`, a letter in the wrong case is
+        changed, not refused. The last replay that solved the level is kept."""
+        if self._solved and self._solved.letters == letters:
+            return self._solved
+        replay = Replay(self, letters, any_case)
+        if replay.fault is None:
+            self._solved = replay
+        return replay
+
+
+board_of = OfRows(Board)
+
+
+class Replay:
+    """Letters played from the start: counts, the letters in their case, the boxes and the player at
+    the end, and the first fault.
+
+    `fault` is None if the level is solved, and otherwise what the report says: `move 3 wall`,
+    `unsolved 2`. `solved` has pairs of numbers of moves: from the first to the second, all boxes
+    are on goals.
+    """
+
+    def __init__(self, board: Board, letters: bytes, any_case: bool = False):
+        self.moves = self.pushes = self.changes = 0
+        self.boxes: Set[int] = set(board.boxes)
+        self.player = board.player
+        self.fault: Optional[str] = None
+        self.letters: bytes = b""
+        self.solved: List[Tuple[int, int]] = []
+        self._play(board, letters.translate(None, _BLANKS), any_case)
+        if self.fault is None:
+            off = len(self.boxes - board.goals)
+            self.fault = f"unsolved {off}" if off else None
+
+    def _play(self, board: Board, letters: bytes, any_case: bool) -> None:
+        walls, boxes, player = board.walls, self.boxes, board.player or 0
+        steps = {ord(d): step for d, step in board.steps.items()}
+        goals, off, since = board.goals, len(boxes - board.goals), 0
+        last, why, played = None, None, bytearray()
+        for letter in letters:
+            small = letter | 32
+            step = steps.get(small, 0)
+            near = player + step
+            if near not in boxes:
+                why = ("letter" if not step else "wall" if walls[near]
+                       else "case" if letter != small and not any_case else None)
+                if why:
+                    break
+                played.append(small)
+            else:
+                far = near + step
+                why = ("blocked" if walls[far] or far in boxes
+                       else "case" if letter == small and not any_case else None)
+                if why:
+                    break
+                boxes.remove(near)
+                boxes.add(far)
+                self.pushes += 1
+                self.changes += near != last
+                last = far
+                if (near in goals) != (far in goals):
+                    if not off:
+                        self.solved.append((since, len(played)))
+                    off += 1 if near in goals else -1
+                    since = len(played) + 1
+                played.append(small ^ 32)
+            player = near
+        self.player, self.moves, self.letters = player, len(played), bytes(played)
+        if not off:
+            self.solved.append((since, self.moves))
+        if why:
+            self.fault = f"move {self.moves + 1} {why}"
+
+
+_WALLS = bytes(cell == ord(levels.WALL) for cell in range(256))
+_GOALS, _BOXES = levels.GOALS.encode(), levels.BOXES.encode()
+_PLAYERS = levels.PLAYERS.encode()
+_MARKS = re.compile(b"[%b]" % re.escape(_GOALS + _BOXES + _PLAYERS))

@@ -1,0 +1,282 @@
+"""A collection while it is built: the text of its levels, their solutions, and messages."""
+from typing import Callable, Dict, List, NamedTuple, Optional, Sequence, Tuple
+
+from . import answers, levels, texts
+from .board import Board, Replay, board_of
+from .formats import coding
+from .places import Place
+
+MOST_NAMED = 5
+MOVES, PUSHES, BOTH = "moves", "pushes", "both"
+# takes a place, why it is reported, and whether something is left out or wrong
+Report = Callable[[Place, str, bool], None]
+
+
+class Attempt(NamedTuple):
+    """Letters played on a level, each in its case, with counts.
+
+    `why` is None if they solve it; `plays` is false if a letter is no legal step. `solved` has
+    pairs of numbers of moves: from the first to the second, all boxes are on goals.
+    """
+
+    letters: bytes
+    moves: int
+    pushes: int
+    plays: bool
+    why: Optional[str]
+    solved: Sequence[Tuple[int, int]] = ()
+
+
+class Try(NamedTuple):
+    """An attempt, where its letters are, and comments on it."""
+
+    file: str
+    line: int
+    attempt: Attempt
+    notes: List[str]
+
+
+class Collection:
+    """Collects levels, text and solutions.
+
+    `faults` counts what was reported as left out or wrong. Of these, `unsolved` counts the
+    solutions that are kept although they leave boxes off the goals, and `torn` the levels that seem
+    to lack rows. If both of the best are kept, `others` has the solutions with fewer pushes by the
+    numbers of their levels. With `split`, a collection that is too large becomes several: `count`
+    has the levels of the last one, and `total` all levels. If it doesn't, `advice` follows.
+    """
+
+    def __init__(self, best: str = "", split: bool = False, encoding: str = "",
+                 report: Report = lambda *_: None,
+                 advice: str = "; --split writes several collections") -> None:
+        self.best, self.split, self.encoding, self.advice = best, split, encoding, advice
+        self._report = report
+        self.full: List[Tuple[bytes, bytes]] = []
+        self.text = bytearray()
+        self.records: List[bytes] = []
+        self.others: Dict[int, bytes] = {}
+        self.count = self.total = 0
+        self.solutions = self.faults = self.unsolved = self.torn = 0
+        self.file = self.published = ""
+        # the names of files as they are published, and of those that have nothing to read, by the
+        # game that they are for
+        self.names: Dict[str, str] = {}
+        self.idle: Dict[str, List[str]] = {}
+        # where each level is
+        self.origins: List[Place] = []
+        self.level: Optional[levels.Level] = None
+        self._board: Optional[Board] = None
+        self._tries: List[Try] = []
+        self._spares: List[Try] = []
+        self._letters = self._played = 0
+        self._after_row = False
+
+    # ---- messages
+
+    def fault(self, line: int, why: str, file: Optional[str] = None) -> None:
+        """Reports what is left out or wrong, and where: by default in the file that is read."""
+        self._report(self._place(line, file), why, True)
+        self.faults += 1
+
+    def note(self, line: int, why: str, file: Optional[str] = None) -> None:
+        """Reports what was read with a change."""
+        self._report(self._place(line, file), why, False)
+
+    def _place(self, line: int, file: Optional[str] = None) -> Place:
+        file = file or self.file
+        return Place(file, self.names.get(file, file), line)
+
+    def source(self) -> str:
+        """Returns the comment that names the file. With its key it is no title."""
+        return "; File: " + texts.shown(self.published)
+
+    def report_idle(self) -> None:
+        """Reports the files without a level, and those of each other game."""
+        for other, names in sorted(self.idle.items()):
+            named = ", ".join(map(texts.shown, sorted(names)[:MOST_NAMED]))
+            more = ", .." if len(names) > MOST_NAMED else ""
+            has, is_ = ("has", "is") if len(names) == 1 else ("have", "are")
+            why = f"of {other} {is_} not read" if other else f"{has} no level"
+            self.note(0, f"{texts.count(len(names), 'file')} {why}: {named}{more}")
+
+    def summary(self) -> str:
+        """Returns how much was read and left out."""
+        unsolved = f", {self.unsolved} unsolved" if self.unsolved else ""
+        files = f" in {len(self.full) + 1} collections" if self.full else ""
+        return (f"{self.total} levels{files}, {self.solutions} solutions, "
+                f"{self.faults - self.unsolved - self.torn} left out{unsolved}")
+
+    # ---- levels and text
+
+    def add_text(self, line: str) -> None:
+        """Adds a line that isn't a row, as a comment if the auditor would read it as one."""
+        self._add(("; " + line if levels.is_row(line.encode("utf-8", "replace")) else line))
+
+    def add_lines(self, lines: Sequence[str]) -> None:
+        """Adds lines without a wall."""
+        if lines:
+            self._add("\n".join(lines))
+
+    def add_comment(self, lines: Sequence[str]) -> None:
+        """Adds rows that aren't a level, as comments."""
+        self._add("; " + "\n; ".join(lines))
+
+    def add_level(self, rows: Sequence[str], line: int, title: str = "") -> None:
+        """Adds a level, after an empty line if the line before is a row."""
+        self.end_level()
+        drawn = "\n".join(rows)
+        if self.split and self._is_full(len(drawn)):
+            self._begin_next()
+        if self.count == levels.MOST_LEVELS:
+            raise texts.Stop(f"{texts.shown(self.file)} line {line}: more than "
+                             f"{levels.MOST_LEVELS} levels{self.advice}")
+        if self._after_row:
+            self._add("")
+        self._add(drawn)
+        self.count += 1
+        self.total += 1
+        self._after_row = True
+        kept = [row.encode() for row in rows[:levels.LARGEST_SIDE + 1]]
+        self.level = levels.Level(self.count, kept, line)
+        self.origins.append(self._place(line))
+        self._board = board_of(self.level)
+        doubt = self._board.doubt
+        if doubt:
+            self.fault(line, f"level {self.count} {doubt}")
+            self.torn += 1
+        if title:
+            self.add_text("Title: " + title)
+
+    def _is_full(self, length: int) -> bool:
+        """Returns whether a level of this length, with a long solution, may be too much for one
+        file."""
+        most = texts.MOST_BYTES // 4 * 3
+        return (self.count == levels.MOST_LEVELS or self._letters > most
+                or self.count > 0 and len(self.text) + length > most)
+
+    def _begin_next(self) -> None:
+        self.full.append((bytes(self.text), answers.text(self.records)))
+        self.text, self.records = bytearray(), []
+        self.count = self._letters = 0
+        self.add_text(self.source())
+
+    def _add(self, text: str) -> None:
+        data = text.encode("utf-8", "replace")
+        if len(self.text) + len(data) >= texts.MOST_BYTES:
+            raise texts.Stop(f"{texts.shown(self.file)}: the levels are longer than "
+                             f"{texts.MOST_BYTES} bytes{self.advice}")
+        self.text += data + b"\n"
+        self._after_row = False
+
+    # ---- solutions
+
+    def attempt(self, letters: str) -> Attempt:
+        """Plays letters, run-length coded or not, on the last level."""
+        return self.attempt_on(self._board, letters)
+
+    def attempt_on(self, board: Optional[Board], letters: str) -> Attempt:
+        """Plays letters, run-length coded or not, on the board of a level."""
+        if board is None or board.player is None:
+            too_large = board is not None and board.fault == "size"
+            return _failed("cannot be played: " + ("the level is too large" if too_large
+                                                   else "not exactly one player"))
+        try:
+            most = texts.MOST_BYTES - self._letters
+            text = coding.expand(letters, most) if coding.is_coded(letters) else letters
+        except coding.Wrong as wrong:
+            return _failed(str(wrong))
+        self._played += len(text)
+        if len(text) > most or self._played > 3 * texts.MOST_BYTES:
+            return _failed("is longer than an answers file may be, with those before it")
+        replay = board.replay(text.encode("ascii", "replace"), any_case=True)
+        return Attempt(replay.letters, replay.moves, replay.pushes,
+                       not (replay.fault or "").startswith("move"), _why(replay, text),
+                       replay.solved)
+
+    def add_try(self, line: int, attempt: Attempt) -> None:
+        """Adds an attempt to solve the last level; a level may have several."""
+        self._tries.append(Try(self.file, line, attempt, []))
+
+    def add_spare(self, line: int, attempt: Attempt) -> None:
+        """Adds letters that solve the last level, for use if no solution does."""
+        self._spares.append(Try(self.file, line, attempt, []))
+
+    def end_level(self) -> None:
+        """Ends the last level, and adds the solution of it that is kept."""
+        solving = [it for it in self._tries if it.attempt.why is None] or self._spares[:1]
+        failing = [it for it in self._tries if it.attempt.why is not None]
+        playing = [it for it in failing if it.attempt.plays]
+        kept, other = (self.choose(self.count, solving) if solving
+                       else (playing[0] if playing else None, None))
+        for it in failing:
+            self.fault(it.line, f"the solution of level {self.count} {it.attempt.why}", it.file)
+            self.unsolved += it is kept
+        if kept:
+            self.records.append(answers.solution(self.count, kept.attempt.letters))
+            self.solutions += 1
+            self._letters += len(kept.attempt.letters)
+        if other:
+            self.others[self.count] = answers.solution(self.count, other.attempt.letters)
+            self._letters += len(other.attempt.letters)
+        self.level = self._board = None
+        self._tries, self._spares = [], []
+
+    def choose(self, number: int, solving: Sequence[Try]) -> Tuple[Try, Optional[Try]]:
+        """Returns the solution of a level to keep: the best one, or the first one, with a report of
+        the others. If both of the best are kept, that is the one by moves, and the other one by
+        pushes is returned too if it has fewer."""
+        if self.best:
+            by = PUSHES if self.best == PUSHES else MOVES
+            kept, other = (min(solving, key=lambda it: _cost(it.attempt, best))
+                           for best in (by, PUSHES))
+            is_other = self.best == BOTH and other.attempt.pushes < kept.attempt.pushes
+            return kept, other if is_other else None
+        kept, seen = solving[0], {solving[0].attempt.letters}
+        for it in solving[1:]:
+            if it.attempt.letters not in seen:
+                seen.add(it.attempt.letters)
+                self.fault(it.line, f"another solution of level {number}, {_size(it.attempt)}, is "
+                           f"left out: the first has {_size(kept.attempt)}", it.file)
+        return kept, None
+
+    # ---- the files
+
+    def parts(self) -> List[Tuple[bytes, bytes]]:
+        """Returns the levels and the answers of each collection."""
+        return [*self.full, (bytes(self.text), answers.text(self.records))]
+
+    def files(self, name: str) -> List[Tuple[str, bytes]]:
+        """Returns the names and bytes of the two files of each collection, with NAME-1.* and so on
+        if there may be several."""
+        found = []
+        for number, (text, written) in enumerate(self.parts(), 1):
+            if len(written) > texts.MOST_BYTES:
+                raise texts.Stop(f"the answers are longer than {texts.MOST_BYTES} bytes")
+            stem = f"{name}-{number}" if self.split else name
+            found += [(stem + ".xsb", text), (stem + ".answers", written)]
+        return found
+
+
+def _failed(why: str) -> Attempt:
+    return Attempt(b"", 0, 0, False, why)
+
+
+def _why(replay: Replay, text: str) -> Optional[str]:
+    """Returns why letters don't solve a level, in words, or None."""
+    if replay.fault is None:
+        return None
+    first, *rest = replay.fault.split()
+    if first == "move":
+        return f"cannot be played: move {rest[0]} ({text[int(rest[0]) - 1].lower()}) {rest[1]}"
+    return f"leaves {texts.count(int(rest[0]), 'box')} off the goals"
+
+
+def _cost(attempt: Attempt, best: str) -> Tuple[int, int]:
+    """Returns the moves and pushes of a solution, those first that are to be few."""
+    counts = (attempt.moves, attempt.pushes)
+    return counts if best == MOVES else (counts[1], counts[0])
+
+
+def _size(attempt: Attempt) -> str:
+    return (f"{texts.count(attempt.moves, 'move')} and "
+            f"{texts.count(attempt.pushes, 'push')}")

@@ -1,0 +1,312 @@
+"""Reads the text between levels. Letters that solve the level above are its solution.
+
+A replay decides that, under any heading or none. Letters under a heading that don't solve the level
+are reported, and so are other lines of eight or more letters.
+"""
+import re
+from bisect import bisect_right
+from itertools import accumulate
+from typing import Dict, List, NamedTuple, Optional, Sequence, Set, Tuple
+
+from .. import texts
+from ..builder import Attempt, Collection
+from . import coding, headings, letters, rows
+from .headings import BLANK, HEADING, LETTERS, PASSED, SAVED, SOFT, SOLID, TITLE, TYPE, WALLS
+
+LONG = 8
+# how many lines are added to the text at once
+MOST_ADDED = 1 << 20
+MOST_TRIED, MOST_PARTS, MOST_LINES = 1000, 100, 5000
+_EVENT = re.compile(b"[^%b%b%b]" % tuple(bytes([it]) for it in (headings.TEXT, BLANK,
+                                                                headings.KEY)))
+_LETTER, _BLANK = bytes([LETTERS]), bytes([BLANK])
+_LETTERS = re.compile(b"[%b%b]+" % (_LETTER, _BLANK))
+
+
+class Heading(NamedTuple):
+    """A heading whose letters have not been read yet: its line, its kind, and letters on the line.
+    """
+
+    at: int
+    kind: int
+    front: str = ""
+
+
+class Between:
+    """Reads the text between levels, line by line, into the collection.
+
+    `kinds` has what each line is, and `reasons` for lines that look like rows and are text where
+    these end, and why.
+    """
+
+    def __init__(self, collection: Collection, lines: List[str], kinds: bytes,
+                 found: Sequence[Optional[rows.Row]], reasons: Dict[int, Tuple[int, str]]) -> None:
+        self.collection, self.lines, self.kinds = collection, lines, kinds
+        self.found, self.reasons = found, reasons
+        self.heading: Optional[Heading] = None
+        # whether the text belongs to a board that was skipped
+        self.is_skipping = False
+        self.kept = 0
+        self.packed = texts.Cache(letters.packed)
+        self.among_words = texts.Cache(letters.among_words)
+        self.why_no_row = texts.Cache(lambda line: rows.why_no_row(line, False))
+        self.tried: Dict[str, Attempt] = {}
+        # lines whose words solve nothing
+        self.idle: Set[str] = set()
+
+    def read(self, first: int, end: int) -> None:
+        """Reads the lines from `first` up to `end`."""
+        self.kept, self.heading, self.tried, self.idle = first, None, {}, set()
+        at = first
+        while True:
+            event = _EVENT.search(self.kinds, at, end)
+            if not event:
+                break
+            at = event.start()
+            if self.kinds[at] == LETTERS:
+                stop = self._end_of_letters(at, end)
+                self._read_letters(at, stop)
+                at = stop
+            else:
+                at = self._read_line(at, end)
+        self._end_heading()
+        self._keep(end)
+        if end - first == 1 and self.kinds[first] != WALLS:
+            self._report_row(first)
+
+    def _keep(self, end: int, after: int = 0) -> None:
+        """Adds the lines up to `end` to the text of the collection, and leaves out those from there
+        up to `after`."""
+        for at in range(self.kept, end, MOST_ADDED):
+            self.collection.add_lines(self.lines[at:min(end, at + MOST_ADDED)])
+        self.kept = after or end
+
+    # ---- single lines
+
+    def _read_line(self, at: int, end: int) -> int:
+        """Reads a line that is not letters alone. Returns where to go on."""
+        kind, line = self.kinds[at], self.lines[at]
+        if line in self.idle and self.heading is None and not self._goes_on(at, end):
+            return at + 1
+        if kind == WALLS and at in self.reasons:
+            after, why = self.reasons[at]
+            self._keep(at, after)
+            self.collection.fault(at + 1, why)
+            self.collection.add_comment(self.lines[at:after])
+            return after
+        if kind == WALLS:
+            self._keep(at, at + 1)
+            if not rows.is_plain(line):
+                self._report_row(at)
+            self.collection.add_text(line)
+        elif kind == TITLE and self.collection.level is None:
+            self._keep(at, at + 1)
+            title = line.partition(":")[2]
+            self.collection.add_text(f"; {line}" if self.is_skipping else "Collection:" + title)
+        elif kind == SOLID and is_foreign_board(self.lines[at:min(end, at + rows.WIDEST)]):
+            self.collection.fault(at + 1, f"a board with {line[0]!r} for walls, which is not read")
+            self.collection.end_level()
+            self.is_skipping = True
+        if kind not in PASSED:
+            self._end_heading()
+        if not self.is_skipping and kind not in (TITLE, TYPE):
+            self._read_words(at, kind, self._goes_on(at, end))
+        return at + 1
+
+    def _goes_on(self, at: int, end: int) -> bool:
+        """Returns whether letters follow a line, perhaps after an empty one."""
+        after = self.kinds[at + 1:min(end, at + 3)]
+        return after[:1] == _LETTER or after == _BLANK + _LETTER
+
+    def _read_words(self, at: int, kind: int, goes_on: bool) -> None:
+        """Tries the letters of a line, and remembers a heading."""
+        found = self.among_words[self.lines[at]]
+        is_solved = self.collection.level is not None and self._try_words(at, found, kind)
+        if (kind == HEADING and self.collection.level is not None
+                and not headings.says_more(self.lines[at])):
+            self._keep(at, at + 1)
+        if not is_solved and (kind in (HEADING, SOFT, SAVED) or found and goes_on):
+            front = found[-1] if found and kind != SAVED else ""
+            self.heading = Heading(at, kind, front)
+        elif self.collection.level is not None and not is_solved:
+            self._report_long(at, found, kind)
+
+    def _report_long(self, at: int, found: List[str], kind: int) -> None:
+        """Reports letters among words that are too many to be words."""
+        if kind in (headings.WORDS, headings.KEY_WORDS) and max(map(len, found), default=0) < LONG:
+            self.idle.add(self.lines[at])
+        for text in found:
+            attempt = self._attempt(text) if len(text) >= LONG else None
+            if attempt:
+                self._report_letters(at, attempt)
+
+    def _report_letters(self, at: int, attempt: Attempt) -> None:
+        self.collection.fault(at + 1, "letters that are no solution of level "
+                                      f"{self.collection.count}: {attempt.why}")
+
+    def _try_words(self, at: int, found: List[str], kind: int) -> bool:
+        """Tries letters among words. Returns whether they solve the level."""
+        for text in found:
+            attempt = self._attempt(text)
+            if attempt and attempt.why is None:
+                if kind in (HEADING, SOFT):
+                    self.collection.add_try(at + 1, attempt)
+                else:
+                    self.collection.add_spare(at + 1, attempt)
+                return True
+        return False
+
+    def _attempt(self, text: str) -> Optional[Attempt]:
+        """Plays letters, each text once, or returns None after MOST_TRIED texts."""
+        if text not in self.tried:
+            if len(self.tried) == MOST_TRIED:
+                return None
+            self.tried[text] = self.collection.attempt(text)
+        return self.tried[text]
+
+    def _end_heading(self) -> None:
+        """Reports letters of a heading that don't solve the level, and a heading without letters.
+        """
+        heading, self.heading = self.heading, None
+        if heading is None:
+            return
+        if self.collection.level is None:
+            if heading.front and heading.kind == HEADING:
+                self._report_no_level(heading.at)
+        elif heading.front and (heading.kind == HEADING or len(heading.front) >= LONG
+                                or headings.ends_in_letters(self.lines[heading.at])):
+            attempt = self._attempt(heading.front)
+            if attempt:
+                self.collection.add_try(heading.at + 1, attempt)
+        elif heading.kind == HEADING:
+            self.collection.fault(heading.at + 1, "a solution heading with no letters")
+
+    # ---- letters
+
+    def _end_of_letters(self, at: int, end: int) -> int:
+        """Returns the end of a run of lines of letters with at most one blank line between two."""
+        match = _LETTERS.match(self.kinds, at, end)
+        stop = match.end() if match else at + 1
+        two = self.kinds.find(_BLANK * 2, at, stop)
+        stop = stop if two < 0 else two
+        while self.kinds[stop - 1] == BLANK:
+            stop -= 1
+        return stop
+
+    def _read_letters(self, first: int, stop: int) -> None:
+        heading = self.heading
+        if heading and self.kinds[heading.at + 1:first].translate(None, PASSED):
+            self._end_heading()
+            heading = None
+        self.heading = None
+        if self.collection.level is None:
+            if heading or sum(map(len, self.lines[first:stop])) >= LONG:
+                self._report_no_level(first)
+            return
+        front = heading.front if heading else ""
+        is_near = heading is not None and self.kinds.count(BLANK, heading.at, first) < 2
+        if front and is_near and self._read_parts(first, stop, heading, front):
+            return
+        if heading and len(front) >= LONG:
+            self._report_long(heading.at, [front], heading.kind)
+        self._read_parts(first, stop, heading, "")
+
+    def _read_parts(self, first: int, stop: int, heading: Optional[Heading], front: str) -> bool:
+        """Reads lines of letters as one solution or several, each cut where it solves the level.
+
+        If there are letters in front, the first solution begins with them; returns false, and reads
+        nothing, if that solves nothing.
+        """
+        parts = 0
+        while first < stop:
+            if parts == MOST_PARTS:
+                self.collection.fault(first + 1, "letters that were not tried: too many before")
+                break
+            end = min(stop, first + MOST_LINES)
+            pieces = list(map(self.packed.__getitem__, self.lines[first:end]))
+            attempt = self.collection.attempt(front + "".join(pieces))
+            used = self._solved_end(front, pieces, attempt, first)
+            if not used and front:
+                return False
+            parts += 1
+            if used:
+                if used < end - first or attempt.why is not None:
+                    attempt = self.collection.attempt(front + "".join(pieces[:used]))
+            else:
+                used, blank = end - first, self.kinds.find(BLANK, first, end)
+                if blank >= 0 and not attempt.plays:
+                    used = blank - first
+                    attempt = self.collection.attempt("".join(pieces[:used]))
+            self._take(first, first + used, heading, attempt)
+            first, heading, front = first + used, None, ""
+            while first < stop and self.kinds[first] == BLANK:
+                first += 1
+        return True
+
+    def _solved_end(self, front: str, pieces: List[str], attempt: Attempt, first: int) -> int:
+        """Returns how many lines solve the level, or 0: up to a blank line if that solves it, and
+        otherwise as few as possible."""
+        if not attempt.solved:
+            return 0
+        if attempt.why is None and len(attempt.solved) == 1 and BLANK not in self.kinds[
+                first:first + len(pieces)]:
+            return len(pieces)
+        try:
+            lengths = list(accumulate(map(_length, [front, *pieces])))
+        except coding.Wrong:
+            return len(pieces) if attempt.why is None else 0
+        starts = [first for first, _ in attempt.solved]
+        found = 0
+        for at, count in enumerate(lengths[1:], 1):
+            span = bisect_right(starts, count) - 1
+            is_solved = span >= 0 and attempt.solved[span][0] <= count <= attempt.solved[span][1]
+            ends = at == len(pieces) or self.kinds[first + at] == BLANK
+            if is_solved and (ends or not found) and pieces[at - 1]:
+                found = at
+            if ends and found:
+                return found
+        return found
+
+    def _take(self, first: int, end: int, heading: Optional[Heading], attempt: Attempt) -> None:
+        """Adds an attempt to the solutions, and drops its lines from the text, if it is one."""
+        kind = heading.kind if heading else 0
+        if kind == SAVED:
+            if attempt.why is None:
+                self.collection.add_spare(first + 1, attempt)
+        elif attempt.why is None or kind in (HEADING, SOFT):
+            self.collection.add_try(first + 1, attempt)
+            self._keep(first, end)
+        elif sum(map(len, self.lines[first:end])) >= LONG:
+            self._report_letters(first, attempt)
+
+    def _report_no_level(self, at: int) -> None:
+        if not self.is_skipping:
+            self.collection.fault(at + 1, "a solution with no level above it")
+
+    def _report_row(self, at: int) -> None:
+        """Reports a line that may be meant as a row."""
+        is_between = (0 < at < len(self.found) - 1 and self.found[at - 1] is not None
+                      and self.found[at + 1] is not None)
+        line = self.lines[at]
+        why = rows.why_no_row(line, True) if is_between else self.why_no_row[line]
+        if why:
+            self.collection.fault(at + 1, why)
+
+
+def _length(piece: str) -> int:
+    """Returns the number of letters of a text, written out if it is coded as a whole."""
+    return len(coding.expand(piece, 1 << 25) if coding.is_coded(piece) else piece)
+
+
+def is_foreign_board(lines: List[str]) -> bool:
+    """Returns whether lines begin with a board whose walls are one character, but not '#'."""
+    wall = lines[0][0]
+    inner = ""
+    for at, line in enumerate(lines[1:], 2):
+        core = line.strip()
+        if len(core) < 3 or core[0] != wall or core[-1] != wall:
+            return False
+        inner += core.replace(wall, "").replace(" ", "")
+        if core.count(wall) == len(core) and at > 2:
+            return len(set(inner)) < 9 and (any(c in "@&$+" for c in inner) or wall > "\x7f")
+    return False

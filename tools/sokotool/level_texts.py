@@ -1,0 +1,62 @@
+"""The levels of a collection, each with the text that belongs to it above and below."""
+import re
+from typing import Callable, FrozenSet, List, NamedTuple, Sequence, Tuple
+
+from . import levels, texts
+
+Lines = Tuple[bytes, ...]
+# what of a block was typed by the keeper
+ABOVE, BELOW, LEVEL = "above", "below", "level"
+_KEY = re.compile(rb"[A-Za-z\x80-\xff][\w\x80-\xff -]*:")
+
+
+class Block(NamedTuple):
+    """The rows of a level, and its text. `typed` says what of it the keeper typed."""
+
+    above: Lines
+    rows: Lines
+    below: Lines
+    typed: FrozenSet[str] = frozenset()
+
+
+def cut(gap: Sequence[bytes]) -> int:
+    """Returns how many lines between two levels belong to the upper one: those up to the last line
+    such as `Title: ..` before a comment, with the lines that follow it."""
+    comment = next((at for at, line in enumerate(gap) if line.startswith(b";")), len(gap))
+    end = max((at + 1 for at in range(comment) if _KEY.match(gap[at])), default=0)
+    while 0 < end < comment and gap[end].strip():
+        end += 1
+    return end
+
+
+def read(data: bytes, cut_of: Callable[[Sequence[bytes]], int] = cut) -> List[Block]:
+    """Returns the levels of a text with all of its lines."""
+    lines = texts.lines(texts.unmarked(data))
+    found: List[Block] = []
+    end = 0
+    for level in levels.read(data):
+        first = level.line - 1
+        gap = lines[end:first]
+        at = cut_of(gap) if found else 0
+        if found:
+            found[-1] = found[-1]._replace(below=tuple(gap[:at]))
+        end = first + len(level.rows)
+        found.append(Block(tuple(gap[at:]), tuple(lines[first:end]), ()))
+    if found:
+        found[-1] = found[-1]._replace(below=tuple(lines[end:]))
+    return found
+
+
+def separated(blocks: Sequence[Block]) -> List[Block]:
+    """Returns blocks with an empty line between levels that have no text between them."""
+    found: List[Block] = []
+    for block in blocks:
+        if found and not found[-1].below and not block.above:
+            block = block._replace(above=(b"",))
+        found.append(block)
+    return found
+
+
+def text(blocks: Sequence[Block]) -> bytes:
+    """Returns the text of separated blocks."""
+    return b"".join(line + b"\n" for block in blocks for part in block[:3] for line in part)

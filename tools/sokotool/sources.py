@@ -1,0 +1,210 @@
+"""The exports that a command reads: files, and the files in folders and zip archives. A file
+.sokoignore in a folder has names and wildcards of files and folders there that aren't read."""
+import fnmatch
+import os
+import re
+import stat
+import unicodedata
+import zipfile
+import zlib
+from typing import Any, Callable, Dict, Iterator, List, NamedTuple, Optional, Sequence, Set, Tuple
+
+from . import texts
+
+MOST_IN_ARCHIVE = 10_000
+MOST_UNPACKED = 8 * texts.MOST_BYTES
+_ZIP = b"PK\3\4"
+IGNORE = ".sokoignore"
+_NUMBER = re.compile("([0-9]+)")
+IsOut = Callable[[str], bool]
+
+
+class Export(NamedTuple):
+    """An export: its name, a function that reads it or raises `Stop`, and whether it was found in a
+    folder or an archive, and not named itself."""
+
+    name: str
+    read: Callable[[], bytes]
+    is_found: bool = True
+
+    @property
+    def end(self) -> str:
+        """The end of its name in small letters: .sol for solutions, .answers for answers, and .xsb
+        for levels as sokotool writes them."""
+        return os.path.splitext(self.name)[1].lower()
+
+    @property
+    def stem(self) -> str:
+        """Its name without the end."""
+        return os.path.splitext(self.name)[0]
+
+
+def listed(names: Sequence[str], is_own: IsOut = lambda _: False) -> List[Export]:
+    """Returns the exports to read: a folder stands for its regular files in order, without hidden
+    ones and those that the command itself writes, and an archive for the files in it. Each folder
+    is read once, and a file that was read isn't read again with a folder.
+
+    A file NAME.sol comes directly after the file NAME.* of its level.
+    """
+    seen: Set[Tuple[int, int]] = set()
+    found = [export for name in names for export in _of(name, seen, is_own)]
+    stems = [export.stem for export in found if export.end != ".answers"]
+    for solution in [export for export in found if export.end == ".sol"]:
+        if stems.count(solution.stem) == 2:
+            found.remove(solution)
+            at = next((at for at, it in enumerate(found)
+                       if it.stem == solution.stem and it.end != ".answers"), len(found) - 1)
+            found.insert(at + 1, solution)
+    return found
+
+
+def levels_of(export: Export, every: Sequence[Export]) -> Optional[Export]:
+    """Returns the levels that a file of answers is for: those of its name, or the only ones that
+    lie beside it."""
+    beside = [it for it in every if it.end == ".xsb"
+              and os.path.dirname(it.name) == os.path.dirname(export.name)]
+    is_other = export.stem.lower().endswith(".other")
+    name = (export.stem[:-6] if is_other else export.stem) + ".xsb"
+    same = [it for it in beside if it.name == name] or [
+        it for it in beside if it.name.lower() == name.lower()]
+    if not same and os.path.isfile(name):
+        same = [Export(name, lambda: texts.read(name))]
+    found = same or beside
+    return found[0] if len(found) == 1 else None
+
+
+def published(names: Sequence[str]) -> Dict[str, str]:
+    """Returns the names of files from their common folder on, so that they don't tell where they
+    are on this machine. On several drives each has a common folder, and its letter comes first."""
+    paths = {name: os.path.abspath(name) for name in names if name != "-"}
+    drives: Dict[str, List[str]] = {}
+    for path in paths.values():
+        drives.setdefault(_drive(path), []).append(os.path.dirname(path))
+    found = {"-": "-"}
+    for name, path in paths.items():
+        drive = _drive(path)
+        inner = _plain(os.path.relpath(path, os.path.commonpath(drives[drive])))
+        found[name] = inner if len(drives) == 1 else f"{drive}/{inner}"
+    return found
+
+
+def _plain(path: str) -> str:
+    """Returns a path with / and composed letters, as git keeps it. macOS may decompose them."""
+    return unicodedata.normalize("NFC", path.replace(os.sep, "/"))
+
+
+def _order(path: str) -> Tuple[List[Any], str]:
+    """Returns what orders names as people count: level2 comes before level10."""
+    parts = _NUMBER.split(_plain(path))
+    return [int(part) if at % 2 else part for at, part in enumerate(parts)], path
+
+
+def _drive(path: str) -> str:
+    """Returns the drive of a path as a part of a name: "" where there are no drives."""
+    return os.path.splitdrive(path)[0].lower().replace(os.sep, "/").strip(":/")
+
+
+def _of(name: str, seen: Set[Tuple[int, int]], is_own: IsOut) -> Iterator[Export]:
+    """Yields the exports that a name on the command line stands for. `seen` gets the folders and
+    files."""
+    is_ignored = _ignored(os.path.dirname(name))
+    if os.path.isdir(name):
+        yield from _in_folder(name, seen, lambda file: is_own(file) or is_ignored(file))
+    elif name == "-" or not os.path.isfile(name):
+        yield Export(name, lambda: texts.read(name), False)
+    else:
+        _is_new(os.stat(name), seen)
+        for export in _in_file(name):
+            if not is_ignored(export.name):
+                yield export._replace(is_found=export.name != name)
+
+
+def _ignored(folder: str) -> IsOut:
+    """Returns a function that tells what the keeper leaves out of a folder. A pattern with a slash
+    is for paths from this folder on, and any other one for names in it and below."""
+    path = os.path.join(folder, IGNORE)
+    lines = texts.decoded(texts.read(path)).splitlines() if os.path.isfile(path) else []
+    patterns = [_plain(line.strip().rstrip("/")) for line in lines if not line.startswith("#")]
+
+    def is_ignored(file: str) -> bool:
+        inner = _plain(os.path.relpath(file, folder or "."))
+        return any(fnmatch.fnmatchcase(inner if "/" in pattern else inner.rpartition("/")[2],
+                                       pattern.lstrip("/")) for pattern in patterns)
+    return is_ignored
+
+
+def _is_new(known: os.stat_result, seen: Set[Tuple[int, int]]) -> bool:
+    """Returns whether a folder or file is seen for the first time."""
+    key = known.st_dev, known.st_ino
+    is_new = key not in seen
+    seen.add(key)
+    return is_new
+
+
+def _in_folder(folder: str, seen: Set[Tuple[int, int]], is_out: IsOut) -> Iterator[Export]:
+    try:
+        if not _is_new(os.stat(folder), seen):
+            return
+        names = sorted(os.listdir(folder), key=_order)
+        is_ignored = _ignored(folder)
+    except OSError as error:
+        yield _unreadable(folder, error.strerror)
+        return
+
+    def is_left(file: str) -> bool:
+        return is_out(file) or is_ignored(file)
+
+    for path in [os.path.join(folder, name) for name in names if not name.startswith(".")]:
+        if is_left(path):
+            continue
+        try:
+            known = os.stat(path)
+        except OSError as error:
+            yield _unreadable(path, error.strerror)
+            continue
+        if stat.S_ISDIR(known.st_mode):
+            yield from _in_folder(path, seen, is_left)
+        elif stat.S_ISREG(known.st_mode) and _is_new(known, seen):
+            yield from (export for export in _in_file(path) if not is_left(export.name))
+
+
+def _in_file(path: str) -> Iterator[Export]:
+    """Yields a file, or the files in it if it is an archive."""
+    try:
+        with open(path, "rb") as file:
+            is_archive = file.read(len(_ZIP)) == _ZIP and zipfile.is_zipfile(file)
+        if not is_archive:
+            yield Export(path, lambda: texts.read(path))
+            return
+        with zipfile.ZipFile(path) as archive:
+            members = [it for it in archive.infolist() if not it.is_dir() and not any(
+                part.startswith((".", "__MACOSX")) for part in it.filename.split("/"))]
+    except (OSError, zipfile.BadZipFile) as error:
+        yield _unreadable(path, getattr(error, "strerror", None) or str(error))
+        return
+    if len(members) > MOST_IN_ARCHIVE or sum(it.file_size for it in members) > MOST_UNPACKED:
+        yield _unreadable(path, f"more than {MOST_IN_ARCHIVE} files or {MOST_UNPACKED} bytes in it")
+        return
+    for member in sorted(members, key=lambda it: _order(it.filename)):
+        yield _packed(path, member)
+
+
+def _packed(path: str, member: zipfile.ZipInfo) -> Export:
+    name = f"{path}/{member.filename}"
+
+    def read() -> bytes:
+        try:
+            with zipfile.ZipFile(path) as archive, archive.open(member) as file:
+                data = file.read(texts.MOST_BYTES + 1)
+        except (OSError, RuntimeError, EOFError, zipfile.BadZipFile, zlib.error) as error:
+            raise texts.Stop(f"cannot read {texts.shown(name)}: {error}") from None
+        if len(data) > texts.MOST_BYTES:
+            raise texts.Stop(f"{texts.shown(name)} is longer than {texts.MOST_BYTES} bytes")
+        return data
+    return Export(name, read)
+
+
+def _unreadable(name: str, why: str) -> Export:
+    def read() -> bytes:
+        raise texts.Stop(f"cannot read {texts.shown(name)}: {why}")
+    return Export(name, read)
