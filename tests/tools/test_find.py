@@ -213,6 +213,15 @@ class Levels(Case):
                          (alone.status, alone.out, alone.err))
 
 
+def rest_of(terminal: int) -> bytes:
+    """What a terminal still has, once nobody can write to it any more."""
+    said = b""
+    with contextlib.suppress(OSError):  # the end, on Linux
+        while got := os.read(terminal, 65536):
+            said += got
+    return said
+
+
 def end_group(group: int) -> None:
     """Ends what a test has left of the processes of a group, where a system has groups."""
     with contextlib.suppress(AttributeError, OSError):
@@ -238,11 +247,12 @@ class Signs(Case):
                                 stderr=theirs)
         os.close(theirs)
         said = b""
-        while not re.search(rb"found: level 2 for \d+ s\r", said):  # it alone is at work
+        # Level 3 has begun, and then level 2 alone is at work.
+        while not re.search(rb"level 3 for.*found: level 2 for \d+ s\r", said, re.DOTALL):
             said += os.read(ours, 65536)
         os.killpg(running.pid, signal.SIGINT)
         self.assertEqual(running.wait(600), 130)
-        said += os.read(ours, 65536)
+        said += rest_of(ours)
         record = "level %d\nunsolvable\npattern 2,2 @ *\nend\n"
         self.assertEqual(self.read("answers").decode(), "sokoban-answers 1\n" + record % 1 +
                          record % 3)
@@ -255,7 +265,7 @@ class Signs(Case):
         ours, theirs = pty.openpty()
         self.find("levels", "--seconds", "5", stdout=subprocess.DEVNULL, stderr=theirs).wait(600)
         os.close(theirs)
-        said = os.read(ours, 65536).decode()
+        said = rest_of(ours).decode()
         self.assertRegex(said, " \rfind: 0 of 1 done, 0 found: level 1 for [1-4] s")
         self.assertTrue(said.rstrip().endswith(total(1, stopped=1)), said)
 
