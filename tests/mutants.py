@@ -111,12 +111,13 @@ def make_page(tree: str) -> None:
 
 
 class Trees:
-    """Copies of this tree, one for each process, in which tests run."""
+    """Copies of this tree, in which tests run: one for each process and one more, since a test
+    often waits for what it started."""
 
     def __init__(self, program: str, room: str):
         self.program, self.free = program, Queue()  # type: ignore[var-annotated]
         self.running: Set[int] = set()
-        self.count = processes()
+        self.count = processes() + 1
         for i in range(self.count):
             self.free.put(copied(f"{room}/{i}"))
 
