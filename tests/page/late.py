@@ -24,7 +24,7 @@ def judging(check: Comparison, tab: Tab) -> None:
                    "levels[0], 'rows', { value: ['no row'] }",
                    "records[1], 'bytes', { value: bytesOf('L\\n') }"):
         tab.give(f"{samples}every.xsb", f"{samples}every.answers")
-        tab.ask(f"Object.defineProperty(shownData.{change}); 0")
+        tab.ask(f"Object.defineProperty($('page').contentWindow.shownData.{change}); 0")
         tab.opened(1)
         check.same(f"not drawn: {change}", 0, len(tab.frame("#level svg")))
 
@@ -150,6 +150,9 @@ def around(check: Comparison, tab: Tab) -> None:
             "new MouseEvent('click', { ctrlKey: true, bubbles: true, cancelable: true })); 0")
     check.same("Ctrl and a click", [[], "Level 301"], [tab.frame("#heading"), tab.ask(
         "opened?.contentDocument.querySelector('#heading').firstChild.textContent")])
+    tab.ask("opened.contentWindow.location.hash = ''; 0")
+    tab.wait("opened.contentDocument.querySelector('.card')")
+    check.same("each window has cards of its own", 1, len(tab.frame("[data-level='301']")))
     check.same("a sentence for old browsers", True, tab.ask(
         "$('old').hidden && $('old').textContent.length > 20"))
 

@@ -107,15 +107,18 @@ def keeping(check: Comparison, tab: Tab) -> None:
                + f"\nlevel 4\n{record}", tab.saved("answers").decode())
     check.same("so does their verdict", "level 3 refused line 19 syntax",
                tab.text("lines").splitlines()[2])
-    tab.ask("clear(); 0")
     with open(f"{TOP}/samples/zones.xsb", encoding="utf-8") as file:
-        tab.paste("answers", "sokoban-answers 1\n; mine\n")
-        tab.paste("levels", file.read())
-    tab.click("#make")
-    tab.wait("$('notes').textContent.includes('Certificates were made')")
-    check.same("a header that rises is said", [True, "sokoban-answers 2"], [
-        "'sokoban-answers 2' now" in tab.text("notes"),
-        tab.saved("answers").decode().splitlines()[0]])
+        levels = file.read()
+    for records in "", "level 1\nunsolvable\nzone 2,2\nend\n":
+        tab.ask("clear(); 0")
+        tab.paste("answers", f"sokoban-answers 1\n; mine\n{records}")
+        tab.paste("levels", levels)
+        tab.click("#make")
+        tab.wait("$('notes').textContent.includes('Certificates were made')")
+        check.same("a header that rises is said if there are records",
+                   [records != "", "sokoban-answers 2"], [
+                       "'sokoban-answers 2' now" in tab.text("notes"),
+                       tab.saved("answers").decode().splitlines()[0]])
 
 
 def several(check: Comparison, tab: Tab) -> None:

@@ -19,7 +19,6 @@ function tellAll(said) {
 }
 
 function show({ totals, notes, report, status, took, data }) {
-    // the frame reads this
     globalThis.shownData = data;
     $("total").textContent = totalIn(report);
     $("total").className = status ? "open" : totals.count ? "fine" : "";
@@ -37,9 +36,11 @@ const viewerText = JSON.parse($("viewer").textContent);
 const viewerParts = more => viewerText.replace(START, () => more + START).split("@DATA@");
 const scriptOf = (id, type = "") => `<script${type}>${$(id).textContent}<\/script>`;
 
-// Writes the viewer into a window. It isn't loaded from an address, since a browser lets a page from a file follow no link within such a one.
+// Writes the viewer into a window, with levels of its own, since it notes on them what it shows. It isn't loaded from an address, since a
+// browser lets a page from a file follow no link within such a one.
 function fill(view) {
-    Object.assign(view, { shownData, judged, deadSquares, openLevel });
+    const own = { ...shownData, levels: shownData.levels.map(level => level.copy()) };
+    Object.assign(view, { shownData: own, judged, deadSquares, openLevel });
     const inside = view.document;
     inside.open();
     inside.write(viewerParts(scriptOf("inside")).join("null"));

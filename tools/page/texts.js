@@ -201,7 +201,8 @@ function bodyIn(text, first) {
 }
 
 // An answers text with made records put into it for the levels that have none: each after the record of the level before, so that what stands
-// between the old ones stays. A made zone raises a header of version 1. The records of both texts are those that the program found.
+// between the old ones stays. A made zone raises a header of version 1, which changes what old records mean. The records of both texts are
+// those that the program found.
 function mergedAnswers(text, records, made, found) {
     const parts = [], added = [];
     const start = text.indexOf("\n") + 1 || text.length, levels = [...records.keys()];
@@ -213,7 +214,7 @@ function mergedAnswers(text, records, made, found) {
         parts.push(text.slice(from, to).replace(/([^\n])$/, "$1\n"), record);
         if (/\nzone /.test(record) && / 1\r?\n$/.test(head)) {
             head = head.replace("1", "2");
-            isRaised = true;
+            isRaised = records.size > 0;
         }
         from = to;
         added.push(level);
@@ -241,6 +242,9 @@ class LevelData {
         Object.assign(this, { number, line, file, title });
         this.#bytes = bytes;
         this.#span = { at, end };
+    }
+    copy() {
+        return new LevelData({ ...this, ...this.#span }, this.#bytes);
     }
     get rows() {
         return this.#rows ??= rowsIn(this.#bytes, this.#span);
