@@ -9,7 +9,6 @@ use Rattle.board.specs.Lines.{lines_in, without_mark}
 use Rattle.board.specs.Levels.{AreLevelsOf}
 use Rattle.answers.specs.FirstFault.{IsFirstAnswersFault}
 use Rattle.answers.specs.declared.fault.AnswersFault.{AnswersFault}
-use Rattle.answers.specs.declared.fault.AnswersFault.TheVariants as fault
 use Rattle.report.specs.Collection.{HasTooManyLevels}
 use Rattle.devices.specs.Reading.{most_bytes}
 use Rattle.report.specs.declared.fault.Why.{Why}
@@ -17,7 +16,7 @@ use Rattle.report.specs.declared.fault.Why.TheVariants as why
 use Rattle.report.specs.declared.fault.AuditError.{AuditError}
 use Rattle.report.specs.declared.fault.AuditError.TheVariants.{Read, Write, TooLong, TooManyLevels, Answers, Memory}
 use Rattle.report.specs.declared.fault.Which.TheVariants as which
-use Rattle.report.specs.Audit.{IsTextError, IsFirstError, IsDue, answers_fault_of}
+use Rattle.report.specs.Audit.{IsTextError, IsFirstError, IsDue, answers_fault_of, error_of}
 use Rattle.report.specs.Report.{AreShort}
 
 module _ (lt at : List ℕ) where
@@ -50,17 +49,7 @@ first_kind lt at TooManyLevels error = many error.0 error.1
 first_kind lt at (Answers line w) error = faulty error.0 error.1
 first_kind lt at Memory error = absurd error.1
 
-error_of : AnswersFault → AuditError
-error_of (fault.Header line) = Answers line why.Header
-error_of (fault.Level line) = Answers line why.Level
-error_of (fault.Order line) = Answers line why.Order
-error_of (fault.Unknown line) = Answers line why.Unknown
-error_of (fault.Kind line) = Answers line why.Kind
-error_of (fault.Unclosed line) = Answers line why.Unclosed
-error_of fault.Memory = Memory
-
 error_again : (line : ℕ) (w : Why) → error_of (answers_fault_of line w) ≡ Answers line w
-unfolding error_of
 error_again line why.Header = refl
 error_again line why.Level = refl
 error_again line why.Order = refl

@@ -26,6 +26,16 @@ answers_fault_of line why.Unknown = answers_fault.Unknown line
 answers_fault_of line why.Kind = answers_fault.Kind line
 answers_fault_of line why.Unclosed = answers_fault.Unclosed line
 
+-- an audit whose answers text has this fault has this error
+abbrev pub error_of : AnswersFault → AuditError
+error_of (answers_fault.Header line) = Answers line why.Header
+error_of (answers_fault.Level line) = Answers line why.Level
+error_of (answers_fault.Order line) = Answers line why.Order
+error_of (answers_fault.Unknown line) = Answers line why.Unknown
+error_of (answers_fault.Kind line) = Answers line why.Kind
+error_of (answers_fault.Unclosed line) = Answers line why.Unclosed
+error_of answers_fault.Memory = Memory
+
 -- the error is one of two texts that were read: there are too many levels, or otherwise the answers have a fault
 abbrev pub IsTextError : List ℕ → List ℕ → AuditError → Type 0
 IsTextError levels_text answers_text TooManyLevels = HasTooManyLevels levels_text

@@ -1,4 +1,5 @@
 //! The errors of audits, made answers and maps, in the words that the program prints.
+use answers::AnswersFault;
 use board::BoardFault;
 use std::fmt;
 use thiserror::Error;
@@ -63,6 +64,26 @@ pub enum AuditError {
     /// The system refused memory.
     #[error("out of memory")]
     Memory,
+}
+
+impl From<AnswersFault> for AuditError {
+    ghost use Rattle.std.specs.Prelude.{◌≡◌};
+    ghost use Rattle.report.specs.Audit.{error_of};
+
+    ghost from_gives = { λ fault error. error ≡ error_of fault };
+
+    fn from(fault: AnswersFault) -> AuditError {
+        let (line, why) = match fault {
+            AnswersFault::Header { line } => (line, Why::Header),
+            AnswersFault::Level { line } => (line, Why::Level),
+            AnswersFault::Order { line } => (line, Why::Order),
+            AnswersFault::Unknown { line } => (line, Why::Unknown),
+            AnswersFault::Kind { line } => (line, Why::Kind),
+            AnswersFault::Unclosed { line } => (line, Why::Unclosed),
+            AnswersFault::Memory => return AuditError::Memory,
+        };
+        AuditError::Answers { line, why }
+    }
 }
 
 /// Why there is no map.

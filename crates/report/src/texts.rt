@@ -1,17 +1,16 @@
 //! The audit of two texts in memory.
-ghost use Rattle.std.specs.Prelude.{◌≡◌, ◌⊎◌, ℕ, IfOk, IfErr, MatchResult};
-ghost use Rattle.report.specs.declared.fault.Why.{Why as AnswersWhy};
+ghost use Rattle.std.specs.Prelude.{◌≡◌, ◌⊎◌, IfOk, IfErr, MatchResult};
 ghost use Rattle.report.specs.Report.{AreStatuses, IsReport};
 ghost use Rattle.report.specs.Summary.{summary_of};
-ghost use Rattle.report.specs.Audit.{IsFirstError, answers_fault_of};
+ghost use Rattle.report.specs.Audit.{IsFirstError};
 
-use crate::fault::{AuditError, Which, Why};
+use crate::fault::{AuditError, Which};
 use crate::input::levels_in;
 use crate::laws::texts_have_one_report;
 use crate::report::{judge_levels, report_of};
 use crate::status::Status;
 use crate::summary::Summary;
-use answers::{AnswersFault, split};
+use answers::split;
 use devices::MAX_TEXT;
 use std::alloc::Global;
 
@@ -80,10 +79,7 @@ fn statuses_in(
         });
     }
     let levels = levels_in(alloc, levels)?;
-    let records = match split(alloc, answers, levels.len()) {
-        Ok(records) => records,
-        Err(fault) => return Err(answers_error(fault)),
-    };
+    let records = split(alloc, answers, levels.len())?;
     let told = judge_levels(alloc, &levels, &records);
     drop(records);
     drop(levels);
@@ -91,21 +87,4 @@ fn statuses_in(
         Ok(told) => Ok(told),
         Err(_) => Err(AuditError::Memory),
     }
-}
-
-// Returns the error of an audit whose answers text has this fault.
-fn answers_error(fault: AnswersFault) -> AuditError
-    ensures { ((fault ≡ AnswersFault.Memory) × (result ≡ AuditError.Memory))
-        ⊎ ((line : ℕ) × (why : AnswersWhy) × (fault ≡ answers_fault_of line why) × (result ≡ AuditError.Answers line why)) }
-{
-    let (line, why) = match fault {
-        AnswersFault::Header { line } => (line, Why::Header),
-        AnswersFault::Level { line } => (line, Why::Level),
-        AnswersFault::Order { line } => (line, Why::Order),
-        AnswersFault::Unknown { line } => (line, Why::Unknown),
-        AnswersFault::Kind { line } => (line, Why::Kind),
-        AnswersFault::Unclosed { line } => (line, Why::Unclosed),
-        AnswersFault::Memory => return AuditError::Memory,
-    };
-    AuditError::Answers { line, why }
 }

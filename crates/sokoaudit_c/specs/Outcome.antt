@@ -3,11 +3,9 @@
 --   outcome   the nine numbers of a report, of made answers, of a map or of an error; a number that
 --             means nothing there is 0
 use Rattle.std.specs.Prelude.{ℕ, ◌≡◌, ◌++◌, List, length, take, drop}
-use Rattle.answers.specs.declared.fault.AnswersFault.{AnswersFault}
-use Rattle.answers.specs.declared.fault.AnswersFault.TheVariants as answers_fault
 use Rattle.board.specs.declared.reading.BoardFault.{BoardFault}
 use Rattle.board.specs.declared.reading.BoardFault.TheVariants as board_fault
-use Rattle.report.specs.declared.fault.AuditError.TheVariants.{TooLong, TooManyLevels, Answers, Memory}
+use Rattle.report.specs.declared.fault.AuditError.TheVariants.{TooLong, TooManyLevels, Answers}
 use Rattle.report.specs.declared.fault.DeadError.{DeadError}
 use Rattle.report.specs.declared.fault.DeadError.TheVariants.{Audit, NoLevel, Board}
 use Rattle.report.specs.declared.fault.Which.TheVariants as which
@@ -80,13 +78,3 @@ line_of_error _ = 0
 -- an error has the outcome with its number, and with its line if it names one of the answers
 abbrev pub outcome_of_error : DeadError → Outcome
 outcome_of_error error = record no_numbers { fault = number_of_error error; line = line_of_error error }
-
--- a fault of an answers text has the outcome of the error that an audit has by it
-abbrev pub outcome_of_fault : AnswersFault → Outcome
-outcome_of_fault (answers_fault.Header line) = outcome_of_error (Audit (Answers line why.Header))
-outcome_of_fault (answers_fault.Level line) = outcome_of_error (Audit (Answers line why.Level))
-outcome_of_fault (answers_fault.Order line) = outcome_of_error (Audit (Answers line why.Order))
-outcome_of_fault (answers_fault.Unknown line) = outcome_of_error (Audit (Answers line why.Unknown))
-outcome_of_fault (answers_fault.Kind line) = outcome_of_error (Audit (Answers line why.Kind))
-outcome_of_fault (answers_fault.Unclosed line) = outcome_of_error (Audit (Answers line why.Unclosed))
-outcome_of_fault answers_fault.Memory = outcome_of_error (Audit Memory)

@@ -1,9 +1,8 @@
 //! What a call reports to C besides its status.
 ghost use Rattle.std.specs.Prelude.{◌≡◌, ◌<◌, ◌≤◌, ◌⊎◌, ℕ, IfSome, IsSome};
 ghost use Rattle.report.specs.declared.fault.Why.{Why as Reason};
-ghost use Rattle.sokoaudit_c.specs.Outcome.{number_of_board, number_of_error, number_of_line, outcome_of_answers, outcome_of_error, outcome_of_fault, outcome_of_map, outcome_of_report};
+ghost use Rattle.sokoaudit_c.specs.Outcome.{number_of_board, number_of_error, number_of_line, outcome_of_answers, outcome_of_error, outcome_of_map, outcome_of_report};
 
-use answers::AnswersFault;
 use board::BoardFault;
 use report::{AuditError, DeadError, Summary, Which, Why};
 
@@ -96,22 +95,6 @@ pub fn of_error(error: DeadError) -> Outcome
         line,
         ..NONE
     }
-}
-
-/// Returns the outcome of a fault of an answers text.
-pub fn of_fault(fault: AnswersFault) -> Outcome
-    ensures { result ≡ outcome_of_fault fault }
-{
-    let (line, why) = match fault {
-        AnswersFault::Header { line } => (line, Why::Header),
-        AnswersFault::Level { line } => (line, Why::Level),
-        AnswersFault::Order { line } => (line, Why::Order),
-        AnswersFault::Unknown { line } => (line, Why::Unknown),
-        AnswersFault::Kind { line } => (line, Why::Kind),
-        AnswersFault::Unclosed { line } => (line, Why::Unclosed),
-        AnswersFault::Memory => return of_error(DeadError::Audit(AuditError::Memory)),
-    };
-    of_error(DeadError::Audit(AuditError::Answers { line, why }))
 }
 
 fn number_of(why: Why) -> usize

@@ -11,12 +11,16 @@ ghost use Rattle.answers.specs.Grammar.{AreBlocks, SpellsEntries};
 ghost use Rattle.answers.specs.Records.{AreEntriesOf};
 ghost use Rattle.answers.specs.declared.fault.AnswersFault.{AnswersFault as Fault};
 ghost use Rattle.answers.specs.declared.fault.AnswersFault.TheVariants as fault_is;
-ghost use Rattle.sokoaudit_c.specs.Outcome.{outcome_of_answers, outcome_of_fault};
+ghost use Rattle.report.specs.Audit.{error_of};
+ghost use Rattle.report.specs.declared.fault.AuditError.TheVariants as error_of_audit;
+ghost use Rattle.report.specs.declared.fault.DeadError.TheVariants.{Audit};
+ghost use Rattle.sokoaudit_c.specs.Outcome.{outcome_of_answers, outcome_of_error};
 ghost use Rattle.sokoaudit_c.specs.Records.{AreRecordsIn, IsFirstWanted, IsNextRecord, is_wanted, kept_in, number_of_kind_line};
 
-use crate::outcome::{Outcome, of_answers, of_fault};
+use crate::outcome::{Outcome, of_answers, of_error};
 use answers::{RecordText, split};
 use lines::first_line;
+use report::{AuditError, DeadError};
 use std::alloc::Global;
 
 /// Where a record is in its text.
@@ -54,10 +58,10 @@ pub extern "C" fn sokoaudit_records(
         × AreRecordsIn answers.now spelled.version entries records.old records.new × (outcome.new ≡ outcome_of_answers 0 (length entries)) }
     // The fault is the first of the text, or out of memory.
     ensures refused { result ≡ 2 → (fault : Fault) × ((fault ≡ fault_is.Memory) ⊎ IsFirstAnswersFault answers.now levels fault)
-        × (outcome.new ≡ outcome_of_fault fault) }
+        × (outcome.new ≡ outcome_of_error (Audit (error_of fault))) }
     // A text with a fault gets its first one, unless memory runs out.
     ensures first { (fault : Fault) → IsFirstAnswersFault answers.now levels fault
-        → (outcome.new ≡ outcome_of_fault fault_is.Memory) ⊎ (outcome.new ≡ outcome_of_fault fault) }
+        → (outcome.new ≡ outcome_of_error (Audit error_of_audit.Memory)) ⊎ (outcome.new ≡ outcome_of_error (Audit (error_of fault))) }
     ensures fault { result ≡ 2 → records.new ≡ records.old }
     ensures status { (result ≡ 0) ⊎ (result ≡ 2) }
 {
@@ -68,7 +72,7 @@ pub extern "C" fn sokoaudit_records(
             0
         }
         Err(fault) => {
-            *outcome = of_fault(fault);
+            *outcome = of_error(DeadError::Audit(AuditError::from(fault)));
             2
         }
     }

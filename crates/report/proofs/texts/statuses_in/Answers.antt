@@ -4,8 +4,8 @@ use Rattle.report.proofs.texts.statuses_in.Goals as goal
 
 pub judge_levels-told-requires-clause-rise : goal.judge_levels-told-requires-clause-rise
 judge_levels-told-requires-clause-rise c =
-    let spelled = spells_records c.args.answers.now _ c.in-Ok.records.items c.deref-2.result.now c.deref-2.ensures.value c.in-Ok.ensures.found in
+    let spelled = spells_records c.args.answers.now _ c.in_ok-records.records.items c.deref-2.result.now c.deref-2.ensures.value c.in_ok-records.ensures.found in
     (_, spelled.rise)
 
-pub returns-in-Ok-told-clause-ok : goal.returns-in-Ok-told-clause-ok
-returns-in-Ok-told-clause-ok c = grind (arith, spells_records)
+pub returns-in-Ok-clause-ok : goal.returns-in-Ok-clause-ok
+returns-in-Ok-clause-ok c = grind (arith, spells_records)
