@@ -1,6 +1,5 @@
 pub mod Arenas
 pub mod Asked
-pub mod Entered
 pub mod GroupPushes
 pub mod FirstLeft
 pub mod Grouped

@@ -2,7 +2,7 @@
 -- from which the box comes and it lacks the pushed box; and it covers the result of no other open push. One whose boxes are all there settles
 -- the pushes from the piece of the boxes that it lacks, if its region has the player, and all of them if its own pushes are covered; it covers
 -- the result of no push from the piece if its region lacks the player. A group with a box on the trap covers the result of no open push.
-use Rattle.std.proofs.Common.{◌≡◌, ℕ, ◌<◌, List, Some, length, refl, sym, ◌∙◌, ap, subst, inl, inr, arith}
+use Rattle.std.proofs.Common.{◌≡◌, ℕ, ◌<◌, List, Some, length, refl, sym, ◌∙◌, ap, subst, inl, inr}
 use Rattle.std.specs.List.{Contains}
 use Rattle.cellset.specs.declared.dir.Dir.{Dir, TheVariants.L, TheVariants.U, TheVariants.R, TheVariants.D}
 use Rattle.cellset.specs.{Cell.IsOn, Cell.neighbor, Cell.opposite, CellSet.Cells, CellSet.Has, CellSet.Lacks, declared.cell.Cell.Cell}
@@ -14,7 +14,7 @@ use Rattle.cell_lists.proofs.CellLists.{in_list, no_cell}
 use Rattle.patterns.specs.Pattern.{Pattern, InPatternRegion, CoversPushesOf}
 use Rattle.patterns.specs.{Sides.IsAround, Run.state_after, Trap.AreOff, Tables.GroupCovers, Place.IsSubset, Piece.AreInPiece}
 use Rattle.patterns.specs.{declared.groups.Groups.Groups, declared.sides.Sides.Sides, declared.task.Task.Task, Groups.boxes_of, Groups.list_of, Groups.position_at}
-use Rattle.patterns.specs.Settling.{AreTaken, IsMet, IsPushOut, IsSettled, IsTask, Misses}
+use Rattle.patterns.specs.Settling.{IsMet, IsPushOut, IsSettled, IsTask, Misses}
 use Rattle.patterns.specs.declared.unsettled.Missing.TheVariants.{One, More}
 use Rattle.patterns.proofs.Grouped.{box_floor, boxes_on, covered_of_group, group_in_room}
 use Rattle.patterns.proofs.{GroupPushes.unreached, Traps.off_after, Traps.onto_trap, Traps.to_room}
@@ -99,17 +99,6 @@ module _ {S : Type 0} (task : Task S) (is : IsTask task) where
       → AreOff task.tables.now.trap.members (boxes_of groups g)
   covering_off push off g covers c has = off_after task.tables.now.trap.members task.boxes.now push.from push.to is.off off c (covers.1.boxes c has)
 
-  -- ---- lists of pushes
-  pub taken_none : (pushes : List Push) → AreTaken task pushes pushes
-  taken_none pushes = record { kept = λ push was. inl was; only = λ push has. has; fewer = omega arith }
-
-  pub taken_on : (first second third : List Push) → AreTaken task first second → AreTaken task second third → AreTaken task first third
-  taken_on first second third one two = record {
-    kept = λ push was. either (one.kept push was) (two.kept push) inr;
-    only = λ push has. one.only push (two.only push has);
-    fewer = (let first = one.fewer in let second = two.fewer in omega arith);
-  }
-
   -- ---- a group one of whose boxes isn't there
   module _ (g : ℕ) (lt : g < length groups.spans.items) (push : Push) (within : IsPushIn level boxes push) where
     module _ (number : ℕ) (misses : Misses (boxes_of groups g) boxes (One number)) (sides : Sides)
@@ -119,25 +108,25 @@ module _ {S : Type 0} (task : Task S) (is : IsTask task) where
           let to = met.1.0 in
           settled_by g push (
             lt,
-            (ahead_decides level boxes push within (at g) (λ c has. either (misses.2 c has) inl (λ e. inr (e ∙ sym to))) met.0).1
+            (ahead_decides level boxes push within.move (at g) (λ c has. either (misses.2 c has) inl (λ e. inr (e ∙ sym to))) met.0).1
                 (rw to ((around (opposite push.dir)).0 met.1.1)),
           )
 
       pub ahead_none : (IsMet (boxes_of groups g) (Some (record { to = cell_no (boxes_of groups g) number; sides = sides })) push → ⊥)
           → GroupCovers level groups g (state_after boxes push) → ⊥
       ahead_none none covers =
-          let lacks = lacks_pushed level boxes push within (at g) covers.1 in
+          let lacks = lacks_pushed level boxes push within.move (at g) covers.1 in
           let to : cell_no (boxes_of groups g) number ≡ push.to = either
-          (after_within level boxes push within (at g) covers.1 (cell_no (boxes_of groups g) number) (in_list (boxes_of groups g) number no_cell misses.0))
+          (after_within level boxes push within.move (at g) covers.1 (cell_no (boxes_of groups g) number) (in_list (boxes_of groups g) number no_cell misses.0))
           (λ there. absurd (not_both boxes (cell_no (boxes_of groups g) number) there misses.1)) (λ e. e) in
-          let inside = (ahead_decides level boxes push within (at g) (λ c has. either (misses.2 c has) inl (λ e. inr (e ∙ to))) lacks).0 covers.1 in
+          let inside = (ahead_decides level boxes push within.move (at g) (λ c has. either (misses.2 c has) inl (λ e. inr (e ∙ to))) lacks).0 covers.1 in
           none (lacks, (sym to, (around (opposite push.dir)).1 (rw to inside)))
 
     -- A group two of whose boxes aren't there covers nothing.
     pub more_none : Misses (boxes_of groups g) boxes More → GroupCovers level groups g (state_after boxes push) → ⊥
     more_none misses covers =
         let ahead = λ (c : Cell) (has : Has (cells_in (boxes_of groups g)) c) (lacks : Lacks boxes c). either
-        (after_within level boxes push within (at g) covers.1 c has) (λ there. absurd (not_both boxes c there lacks)) (λ e. e) in
+        (after_within level boxes push within.move (at g) covers.1 c has) (λ there. absurd (not_both boxes c there lacks)) (λ e. e) in
         misses.4 (ahead misses.0 misses.2 misses.5 ∙ sym (ahead misses.1 misses.3 misses.6))
 
   -- ---- a group whose boxes are all there
@@ -145,14 +134,14 @@ module _ {S : Type 0} (task : Task S) (is : IsTask task) where
       (has : Contains pushes push) (within : IsPushIn level boxes push) where
     pub inside_settles : InPatternRegion level (at g) player → Lacks (cells_in (boxes_of groups g)) push.from → IsSettled task push
     inside_settles inside lacks =
-        settled_by g push (subset.within, loose_push level boxes push within (at g) lacks (piece.onward push has (at g) (record { boxes = subset.has; player = inside })))
+        settled_by g push (subset.within, loose_push level boxes push within.move (at g) lacks (piece.onward push has (at g) (record { boxes = subset.has; player = inside })))
 
     pub inside_player : GroupCovers level groups g (state_after boxes push) → InPatternRegion level (at g) player
     inside_player covers =
-        let there = back_inside level boxes push within is.tables.formed (at g) subset.has covers.1 in
+        let there = back_inside level boxes push within.move is.tables.formed within (at g) subset.has covers.1 in
         (piece.back push has (at g) (record { boxes = subset.has; player = there })).player
 
     pub noted_settles : CoversPushesOf level (list_of groups) (at g) → InPatternRegion level (at g) player → IsSettled task push
     noted_settles noted inside =
-        subsumed_push level boxes push within (list_of groups) (at g) (λ s covers. covered_of_group level groups is.tables.grouped s g covers) noted
+        subsumed_push level boxes push within.move (list_of groups) (at g) (λ s covers. covered_of_group level groups is.tables.grouped s g covers) noted
         (piece.onward push has (at g) (record { boxes = subset.has; player = inside }))

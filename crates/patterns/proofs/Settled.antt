@@ -7,25 +7,29 @@
 -- (`subsumed_push`). A pattern that has a box on the cell ahead, and whose other boxes are there, decides by the side from which the box comes
 -- (`ahead_decides`).
 use Rattle.std.proofs.Common.{◌≡◌, [], List, length, ◌∙◌, ap, inl, inr, arith}
-use Rattle.std.specs.Prelude.{◌↔◌, ◌⊎◌}
+use Rattle.std.{specs.Prelude.◌↔◌, specs.Prelude.◌⊎◌, specs.List.Contains}
 use Rattle.std.specs.FinSet as set
 use Rattle.cellset.specs.{Cell.neighbor, Cell.opposite, CellSet.Cells, CellSet.CellsOn, CellSet.Has, CellSet.Lacks, declared.cell.Cell.Cell}
 use Rattle.cellset.proofs.{Members.has_insert, Members.has_or_lacks, Members.has_remove, Members.inserted, Members.kept_by_insert, Members.kept_by_remove, Members.not_both, Neighbors.neighbor_back, Truth.either}
 use Rattle.reach.specs.{Region.IsFree, Region.Joined, Region.at_seed, Region.beside, declared.pushes.Push.Push}
 use Rattle.board.specs.{Game.IsFloor, Game.Level, Game.State, Board.IsWellFormed}
 use Rattle.patterns.specs.Pattern.{Pattern, Covers, InPatternRegion, IsCovered, PushesOut, CoversPushesOf}
-use Rattle.patterns.specs.{GroupPushes.IsStepBack, Hits.AreHits, Piece.IsFreeOf, Place.AreCoveredAlike, Run.state_after, declared.tree.Hit.Hit}
-use Rattle.patterns.proofs.{Hits.step_decides, Moves.IsWithin, Moves.lacks_within, Moves.moved_beside, Moves.moved_within, Pieces.joined_back, RegionCells.region_lacks}
+use Rattle.patterns.specs.{GroupPushes.IsStepBack, Hits.AreHits, Piece.AreInPiece, Piece.IsFreeOf, Place.AreCoveredAlike, Run.state_after, declared.tree.Hit.Hit}
+use Rattle.patterns.proofs.{Hits.step_decides, Moves.IsWithin, Moves.lacks_within, Moves.moved_beside, Moves.moved_within, Pieces.joined_back, Pieces.joined_free, RegionCells.region_lacks}
 
--- A push of one of the boxes by a player of the room who isn't on one, to a cell of the floor without one.
-pub record IsPushIn (level : Level) (boxes : Cells) (push : Push) : Type 0 where
-  pub room : Has level.room push.player
-  pub outside : Lacks boxes push.player
+-- A push of one of the boxes, which are on floor, to a cell of the floor without one.
+pub record IsMove (level : Level) (boxes : Cells) (push : Push) : Type 0 where
   pub next_cell : push.from ≡ neighbor push.player push.dir
   pub floor : IsFloor level push.from
   pub box : Has boxes push.from
   pub cell_behind : push.to ≡ neighbor push.from push.dir
   pub free : IsFree level.shape level.walls boxes push.to
+
+-- The player of the push is in the room, and not on a box.
+pub record IsPushIn (level : Level) (boxes : Cells) (push : Push) : Type 0 where
+  pub room : Has level.room push.player
+  pub outside : Lacks boxes push.player
+  pub move : IsMove level boxes push
 
 -- A push out of a pattern is one of its boxes.
 pub push_in : (level : Level) (own : Pattern) → ((c : Cell) → Has own.boxes c → IsFloor level c) → ((c : Cell) → InPatternRegion level own c → Has level.room c)
@@ -33,11 +37,7 @@ pub push_in : (level : Level) (own : Pattern) → ((c : Cell) → Has own.boxes 
 push_in level own floor room push out = record {
   room = room push.player out.standing;
   outside = region_lacks level own push.player out.standing;
-  next_cell = out.next_cell;
-  floor = floor push.from out.box;
-  box = out.box;
-  cell_behind = out.cell_behind;
-  free = out.free;
+  move = record { next_cell = out.next_cell; floor = floor push.from out.box; box = out.box; cell_behind = out.cell_behind; free = out.free };
 }
 
 -- A cell of a region is free.
@@ -61,17 +61,26 @@ module _ (level : Level) (formed : IsWellFormed level) (boxes : Cells) (free : C
   pub alike_back : (p q : Cell) → Joined (Has free.members) (λ seed. seed ≡ p) q → AreCoveredAlike level boxes q p
   alike_back p q chain = alike q p (joined_back (Has free.members) level.shape (λ c has. (formed.room c ((is.members c).0 has).0).0) p q chain)
 
--- If a piece has the player and the root, the player's path meets no box that matters.
-pub alike_hits : (level : Level) (boxes : Cells) (player : Cell) → Lacks boxes level.player → AreCoveredAlike level boxes player level.player
-    → AreCoveredAlike level boxes level.player player → AreHits level boxes player level.player []
-alike_hits level boxes player outside there back pattern within lacks = record {
-  free = λ _. lacks_within pattern.boxes boxes level.player within outside;
-  passed = λ _. (
-    λ inside. (there pattern (record { boxes = within; player = inside })).player,
-    λ inside. (back pattern (record { boxes = within; player = inside })).player,
-  );
-  first = λ i m lt. absurd (omega arith);
-}
+  module _ (player : Cell) (outside : Lacks boxes player) (Part : Cell → Type 0) (piece : (c : Cell) → Part c → Joined (Has free.members) (λ seed. seed ≡ player) c) where
+    -- Pushes by players in a piece.
+    pub all_in_piece : (pushes : List Push) → ((push : Push) → Contains pushes push → Part push.player) → AreInPiece level boxes player pushes
+    all_in_piece pushes part = record {
+      outside = outside;
+      onward = λ push has. alike player push.player (piece push.player (part push has));
+      back = λ push has. alike_back player push.player (piece push.player (part push has));
+    }
+
+    -- If a piece has the player and the root, the player's path meets no box that matters.
+    pub rooted_hits : Part level.player → AreHits level boxes player level.player []
+    rooted_hits part pattern within lacks =
+        let chain = piece level.player part in record {
+          free = λ _. lacks_within pattern.boxes boxes level.player within ((is.members level.player).0 (joined_free (Has free.members) (λ seed. seed ≡ player) level.player chain)).1;
+          passed = λ _. (
+            λ inside. (alike player level.player chain pattern (record { boxes = within; player = inside })).player,
+            λ inside. (alike_back player level.player chain pattern (record { boxes = within; player = inside })).player,
+          );
+          first = λ i m lt. absurd (omega arith);
+        }
 
 -- A player on the root has a path without hits.
 pub root_hits : (level : Level) (boxes : Cells) (player : Cell) (hits : List Hit) → player ≡ level.player → hits ≡ [] → AreHits level boxes player level.player hits
@@ -83,7 +92,7 @@ root_hits level boxes player hits at none pattern within lacks =
       first = λ i m lt. absurd (omega arith);
     }
 
-module _ (level : Level) (boxes : Cells) (push : Push) (is : IsPushIn level boxes push) where
+module _ (level : Level) (boxes : Cells) (push : Push) (is : IsMove level boxes push) where
   -- ---- the player before the push
   pub loose_push : (pattern : Pattern) → Lacks pattern.boxes push.from → Covers level pattern (record { player = push.player; boxes = boxes })
       → Covers level pattern (state_after boxes push)
@@ -94,14 +103,14 @@ module _ (level : Level) (boxes : Cells) (push : Push) (is : IsPushIn level boxe
         player = rw is.next_cell (beside push.dir covers.player (rw is.next_cell at free));
       }
 
-  pub back_inside : IsWellFormed level → (pattern : Pattern) → IsWithin pattern.boxes boxes → Covers level pattern (state_after boxes push)
+  pub back_inside : IsWellFormed level → IsPushIn level boxes push → (pattern : Pattern) → IsWithin pattern.boxes boxes → Covers level pattern (state_after boxes push)
       → InPatternRegion level pattern push.player
-  back_inside formed pattern within covers =
-      let floor = formed.room push.player is.room in
+  back_inside formed by pattern within covers =
+      let floor = formed.room push.player by.room in
       let here : IsFree level.shape level.walls pattern.boxes push.player = record {
         on = floor.0;
         no_wall = floor.1;
-        no_bar = lacks_within pattern.boxes boxes push.player within is.outside;
+        no_bar = lacks_within pattern.boxes boxes push.player within by.outside;
       } in
       let there = region_free level pattern push.from covers.player in
       (step_decides level pattern push.player push.dir here (rw is.next_cell at there)).1 (rw is.next_cell at covers.player)

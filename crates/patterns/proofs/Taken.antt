@@ -3,6 +3,7 @@ use Rattle.std.proofs.Common.{◌≡◌, ◌⊎◌, ℕ, zero, suc, ◌<◌, Lis
 use Rattle.std.specs.Prelude.{Option, Some}
 use Rattle.std.specs.Option.{option_to_list}
 use Rattle.std.{specs.List.Contains, specs.List.swap_remove}
+use Rattle.std.proofs.lemmas.Grind.{common_steps}
 use Rattle.std.proofs.lemmas.List.Elements.{Contains-append_cases, Contains-append_left, Contains-append_right, Contains-push, Contains-push_cases}
 use Rattle.std.proofs.lemmas.List.Sorted.{Contains-permutation, IsPermutation-swap_remove, IsPermutation-sym}
 
@@ -29,6 +30,10 @@ module _ {X : Type 0} where
   taken_only xs ys i x lt read is y has =
       Contains-permutation (x ∷ swap_remove xs i x) xs y (IsPermutation-sym _ _ (IsPermutation-swap_remove xs i x lt read))
       (Contains-append_right (x ∷ []) (swap_remove xs i x) y (rw is at has))
+
+  -- What stands before the item stays where it is.
+  pub taken_before : (xs ys : List X) (i j : ℕ) (x d : X) → i < length xs → j < i → ys ≡ swap_remove xs i x → get_or ys j d ≡ get_or xs j d
+  taken_before xs ys i j x d lt low is = grind (arith, common_steps)
 
   -- What was there before is left, but for the item.
   pub taken_kept : (xs ys : List X) (i : ℕ) (x : X) → i < length xs → x ≡ get_or xs i x → ys ≡ swap_remove xs i x → (y : X) → Contains xs y →

@@ -21,3 +21,9 @@ pub record IsSearch (shape : Extent) (groups : Groups) (buckets : Buckets) (sear
 -- at most how many groups the search still returns
 abbrev pub searches_left : Groups → Search → ℕ
 searches_left groups search = (length search.cells.items - search.begun) * (length groups.spans.items + 1) + search.link
+
+-- the search has passed all groups in the buckets of its cells
+abbrev pub IsSearched : Extent → Groups → Buckets → Search → Type 0
+IsSearched shape groups buckets search =
+    (g : ℕ) (c : Cell) → g < length groups.spans.items → Has (cells_in search.cells.items) c → slice_index buckets.keys.items g ≡ index shape c
+    → IsPassed shape buckets search g

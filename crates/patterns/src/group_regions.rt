@@ -83,8 +83,8 @@ pub(crate) fn find_regions<S: CellSet>(
 }
 
 impl Flood {
-    // Returns a flood for rows on the grid of this shape.
-    pub(crate) fn new(alloc: Global, shape: Shape) -> Result<Flood, AllocError>
+    /// Returns a flood for rows on the grid of this shape.
+    pub fn new(alloc: Global, shape: Shape) -> Result<Flood, AllocError>
         ensures { IfOk result (λ f. (f.free.extent ≡ shape) × (f.region.extent ≡ shape)) }
     {
         Ok(Flood {
@@ -94,9 +94,9 @@ impl Flood {
         })
     }
 
-    // Makes the room without the boxes free, and notes whether it is surely in one piece.
+    /// Makes the room without the boxes free, and notes whether it is surely in one piece.
     #[tactic(auto, using(cell_lists::proofs::CellLists::over_cells))]
-    pub(crate) fn take_out(&mut self, room: &Rows, boxes: &[Cell])
+    pub fn take_out(&mut self, room: &Rows, boxes: &[Cell])
         requires room { room.now.extent ≡ self.old.free.extent }
         requires on { (c : GridCell) → Has room.now.members c ⊎ Has (cells_in boxes.now) c → IsOn self.old.free.extent c }
         requires whole { IsOnePiece (Has room.now.members) }
@@ -158,6 +158,7 @@ impl Flood {
         requires on { (c : GridCell) → Has self.old.free.members c → IsOn self.old.free.extent c }
         requires whole { IsTrue self.old.whole → IsOnePiece (Has self.old.free.members) }
         ensures same { (self.new.free ≡ self.old.free) × (self.new.whole ≡ self.old.whole) × (self.new.region.extent ≡ self.old.region.extent) }
+        ensures player { InPiece self.new player }
         ensures piece { (c : GridCell) → InPiece self.new c → Joined (Has self.old.free.members) (λ seed. seed ≡ player) c }
     {
         if self.whole {
@@ -178,8 +179,8 @@ impl Flood {
         self.region.has(cell)
     }
 
-    // Finds the region of a pattern of the boxes that were taken out. If it returns true, the region is all that is free.
-    pub(crate) fn find_line(&mut self, pattern: CellPattern) -> bool
+    /// Finds the region of a pattern of the boxes that were taken out. If it returns true, the region is all that is free.
+    pub fn find_line(&mut self, pattern: CellPattern) -> bool
         requires region { self.old.region.extent ≡ self.old.free.extent }
         requires on { (c : GridCell) → Has self.old.free.members c → IsOn self.old.free.extent c }
         ensures same { (self.new.free ≡ self.old.free) × (self.new.region.extent ≡ self.old.region.extent) }
@@ -197,8 +198,8 @@ impl Flood {
         }
     }
 
-    // Returns the region that was found: all that is free, or the rows of the region.
-    pub(crate) fn found(&self, whole: bool) -> &Rows
+    /// Returns the region that was found: all that is free, or the rows of the region.
+    pub fn found(&self, whole: bool) -> &Rows
         requires { self.now.region.extent ≡ self.now.free.extent }
         ensures extent { result.now.extent ≡ self.now.free.extent }
         ensures members { MatchBool whole (result.now.members ≡ self.now.free.members) (result.now.members ≡ self.now.region.members) }

@@ -4,11 +4,11 @@ ghost use Rattle.std.specs.FinSet as finset;
 ghost use Rattle.cellset.specs.{Cell.IsOn, SortedList.index};
 ghost use Rattle.patterns.specs.{Pattern.Covers, Pattern.IsCovered, Groups.list_of, Groups.position_at};
 ghost use Rattle.patterns.specs.Lookups.{AreLookups};
-ghost use Rattle.patterns.specs.{Tables.AreTables, Tables.GroupCovers};
+ghost use Rattle.patterns.specs.{Tables.AreTables, Tables.GroupCovers, Place.state_at};
 
 use crate::buckets::{Buckets, fill_buckets};
 use crate::group_regions::Flood;
-use crate::place::Place;
+use crate::place::{Place, list_hits};
 use crate::search::Search;
 use crate::tables::Tables;
 use crate::tree::{Tree, grow_tree};
@@ -27,11 +27,8 @@ pub struct Lookups {
     pub flood: Flood,
     pub place: Place,
     pub unsettled: Unsettled,
-    pub search: Search,
     /// The pushes whose results no group covers.
     pub left: Vec<Push>,
-    /// The last group noted as covered that settled a piece. It is asked first.
-    pub last: usize,
 }
 
 impl Lookups {
@@ -44,7 +41,6 @@ impl Lookups {
         let place = Place {
             boxes: Rows::new(alloc, board.shape())?,
             player: board.player(),
-            walked: true,
             hits: Vec::new(alloc),
         };
         let flood = Flood::new(alloc, board.shape())?;
@@ -57,15 +53,15 @@ impl Lookups {
             unsettled: Unsettled {
                 away: Vec::new(alloc),
                 here: Vec::new(alloc),
-            },
-            search: Search {
-                cells: Vec::new(alloc),
-                begun: 0,
-                link: 0,
+                search: Search {
+                    cells: Vec::new(alloc),
+                    begun: 0,
+                    link: 0,
+                },
                 inside: Vec::new(alloc),
+                last: 0,
             },
             left: Vec::new(alloc),
-            last: 0,
         })
     }
 
@@ -75,8 +71,7 @@ impl Lookups {
         ensures are { OnOk result (AreLookups tables.now self.new) }
         ensures grown { OnOk result (0 < length self.new.tree.nodes.items) }
         ensures same { (self.new.buckets ≡ self.old.buckets) × (self.new.flood ≡ self.old.flood) × (self.new.place.boxes ≡ self.old.place.boxes)
-            × (self.new.place.player ≡ self.old.place.player) × (self.new.place.walked ≡ self.old.place.walked)
-            × (self.new.unsettled ≡ self.old.unsettled) × (self.new.search ≡ self.old.search) × (self.new.left ≡ self.old.left) }
+            × (self.new.unsettled ≡ self.old.unsettled) × (self.new.left ≡ self.old.left) }
     {
         if self.tree.nodes.is_empty() {
             self.tree = grow_tree(alloc, tables.board)?;
@@ -103,7 +98,8 @@ impl Lookups {
         }
         self.place.boxes.load(boxes);
         self.place.player = player;
-        self.place.walked = false;
+        let hits = &mut self.place.hits;
+        list_hits(tables.board, &self.tree, &self.place.boxes, player, hits);
         for cell in MembersOf::new(boxes) {
             if self.is_covered_in_bucket(tables, boxes, cell) {
                 return true;
@@ -113,25 +109,17 @@ impl Lookups {
     }
 
     // Returns whether a group in the bucket of a cell covers the player and the boxes at hand.
-    fn is_covered_in_bucket<S: CellSet>(
-        &mut self,
-        tables: &Tables<S>,
-        boxes: &S,
-        cell: Cell,
-    ) -> bool
+    fn is_covered_in_bucket<S: CellSet>(&self, tables: &Tables<S>, boxes: &S, cell: Cell) -> bool
         requires tables { AreTables tables.now }
         requires off { tables.now.trap.members ≡ finset.empty }
-        requires are { AreLookups tables.now self.old }
+        requires are { AreLookups tables.now self.now }
         requires boxes { S.extent boxes.now ≡ tables.now.board.now.shape }
-        requires there { self.old.place.boxes.members ≡ S.members boxes.now }
+        requires there { self.now.place.boxes.members ≡ S.members boxes.now }
         requires cell { IsOn tables.now.board.now.shape cell }
-        ensures are { AreLookups tables.now self.new }
-        ensures same { (self.new.tree ≡ self.old.tree) × (self.new.buckets ≡ self.old.buckets)
-            × (self.new.place.boxes ≡ self.old.place.boxes) × (self.new.place.player ≡ self.old.place.player) }
-        ensures found { MatchBool result
-            (IsCovered tables.now.board.now (list_of tables.now.groups) (record { player = self.old.place.player; boxes = self.old.place.boxes.members }))
-            ((g : ℕ) → slice_index self.old.buckets.keys.items g ≡ index tables.now.board.now.shape cell
-            → GroupCovers tables.now.board.now tables.now.groups g (record { player = self.old.place.player; boxes = self.old.place.boxes.members }) → ⊥) }
+        ensures { MatchBool result
+            (IsCovered tables.now.board.now (list_of tables.now.groups) (state_at self.now.place))
+            ((g : ℕ) → slice_index self.now.buckets.keys.items g ≡ index tables.now.board.now.shape cell
+            → GroupCovers tables.now.board.now tables.now.groups g (state_at self.now.place) → ⊥) }
     {
         let shape = tables.board.shape();
         let mut at = self.buckets.chains.first[shape.index_of(cell)] as usize;
@@ -146,18 +134,14 @@ impl Lookups {
     }
 
     // Returns whether a group covers the player and the boxes at hand.
-    fn is_covering<S: CellSet>(&mut self, tables: &Tables<S>, boxes: &S, group: usize) -> bool
+    fn is_covering<S: CellSet>(&self, tables: &Tables<S>, boxes: &S, group: usize) -> bool
         requires tables { AreTables tables.now }
         requires off { tables.now.trap.members ≡ finset.empty }
-        requires are { AreLookups tables.now self.old }
+        requires are { AreLookups tables.now self.now }
         requires boxes { S.extent boxes.now ≡ tables.now.board.now.shape }
-        requires there { self.old.place.boxes.members ≡ S.members boxes.now }
+        requires there { self.now.place.boxes.members ≡ S.members boxes.now }
         requires group { group < length tables.now.groups.spans.items }
-        ensures are { AreLookups tables.now self.new }
-        ensures same { (self.new.tree ≡ self.old.tree) × (self.new.buckets ≡ self.old.buckets)
-            × (self.new.place.boxes ≡ self.old.place.boxes) × (self.new.place.player ≡ self.old.place.player) }
-        ensures exact { IsTrue result ↔ Covers tables.now.board.now (position_at tables.now.board.now tables.now.groups group)
-            (record { player = self.old.place.player; boxes = self.old.place.boxes.members }) }
+        ensures { IsTrue result ↔ Covers tables.now.board.now (position_at tables.now.board.now tables.now.groups group) (state_at self.now.place) }
     {
         let kept = tables.groups.boxes(group);
         if !are_in(kept, boxes) {
@@ -166,6 +150,6 @@ impl Lookups {
         if is_among(kept, boxes, self.place.player) {
             return false;
         }
-        self.place.is_inside(tables, &self.tree, group)
+        self.place.is_inside(tables, group)
     }
 }

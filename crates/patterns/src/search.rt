@@ -1,10 +1,10 @@
 //! The search of the buckets for groups whose boxes may be there before or after a push.
-ghost use Rattle.std.specs.Prelude.{◌≡◌, ◌⊎◌, ◌<◌, ℕ, OnOk, Option, Some, MatchOption, IfSome, List, [], length, slice_index};
+ghost use Rattle.std.specs.Prelude.{◌≡◌, ◌⊎◌, ◌<◌, ℕ, OnOk, Option, Some, MatchOption, IfSome, length, slice_index};
 ghost use Rattle.std.specs.List.{Contains};
 ghost use Rattle.cellset.specs.{CellSet.Has, SortedList.index, declared.cell.Cell.Cell as GridCell};
 ghost use Rattle.reach.specs.declared.pushes.Push.{Push as OutPush};
 ghost use Rattle.cell_lists.specs.CellLists.{cells_in};
-ghost use Rattle.patterns.specs.{Buckets.AreBuckets, Search.IsPassed, Search.IsSearch, Search.searches_left, Settling.AreOpen, Settling.IsTask};
+ghost use Rattle.patterns.specs.{Buckets.AreBuckets, Search.IsPassed, Search.IsSearch, Search.IsSearched, Search.searches_left, Settling.AreOpen, Settling.IsTask};
 
 use crate::buckets::Buckets;
 use crate::task::Task;
@@ -12,15 +12,13 @@ use cellset::{Cell, CellSet};
 use reach::Push;
 use std::alloc::AllocError;
 
-/// How far the search has come, and what it found.
+/// How far the search has come.
 #[derive(Debug, Drop)]
 pub struct Search {
     /// The cells whose buckets are searched, how many were begun, and the link to the next group.
     pub cells: Vec<Cell>,
     pub begun: usize,
     pub link: usize,
-    /// The groups found so far whose boxes are all there.
-    pub inside: Vec<usize>,
 }
 
 impl Search {
@@ -33,19 +31,17 @@ impl Search {
         requires task { IsTask task.now }
         requires pushes { AreOpen task.now pushes.now }
         ensures search { OnOk result ((buckets : _) → IsSearch task.now.tables.now.board.now.shape task.now.tables.now.groups buckets self.new) }
-        ensures none { self.new.inside.items ≡ [] }
-        ensures begun { self.new.begun ≡ 0 }
+        ensures begun { OnOk result (self.new.begun ≡ 0) }
         ensures ahead { OnOk result ((push : OutPush) → Contains pushes.now push → Has (cells_in self.new.cells.items) push.to) }
         ensures boxes { OnOk result ((c : GridCell) → Has (cells_in task.now.boxes.now) c → Has (cells_in self.new.cells.items) c) }
     {
-        self.begun = 0;
-        self.link = 0;
-        self.inside.clear();
         self.cells.clear();
         for push in pushes {
             self.cells.push(push.to)?;
         }
         self.cells.extend_from_slice(task.boxes)?;
+        self.begun = 0;
+        self.link = 0;
         Ok(())
     }
 
@@ -55,12 +51,9 @@ impl Search {
         requires buckets { AreBuckets task.now.tables.now.board.now task.now.tables.now.groups buckets.now }
         requires search { IsSearch task.now.tables.now.board.now.shape task.now.tables.now.groups buckets.now self.old }
         ensures search { IsSearch task.now.tables.now.board.now.shape task.now.tables.now.groups buckets.now self.new }
-        ensures inside { self.new.inside ≡ self.old.inside }
         ensures cells { self.new.cells ≡ self.old.cells }
         ensures passed { (g : ℕ) → g < length task.now.tables.now.groups.spans.items → IsPassed task.now.tables.now.board.now.shape buckets.now self.new g → IsPassed task.now.tables.now.board.now.shape buckets.now self.old g ⊎ (result ≡ Some g) }
-        ensures found { MatchOption result
-            ((g : ℕ) (c : GridCell) → g < length task.now.tables.now.groups.spans.items → Has (cells_in self.new.cells.items) c
-            → slice_index buckets.now.keys.items g ≡ index task.now.tables.now.board.now.shape c → IsPassed task.now.tables.now.board.now.shape buckets.now self.new g)
+        ensures found { MatchOption result (IsSearched task.now.tables.now.board.now.shape task.now.tables.now.groups buckets.now self.new)
             (λ g. g < length task.now.tables.now.groups.spans.items) }
         ensures fewer { IfSome result (λ _. searches_left task.now.tables.now.groups self.new < searches_left task.now.tables.now.groups self.old) }
     {

@@ -5,14 +5,17 @@ ghost use Rattle.cellset.specs.{Cell.IsOn, CellSet.Has, declared.cell.Cell.Cell 
 ghost use Rattle.reach.specs.{Pushes.PushBefore, Pushes.dir_rank, declared.pushes.Push.Push as OutPush};
 ghost use Rattle.cell_lists.specs.CellLists.{cells_in};
 ghost use Rattle.patterns.specs.{Arena.pattern_at, Pattern.CoversPushesOf, Pattern.IsFirstUncovered, Groups.boxes_of, Groups.list_of};
-ghost use Rattle.patterns.specs.Lookups.{AreAsked, AreLookups, HasAsked, IsOnward, IsRest, IsSearched, IsSettling};
-ghost use Rattle.patterns.specs.{Hits.AreHits, Piece.AreInPiece, Piece.IsFreeOf, Search.searches_left, Place.IsSubset, Tables.AreTables};
-ghost use Rattle.patterns.specs.Settling.{CoversNone, IsPushOut, IsSettled, IsTask};
+ghost use Rattle.patterns.specs.{Buckets.AreBuckets, Lookups.AreLookups, Lookups.IsReady, Lookups.IsRest};
+ghost use Rattle.patterns.specs.{Hits.AreHits, Piece.AreInPiece, Piece.IsFreeOf, Search.IsSearched, Search.searches_left, Place.IsSubset, Tables.AreTables};
+ghost use Rattle.patterns.specs.Settling.{AreOpen, CoversNone, HasAsked, IsOnward, IsPlaceOf, IsPushOut, IsSettled, IsSettling, IsTask};
 
+use crate::buckets::Buckets;
 use crate::hints::{TRIES, hash_of, hash_with, hash_without};
 use crate::lookups::Lookups;
+use crate::place::{Place, list_hits};
 use crate::tables::Tables;
 use crate::task::Task;
+use crate::unsettled::Unsettled;
 use cellset::{Cell, CellSet, Dir};
 use reach::{Push, Rows};
 use std::alloc::{AllocError, Global};
@@ -27,89 +30,38 @@ impl Lookups {
         ensures rest { OnOk result (IsRest task.now.tables.now.board.now task.now.tables.now.groups task.now.group self.new.left.items) }
     {
         self.begin(task)?;
-        self.ask_hints(task);
         while self.enter(alloc, task)? {
-            self.settle_here(task)?;
+            self.unsettled
+                .settle_here(task, &self.place, &self.buckets)?;
             self.left.extend_from_slice(&self.unsettled.here)?;
         }
         Ok(())
     }
 
-    // Opens the pushes out of a group.
+    // Opens the pushes out of a group, and asks the groups that hints name.
     fn begin<S: CellSet>(&mut self, task: &Task<S>) -> Result<(), AllocError>
         requires task { IsTask task.now }
         requires are { AreLookups task.now.tables.now self.old }
-        ensures settling { OnOk result (IsSettling task.now self.new) }
-        ensures asked { OnOk result (AreAsked task.now self.new) }
+        ensures ready { OnOk result (IsReady task.now self.new) }
         ensures left { self.new.left.items ≡ [] }
         ensures all { OnOk result ((push : OutPush) → IsPushOut task.now push → Contains self.new.unsettled.away.items push ⊎ IsSettled task.now push) }
     {
         self.left.clear();
         self.place.player = task.tables.board.player();
         self.place.hits.clear();
-        self.place.walked = true;
         load_rows(task.boxes, &mut self.place.boxes);
         self.flood
             .take_out(task.tables.board.room_rows(), task.boxes);
         self.unsettled.begin(task, &self.flood.free)?;
-        self.search.begin(task, &self.unsettled.away)?;
+        self.unsettled.ask_hints(task, &self.place.boxes);
         Ok(())
-    }
-
-    // Asks for each open push the groups that hints name for its result.
-    fn ask_hints<S: CellSet>(&mut self, task: &Task<S>)
-        requires task { IsTask task.now }
-        requires settling { IsSettling task.now self.old }
-        ensures { HasAsked task.now self.old self.new }
-    {
-        let hash = hash_of(task.boxes);
-        let mut at = self.unsettled.away.len();
-        while at > 0 {
-            at -= 1;
-            if let Some(push) = self.unsettled.away.get(at) {
-                let after = hash_with(hash_without(hash, push.from), push.to);
-                self.ask_hinted(task, after);
-            }
-        }
-    }
-
-    // Asks the groups that hints name for a hash.
-    fn ask_hinted<S: CellSet>(&mut self, task: &Task<S>, hash: usize)
-        requires task { IsTask task.now }
-        requires settling { IsSettling task.now self.old }
-        ensures { HasAsked task.now self.old self.new }
-    {
-        for turn in 0..TRIES {
-            let Some(slot) = task.tables.groups.hints.slot(hash, turn) else {
-                return;
-            };
-            let Some(group) = slot.group_for(hash) else {
-                continue;
-            };
-            let _inside = self.ask(task, group);
-        }
-    }
-
-    // Returns whether the boxes of a group are all there. If just one isn't there, settles the pushes that lead there and that the group covers.
-    fn ask<S: CellSet>(&mut self, task: &Task<S>, group: usize) -> bool
-        requires task { IsTask task.now }
-        requires settling { IsSettling task.now self.old }
-        ensures asked { HasAsked task.now self.old self.new }
-        ensures place { self.new.place ≡ self.old.place }
-        ensures found { MatchBool result (IsSubset task.now.tables.now.groups (cells_in task.now.boxes.now) group)
-            (group < length task.now.tables.now.groups.spans.items
-            → CoversNone task.now group self.new.unsettled.away.items × CoversNone task.now group self.new.unsettled.here.items) }
-    {
-        group < task.tables.groups.spans.len() && self.unsettled.ask(task, &self.place.boxes, group)
     }
 
     // Enters the piece of the player of an open push. Returns false if none is open.
     fn enter<S: CellSet>(&mut self, alloc: Global, task: &Task<S>) -> Result<bool, AllocError>
         requires task { IsTask task.now }
-        requires settling { IsSettling task.now self.old }
-        requires asked { AreAsked task.now self.old }
-        ensures settling { OnOk result (IsSettling task.now self.new) }
-        ensures asked { OnOk result (AreAsked task.now self.new) }
+        requires ready { IsReady task.now self.old }
+        ensures ready { OnOk result (IsReady task.now self.new) }
         ensures left { self.new.left ≡ self.old.left }
         ensures piece { IfOk result (λ some. IsTrue some
             → AreInPiece task.now.tables.now.board.now (cells_in task.now.boxes.now) self.new.place.player self.new.unsettled.here.items) }
@@ -118,19 +70,18 @@ impl Lookups {
         ensures fewer { IfOk result (λ some. MatchBool some (length self.new.unsettled.away.items < length self.old.unsettled.away.items)
             ((push : OutPush) → Contains self.old.unsettled.away.items push → ⊥)) }
     {
-        let Some(first) = self.unsettled.away.pop() else {
+        if self.unsettled.away.is_empty() {
             return Ok(false);
-        };
-        self.flood.find_piece(first.player);
-        self.unsettled.here.clear();
-        self.unsettled.here.push(first)?;
+        }
+        let player = self.unsettled.away[0].player;
+        self.flood.find_piece(player);
         self.unsettled.enter(&self.flood)?;
         let rooted = self.flood.in_piece(task.tables.board.player());
-        self.stand(alloc, task.tables, first.player, rooted)?;
+        self.stand(alloc, task.tables, player, rooted)?;
         Ok(true)
     }
 
-    // Takes the player for the one at hand. Grows the tree, unless the player's piece has the root.
+    // Takes a player for the one at hand. Grows the tree, unless the player's piece has the root.
     fn stand<S: CellSet>(
         &mut self,
         alloc: Global,
@@ -144,109 +95,18 @@ impl Lookups {
         ensures are { OnOk result (AreLookups tables.now self.new) }
         ensures player { OnOk result (self.new.place.player ≡ player) }
         ensures same { (self.new.buckets ≡ self.old.buckets) × (self.new.flood ≡ self.old.flood) × (self.new.place.boxes ≡ self.old.place.boxes)
-            × (self.new.unsettled ≡ self.old.unsettled) × (self.new.search ≡ self.old.search) × (self.new.left ≡ self.old.left) }
+            × (self.new.unsettled ≡ self.old.unsettled) × (self.new.left ≡ self.old.left) }
     {
         if rooted {
-            self.place.set_player(player, true);
+            self.place.hits.clear();
+            self.place.player = player;
             return Ok(());
         }
         self.grow(alloc, tables)?;
-        self.place.set_player(player, false);
+        let hits = &mut self.place.hits;
+        list_hits(tables.board, &self.tree, &self.place.boxes, player, hits);
+        self.place.player = player;
         Ok(())
-    }
-
-    // Asks groups until no push from the piece is left or all groups were asked.
-    fn settle_here<S: CellSet>(&mut self, task: &Task<S>) -> Result<(), AllocError>
-        requires task { IsTask task.now }
-        requires settling { IsSettling task.now self.old }
-        requires asked { AreAsked task.now self.old }
-        requires piece { AreInPiece task.now.tables.now.board.now (cells_in task.now.boxes.now) self.old.place.player self.old.unsettled.here.items }
-        ensures onward { OnOk result (IsOnward task.now self.old self.new) }
-        ensures rest { OnOk result ((push : OutPush) → Contains self.new.unsettled.here.items push → IsSettled task.now push → ⊥) }
-    {
-        self.ask_last(task);
-        self.settle_inside(task);
-        while !self.unsettled.here.is_empty() {
-            if !self.ask_next(task)? {
-                return Ok(());
-            }
-        }
-        Ok(())
-    }
-
-    // Asks the group that settled the last piece.
-    fn ask_last<S: CellSet>(&mut self, task: &Task<S>)
-        requires task { IsTask task.now }
-        requires settling { IsSettling task.now self.old }
-        requires asked { AreAsked task.now self.old }
-        requires piece { AreInPiece task.now.tables.now.board.now (cells_in task.now.boxes.now) self.old.place.player self.old.unsettled.here.items }
-        ensures onward { IsOnward task.now self.old self.new }
-    {
-        let last = self.last;
-        if !self.ask(task, last) {
-            return;
-        }
-        self.settle_by(task, last);
-    }
-
-    // Settles pushes by the groups that were found for other pieces.
-    fn settle_inside<S: CellSet>(&mut self, task: &Task<S>)
-        requires task { IsTask task.now }
-        requires settling { IsSettling task.now self.old }
-        requires asked { AreAsked task.now self.old }
-        requires piece { AreInPiece task.now.tables.now.board.now (cells_in task.now.boxes.now) self.old.place.player self.old.unsettled.here.items }
-        ensures onward { IsOnward task.now self.old self.new }
-        ensures none { (g : ℕ) → Contains self.new.search.inside.items g → CoversNone task.now g self.new.unsettled.here.items }
-    {
-        for at in 0..self.search.inside.len() {
-            let group = self.search.inside[at];
-            self.settle_by(task, group);
-        }
-    }
-
-    // Asks the next group in the buckets. Returns false if there is none.
-    fn ask_next<S: CellSet>(&mut self, task: &Task<S>) -> Result<bool, AllocError>
-        requires task { IsTask task.now }
-        requires settling { IsSettling task.now self.old }
-        requires asked { AreAsked task.now self.old }
-        requires piece { AreInPiece task.now.tables.now.board.now (cells_in task.now.boxes.now) self.old.place.player self.old.unsettled.here.items }
-        requires none { (g : ℕ) → Contains self.old.search.inside.items g → CoversNone task.now g self.old.unsettled.here.items }
-        ensures onward { OnOk result (IsOnward task.now self.old self.new) }
-        ensures none { OnOk result ((g : ℕ) → Contains self.new.search.inside.items g → CoversNone task.now g self.new.unsettled.here.items) }
-        ensures fewer { IfOk result (λ some. MatchBool some
-            (searches_left task.now.tables.now.groups self.new.search < searches_left task.now.tables.now.groups self.old.search)
-            (IsSearched task.now self.new)) }
-    {
-        let Some(group) = self.search.next(task, &self.buckets) else {
-            return Ok(false);
-        };
-        if !self.ask(task, group) {
-            return Ok(true);
-        }
-        self.search.inside.push(group)?;
-        self.settle_by(task, group);
-        Ok(true)
-    }
-
-    // Settles the pushes from the piece that a group covers whose boxes are all there.
-    fn settle_by<S: CellSet>(&mut self, task: &Task<S>, group: usize)
-        requires task { IsTask task.now }
-        requires settling { IsSettling task.now self.old }
-        requires group { IsSubset task.now.tables.now.groups (cells_in task.now.boxes.now) group }
-        requires piece { AreInPiece task.now.tables.now.board.now (cells_in task.now.boxes.now) self.old.place.player self.old.unsettled.here.items }
-        ensures asked { HasAsked task.now self.old self.new }
-        ensures piece { AreInPiece task.now.tables.now.board.now (cells_in task.now.boxes.now) self.new.place.player self.new.unsettled.here.items }
-        ensures none { CoversNone task.now group self.new.unsettled.here.items }
-    {
-        if self.unsettled.here.is_empty() {
-            return;
-        }
-        if self
-            .unsettled
-            .settle_piece(task, &mut self.place, &self.tree, group)
-        {
-            self.last = group;
-        }
     }
 
     /// Returns the first push out of a line of the group among those that are left.
@@ -271,6 +131,136 @@ impl Lookups {
     {
         let whole = self.flood.find_line(tables.groups.arena.pattern(line));
         least_of(&self.left, self.flood.found(whole))
+    }
+}
+
+impl Unsettled {
+    // Asks for each open push the groups that hints name for its result.
+    pub(crate) fn ask_hints<S: CellSet>(&mut self, task: &Task<S>, boxes: &Rows)
+        requires task { IsTask task.now }
+        requires boxes { boxes.now.members ≡ cells_in task.now.boxes.now }
+        requires away { AreOpen task.now self.old.away.items }
+        requires here { AreOpen task.now self.old.here.items }
+        ensures { HasAsked task.now self.old self.new }
+    {
+        let hash = hash_of(task.boxes);
+        let mut at = self.away.len();
+        while at > 0 {
+            at -= 1;
+            if let Some(push) = self.away.get(at) {
+                let after = hash_with(hash_without(hash, push.from), push.to);
+                self.ask_hinted(task, boxes, after);
+            }
+        }
+    }
+
+    // Asks the groups that hints name for a hash.
+    fn ask_hinted<S: CellSet>(&mut self, task: &Task<S>, boxes: &Rows, hash: usize)
+        requires task { IsTask task.now }
+        requires boxes { boxes.now.members ≡ cells_in task.now.boxes.now }
+        requires away { AreOpen task.now self.old.away.items }
+        requires here { AreOpen task.now self.old.here.items }
+        ensures { HasAsked task.now self.old self.new }
+    {
+        for turn in 0..TRIES {
+            let Some(slot) = task.tables.groups.hints.slot(hash, turn) else {
+                return;
+            };
+            let Some(group) = slot.group_for(hash) else {
+                continue;
+            };
+            if group >= task.tables.groups.spans.len() {
+                continue;
+            }
+            let _inside = self.ask(task, boxes, group);
+        }
+    }
+
+    // Asks groups until no push from the piece is left or all groups were asked.
+    pub(crate) fn settle_here<S: CellSet>(
+        &mut self,
+        task: &Task<S>,
+        place: &Place,
+        buckets: &Buckets,
+    ) -> Result<(), AllocError>
+        requires place { IsPlaceOf task.now place.now }
+        requires buckets { AreBuckets task.now.tables.now.board.now task.now.tables.now.groups buckets.now }
+        requires settling { IsSettling task.now buckets.now self.old }
+        requires piece { AreInPiece task.now.tables.now.board.now (cells_in task.now.boxes.now) place.now.player self.old.here.items }
+        ensures onward { OnOk result (IsOnward task.now buckets.now self.old self.new) }
+        ensures rest { OnOk result ((push : OutPush) → Contains self.new.here.items push → IsSettled task.now push → ⊥) }
+    {
+        self.ask_last(task, place);
+        self.settle_inside(task, place);
+        while !self.here.is_empty() {
+            if !self.ask_next(task, place, buckets)? {
+                return Ok(());
+            }
+        }
+        Ok(())
+    }
+
+    // Asks the group that settled the last piece.
+    fn ask_last<S: CellSet>(&mut self, task: &Task<S>, place: &Place)
+        requires place { IsPlaceOf task.now place.now }
+        requires away { AreOpen task.now self.old.away.items }
+        requires here { AreOpen task.now self.old.here.items }
+        requires piece { AreInPiece task.now.tables.now.board.now (cells_in task.now.boxes.now) place.now.player self.old.here.items }
+        ensures { HasAsked task.now self.old self.new }
+    {
+        let last = self.last;
+        if last >= task.tables.groups.spans.len() {
+            return;
+        }
+        if !self.ask(task, &place.boxes, last) {
+            return;
+        }
+        self.settle_by(task, place, last);
+    }
+
+    // Settles pushes by the groups that were found for other pieces.
+    fn settle_inside<S: CellSet>(&mut self, task: &Task<S>, place: &Place)
+        requires place { IsPlaceOf task.now place.now }
+        requires inside { (g : ℕ) → Contains self.old.inside.items g → IsSubset task.now.tables.now.groups (cells_in task.now.boxes.now) g }
+        requires away { AreOpen task.now self.old.away.items }
+        requires here { AreOpen task.now self.old.here.items }
+        requires piece { AreInPiece task.now.tables.now.board.now (cells_in task.now.boxes.now) place.now.player self.old.here.items }
+        ensures asked { HasAsked task.now self.old self.new }
+        ensures none { (g : ℕ) → Contains self.new.inside.items g → CoversNone task.now g self.new.here.items }
+    {
+        for at in 0..self.inside.len() {
+            let group = self.inside[at];
+            self.settle_by(task, place, group);
+        }
+    }
+
+    // Asks the next group in the buckets. Returns false if there is none.
+    fn ask_next<S: CellSet>(
+        &mut self,
+        task: &Task<S>,
+        place: &Place,
+        buckets: &Buckets,
+    ) -> Result<bool, AllocError>
+        requires place { IsPlaceOf task.now place.now }
+        requires buckets { AreBuckets task.now.tables.now.board.now task.now.tables.now.groups buckets.now }
+        requires settling { IsSettling task.now buckets.now self.old }
+        requires piece { AreInPiece task.now.tables.now.board.now (cells_in task.now.boxes.now) place.now.player self.old.here.items }
+        requires none { (g : ℕ) → Contains self.old.inside.items g → CoversNone task.now g self.old.here.items }
+        ensures onward { OnOk result (IsOnward task.now buckets.now self.old self.new) }
+        ensures none { OnOk result ((g : ℕ) → Contains self.new.inside.items g → CoversNone task.now g self.new.here.items) }
+        ensures fewer { IfOk result (λ some. MatchBool some
+            (searches_left task.now.tables.now.groups self.new.search < searches_left task.now.tables.now.groups self.old.search)
+            (IsSearched task.now.tables.now.board.now.shape task.now.tables.now.groups buckets.now self.new.search)) }
+    {
+        let Some(group) = self.search.next(task, buckets) else {
+            return Ok(false);
+        };
+        if !self.ask(task, &place.boxes, group) {
+            return Ok(true);
+        }
+        self.inside.push(group)?;
+        self.settle_by(task, place, group);
+        Ok(true)
     }
 }
 

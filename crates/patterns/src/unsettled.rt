@@ -8,26 +8,31 @@ ghost use Rattle.std.specs.List.{Contains};
 ghost use Rattle.cellset.specs.{CellSet.Has, CellSet.Lacks, declared.cell.Cell.Cell as GridCell};
 ghost use Rattle.reach.specs.declared.pushes.Push.{Push as OutPush};
 ghost use Rattle.cell_lists.specs.CellLists.{cell_no, cells_in};
-ghost use Rattle.patterns.specs.{Groups.boxes_of, Place.IsPlace, Place.IsSubset, Piece.AreInPiece, Piece.InPiece, Piece.IsFreeOf};
-ghost use Rattle.patterns.specs.Settling.{AreOpen, AreTaken, CoversNone, IsMet, IsPushOut, IsParted, IsSettled, IsTask, LeadsTo, Misses};
+ghost use Rattle.patterns.specs.{Place.IsSubset, Piece.AreInPiece, Piece.InPiece, Piece.IsFreeOf};
+ghost use Rattle.patterns.specs.Settling.{AreOpen, CoversNone, HasAsked, IsMet, IsPlaceOf, IsPushOut, IsParted, IsSettled, IsSettling, IsTask, LeadsTo, Misses};
 
 use crate::group_regions::Flood;
 use crate::place::Place;
+use crate::search::Search;
 use crate::sides::Sides;
 use crate::task::Task;
-use crate::tree::Tree;
 use cell_lists::{is_same, number_of};
 use cellset::{Cell, CellSet, Dir};
 use reach::{Push, Rows};
 use std::alloc::AllocError;
 
-/// The pushes that aren't settled.
+/// The pushes that aren't settled, and the search for groups that settle them.
 #[derive(Debug, Drop)]
 pub struct Unsettled {
     /// Those by players in pieces that weren't entered yet.
     pub away: Vec<Push>,
     /// Those by players in the piece.
     pub here: Vec<Push>,
+    pub search: Search,
+    /// The groups found so far whose boxes are all there.
+    pub inside: Vec<usize>,
+    /// The last group noted as covered that settled a piece. It is asked first.
+    pub last: usize,
 }
 
 /// The one box of a group that isn't there, and on which sides of it the region of the group lies.
@@ -47,7 +52,7 @@ pub enum Missing {
 }
 
 impl Unsettled {
-    // Opens the pushes out of a group, but those to the trap. `free` is the room less the boxes.
+    // Opens the pushes out of a group, but those to the trap, and begins the search. `free` is the room less the boxes.
     pub(crate) fn begin<S: CellSet>(
         &mut self,
         task: &Task<S>,
@@ -55,18 +60,19 @@ impl Unsettled {
     ) -> Result<(), AllocError>
         requires task { IsTask task.now }
         requires free { IsFreeOf task.now.tables.now.board.now (cells_in task.now.boxes.now) free.now }
-        ensures away { OnOk result (AreOpen task.now self.new.away.items) }
-        ensures here { self.new.here.items ≡ [] }
+        ensures settling { OnOk result ((buckets : _) → IsSettling task.now buckets self.new) }
         ensures all { OnOk result ((push : OutPush) → IsPushOut task.now push → Contains self.new.away.items push ⊎ IsSettled task.now push) }
     {
         self.away.clear();
-        self.here.clear();
         for number in 0..task.boxes.len() {
             self.open_toward(task, free, number, Dir::L)?;
             self.open_toward(task, free, number, Dir::U)?;
             self.open_toward(task, free, number, Dir::R)?;
             self.open_toward(task, free, number, Dir::D)?;
         }
+        self.here.clear();
+        self.inside.clear();
+        self.search.begin(task, &self.away)?;
         Ok(())
     }
 
@@ -83,7 +89,6 @@ impl Unsettled {
         requires number { number < length task.now.boxes.now }
         requires away { AreOpen task.now self.old.away.items }
         ensures away { OnOk result (AreOpen task.now self.new.away.items) }
-        ensures here { self.new.here ≡ self.old.here }
         ensures kept { (push : OutPush) → Contains self.old.away.items push → Contains self.new.away.items push }
         ensures all { OnOk result ((push : OutPush) → IsPushOut task.now push → push.from ≡ cell_no task.now.boxes.now number → push.dir ≡ dir
             → Contains self.new.away.items push ⊎ IsSettled task.now push) }
@@ -114,11 +119,12 @@ impl Unsettled {
         Ok(())
     }
 
-    // Moves the open pushes by players in a piece to those here.
+    // Makes the open pushes by players in a piece those here.
     #[tactic(auto, using(crate::proofs::Taken::taken_only, crate::proofs::Taken::taken_kept))]
     pub(crate) fn enter(&mut self, flood: &Flood) -> Result<(), AllocError>
         ensures { OnOk result (IsParted (InPiece flood.now) self.old self.new) }
     {
+        self.here.clear();
         let mut at = 0;
         while at < self.away.len() {
             let push = self.away[at];
@@ -140,8 +146,7 @@ impl Unsettled {
         requires group { group < length task.now.tables.now.groups.spans.items }
         requires away { AreOpen task.now self.old.away.items }
         requires here { AreOpen task.now self.old.here.items }
-        ensures away { AreTaken task.now self.old.away.items self.new.away.items }
-        ensures here { AreTaken task.now self.old.here.items self.new.here.items }
+        ensures asked { HasAsked task.now self.old self.new }
         ensures found { MatchBool result (IsSubset task.now.tables.now.groups (cells_in task.now.boxes.now) group)
             (CoversNone task.now group self.new.away.items × CoversNone task.now group self.new.here.items) }
     {
@@ -164,37 +169,27 @@ impl Unsettled {
         }
     }
 
-    // Settles the pushes from the piece that a group covers whose boxes are all there, or all of them if its own pushes are covered. Returns true
-    // only in the last case.
-    pub(crate) fn settle_piece<S: CellSet>(
-        &mut self,
-        task: &Task<S>,
-        place: &mut Place,
-        tree: &Tree,
-        group: usize,
-    ) -> bool
-        requires task { IsTask task.now }
-        requires boxes { place.old.boxes.members ≡ cells_in task.now.boxes.now }
+    // Settles the pushes from the piece that a group covers whose boxes are all there, or all of them if its own pushes are covered.
+    pub(crate) fn settle_by<S: CellSet>(&mut self, task: &Task<S>, place: &Place, group: usize)
+        requires place { IsPlaceOf task.now place.now }
         requires group { IsSubset task.now.tables.now.groups (cells_in task.now.boxes.now) group }
-        requires place { IsPlace task.now.tables.now.board.now tree.now place.old }
         requires here { AreOpen task.now self.old.here.items }
-        requires piece { AreInPiece task.now.tables.now.board.now (cells_in task.now.boxes.now) place.old.player self.old.here.items }
-        ensures place { IsPlace task.now.tables.now.board.now tree.now place.new }
-        ensures boxes { place.new.boxes ≡ place.old.boxes }
-        ensures player { place.new.player ≡ place.old.player }
-        ensures away { self.new.away ≡ self.old.away }
-        ensures here { AreTaken task.now self.old.here.items self.new.here.items }
+        requires piece { AreInPiece task.now.tables.now.board.now (cells_in task.now.boxes.now) place.now.player self.old.here.items }
+        ensures asked { HasAsked task.now self.old self.new }
         ensures none { CoversNone task.now group self.new.here.items }
     {
-        if !place.is_inside(task.tables, tree, group) {
-            return false;
+        if self.here.is_empty() {
+            return;
+        }
+        if !place.is_inside(task.tables, group) {
+            return;
         }
         if task.covered[group] {
             self.here.clear();
-            return true;
+            self.last = group;
+            return;
         }
         take_met(&mut self.here, task.tables.groups.boxes(group), None);
-        false
     }
 }
 

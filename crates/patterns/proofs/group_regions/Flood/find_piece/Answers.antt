@@ -1,5 +1,6 @@
-use Rattle.std.proofs.Common.{◌≡◌}
+use Rattle.std.proofs.Common.{◌≡◌, inr, refl}
 use Rattle.cellset.{specs.CellSet.Has, proofs.Members.has_empty, proofs.Truth.either}
+use Rattle.reach.specs.Reached.{at_seed}
 use Rattle.reach.proofs.Instances.{joined_is, walked_more}
 use Rattle.patterns.proofs.group_regions.Flood.find_piece.Goals as goal
 
@@ -14,3 +15,7 @@ returns-clause-piece c = λ q has.
     (λ old. absurd (has_empty s (rw c.clear.ensures.members at old)))
     (λ e. (e, rw e c.requires.player)))
     q ((c.grow.ensures.exact q).0 (rw c.if-self.false at has)))
+
+pub returns-clause-player : goal.returns-clause-player
+returns-clause-player c =
+    rw c.if-self.false ((c.grow.ensures.exact c.args.player).1 (at_seed ((c.insert.ensures.members c.args.player).1 (inr refl))))

@@ -1,7 +1,7 @@
 -- The player is on the root at first, whose path has no hits.
-use Rattle.std.proofs.Common.{◌∙◌, ap}
+use Rattle.std.proofs.Common.{◌∙◌, ap, inr}
 use Rattle.cellset.proofs.Truth.{either}
-use Rattle.patterns.proofs.{Grouped.boxes_on, Pieces.room_is_one, Settled.root_hits, Taken.none_in}
+use Rattle.patterns.proofs.{Asked.onward_asked, Grouped.boxes_on, Pieces.room_is_one, Settled.root_hits}
 use Rattle.patterns.proofs.lookups.Lookups.begin.Goals as goal
 
 pub load_rows-requires : goal.load_rows-requires
@@ -24,36 +24,34 @@ pub take_out-requires-clause-whole : goal.take_out-requires-clause-whole
 take_out-requires-clause-whole g c =
     rw c.room_rows.ensures.members (room_is_one c.args.task.now.tables.now.board.now c.requires.task.tables.formed)
 
-pub begin-requires-2-clause-pushes : goal.begin-requires-2-clause-pushes
-begin-requires-2-clause-pushes g c = λ push has. c.in_ok-begin.ensures.away push (rw c.deref.ensures.value at has)
+pub ask_hints-requires : goal.ask_hints-requires
+ask_hints-requires g c =
+    let begun = c.in_ok-begin.ensures.settling c.args.self.now.buckets in
+    record { task = c.requires.task; boxes = c.load_rows.ensures.members; away = begun.away; here = begun.here }
 
-pub returns-clause-settling : goal.returns-clause-settling
-returns-clause-settling g c =
-    let level = c.args.task.now.tables.now.board.now in
+pub returns-clause-ready : goal.returns-clause-ready
+returns-clause-ready g c =
     let is = c.requires.task in
     let are = c.requires.are in
     let free = c.take_out.ensures in
-    let found = c.in_ok-begin-2.ensures in
+    let asked = c.ask_hints.ensures in
     record {
       are = record {
         buckets = are.buckets;
         place = record {
           extent = c.load_rows.ensures.extent ∙ are.place.extent;
           room = rw c.player-self.ensures.value is.tables.formed.here;
-          grown = λ some. let grown = are.place.grown some in (grown.0, rw c.clear-2.ensures.capacity grown.1);
-          path = root_hits level c.load_rows.new.rows.members c.player-self.result c.clear-2.new.self.items c.player-self.ensures.value c.clear-2.ensures.items;
+          hits = root_hits c.args.task.now.tables.now.board.now c.load_rows.new.rows.members c.player-self.result c.clear-2.new.self.items c.player-self.ensures.value c.clear-2.ensures.items;
         };
+        grown = λ some. let grown = are.grown some in (grown.0, rw c.clear-2.ensures.capacity grown.1);
         free = free.same.0 ∙ are.free;
         region = ap (λ r. r.extent) free.same.1 ∙ are.region;
       };
       boxes = c.load_rows.ensures.members;
       free = record { extent = free.same.0 ∙ are.free; members = λ q. rw c.room_rows.ensures.members at (free.free q) };
       whole = free.whole;
-      away = c.in_ok-begin.ensures.away;
-      here = λ push has. absurd (none_in push (rw c.begin.ensures.here at has));
-      search = found.search _;
-      boxes_searched = found.boxes;
-      away_searched = λ push has. found.ahead push (rw c.deref.ensures.value has);
-      here_searched = λ push has. absurd (none_in push (rw c.begin.ensures.here at has));
-      inside = λ h has. absurd (none_in h (rw c.begin-2.ensures.none at has));
+      settling = (onward_asked _ c.args.self.now.buckets _ _ (c.in_ok-begin.ensures.settling c.args.self.now.buckets) asked).settling;
     }
+
+pub returns-clause-all : goal.returns-clause-all
+returns-clause-all g c = λ push out. either (c.in_ok-begin.ensures.all push out) (c.ask_hints.ensures.away.kept push) inr

@@ -6,47 +6,43 @@ use Rattle.cellset.specs.SortedList.{index}
 use Rattle.patterns.proofs.InBuckets.{no_group_covers, player_in_room}
 use Rattle.patterns.proofs.lookups.Lookups.covers.Goals as goal
 
+pub list_hits-requires : goal.list_hits-requires
+list_hits-requires g c =
+    let tree = c.requires.are.grown c.requires.grown in
+    record { tree = tree.0; capacity = tree.1; player = rw c.room.ensures.members at (sym c.if-not-contains.ensures) }
+
 pub loop-cell-init : goal.loop-cell-init
 loop-cell-init g c = record {
   can_next = tt;
   is_finite = tt;
   all = rw c.into_iter-cell-iterator.ensures.into_iter_gives c.new-cell-items.ensures;
-  passed = λ q k came. let lt = came.1 in absurd (omega arith);
   are = record {
     buckets = c.requires.are.buckets;
     place = record {
       extent = c.load.ensures.extent ∙ c.requires.are.place.extent;
       room = rw c.room.ensures.members at (sym c.if-not-contains.ensures);
-      grown = c.requires.are.place.grown;
-      path = c.requires.grown;
+      hits = c.list_hits.ensures.hits;
     };
+    grown = λ some. ((c.requires.are.grown some).0, c.list_hits.ensures.capacity);
     free = c.requires.are.free;
     region = c.requires.are.region;
   };
-  grown = c.requires.grown;
-  buckets = refl;
-  boxes = c.load.ensures.members;
-  player = refl;
+  passed = λ q k came. let lt = came.1 in absurd (omega arith);
 }
 
 pub loop-cell-preserved : goal.loop-cell-preserved
 loop-cell-preserved g c =
     let inv = c.loop-cell.invariant in
     let whole = rw c.in-Some.ensures.steps at inv.all in
-    let same = c.is_covered_in_bucket.ensures.same in
-    let found = rw (inv.buckets, inv.boxes, inv.player) at c.if-is_covered_in_bucket.ensures.found in
+    let found = rw c.load.ensures.members at c.if-is_covered_in_bucket.ensures in
     record {
       can_next = tt;
       is_finite = tt;
       all = next_came c.loop-cell.yielded c.next.new.self c.in-Some.cell whole;
+      are = inv.are;
       passed = λ q k came key. either (Contains-push_cases c.loop-cell.yielded c.in-Some.cell q came)
           (λ old. inv.passed q k old key)
           (λ here. found k (key ∙ sym (ap (index c.args.tables.now.board.now.shape) here)));
-      are = c.is_covered_in_bucket.ensures.are;
-      grown = rw same.0 inv.grown;
-      buckets = same.1 ∙ inv.buckets;
-      boxes = ap (λ r. r.members) same.2 ∙ inv.boxes;
-      player = same.3 ∙ inv.player;
     }
 
 pub returns-then-not-contains-clause-exact : goal.returns-then-not-contains-clause-exact
@@ -59,8 +55,7 @@ returns-then-not-contains-clause-exact g c = (
 
 pub returns-then-is_covered_in_bucket-clause-exact : goal.returns-then-is_covered_in_bucket-clause-exact
 returns-then-is_covered_in_bucket-clause-exact g c =
-    let inv = c.loop-cell.invariant in
-    (λ _. rw (inv.boxes, inv.player) at c.if-is_covered_in_bucket.ensures.found, λ _. refl)
+    (λ _. rw c.load.ensures.members at c.if-is_covered_in_bucket.ensures, λ _. refl)
 
 pub returns-clause-exact : goal.returns-clause-exact
 returns-clause-exact g c = (

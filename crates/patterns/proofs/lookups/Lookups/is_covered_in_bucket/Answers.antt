@@ -1,10 +1,10 @@
 -- The loop follows the chain of the bucket from its last group to its first. The invariant says that no group of the bucket from `at` on
 -- covers the player and the boxes at hand, and that group `at` - 1 is in the bucket if there is one. If this group doesn't cover them, the chain
 -- leads to the last group of the bucket before it, so none is skipped (`none_more`). At the end of the chain none is left.
-use Rattle.std.proofs.Common.{◌≡◌, ℕ, ◌-◌, ◌<◌, ◌≤◌, List, refl, sym, ◌∙◌, ap, arith}
+use Rattle.std.proofs.Common.{◌≡◌, ℕ, ◌-◌, ◌<◌, ◌≤◌, List, sym, ◌∙◌, ap, arith}
 use Rattle.std.{specs.Prelude.slice_index, proofs.lemmas.Bool.cases_lt, proofs.lemmas.Bool.false≢true}
 use Rattle.cellset.{specs.SortedList.index, proofs.ReadingOrder.below_index}
-use Rattle.patterns.specs.{Chains.AreChains, Chains.IsLast, Tables.GroupCovers}
+use Rattle.patterns.specs.{Chains.AreChains, Chains.IsLast, Place.state_at, Tables.GroupCovers}
 use Rattle.patterns.proofs.{Grouped.covered_of_group, InBuckets.begun, InBuckets.led_on}
 use Rattle.patterns.proofs.lookups.Lookups.is_covered_in_bucket.Goals as goal
 
@@ -30,11 +30,6 @@ loop-at-init g c =
       passed = λ k past key covers.
           let has = covers.0 in
           last.others k past (omega arith) key;
-      are = c.requires.are;
-      tree = refl;
-      buckets = refl;
-      boxes = refl;
-      player = refl;
     }
 
 pub loop-at-preserved : goal.loop-at-preserved
@@ -42,33 +37,23 @@ loop-at-preserved g c =
     let tables = c.args.tables.now in
     let shape = tables.board.now.shape in
     let buckets = c.args.self.now.buckets in
-    let place = c.args.self.now.place in
     let all = c.requires.are.buckets in
     let inv = c.loop-at.invariant in
-    let same = c.is_covering.ensures.same in
     let test = c.loop-at-test.true in
     let within = inv.within in
     let long = all.long in
-    let kept = same.1 ∙ inv.buckets in
     let last = led_on buckets.keys.items buckets.chains.first.items buckets.chains.next.items _ (index shape c.args.cell) all.chained c.loop-at.at
-    c.index-in-loop-at.result.now test (omega arith) (rw kept at c.index-in-loop-at.ensures) (inv.key test) in
+    c.index-in-loop-at.result.now test (omega arith) c.index-in-loop-at.ensures (inv.key test) in
     let before = last.within in
-    let exact = rw (inv.boxes, inv.player) at c.is_covering.ensures.exact in
     record {
       within = omega arith;
       key = last.has_key;
       passed = none_more buckets.keys.items buckets.chains.first.items buckets.chains.next.items _ (index shape c.args.cell) all.chained
-          (λ j. GroupCovers tables.board.now tables.groups j (record { player = place.player; boxes = place.boxes.members }))
-          c.loop-at.at c.index-in-loop-at.result.now test last (λ covers. false≢true (sym c.if-is_covering.false ∙ exact.1 covers.1)) inv.passed;
-      are = c.is_covering.ensures.are;
-      tree = same.0 ∙ inv.tree;
-      buckets = kept;
-      boxes = same.2 ∙ inv.boxes;
-      player = same.3 ∙ inv.player;
+          (λ j. GroupCovers tables.board.now tables.groups j (state_at c.args.self.now.place))
+          c.loop-at.at c.index-in-loop-at.result.now test last (λ covers. false≢true (sym c.if-is_covering.false ∙ c.is_covering.ensures.1 covers.1)) inv.passed;
     }
 
-pub returns-then-is_covering-clause-found : goal.returns-then-is_covering-clause-found
-returns-then-is_covering-clause-found g c =
-    covered_of_group c.args.tables.now.board.now c.args.tables.now.groups c.requires.tables.grouped
-    (record { player = c.args.self.now.place.player; boxes = c.args.self.now.place.boxes.members }) (c.loop-at.at - 1)
-    ((rw (c.loop-at.invariant.boxes, c.loop-at.invariant.player) at c.is_covering.ensures.exact).0 c.if-is_covering.true)
+pub returns-then-is_covering : goal.returns-then-is_covering
+returns-then-is_covering g c =
+    covered_of_group c.args.tables.now.board.now c.args.tables.now.groups c.requires.tables.grouped (state_at c.args.self.now.place) (c.loop-at.at - 1)
+    (c.is_covering.ensures.0 c.if-is_covering.true)

@@ -13,16 +13,16 @@ are_in-requires g c = λ q has.
 pub is_among-requires-clause-on : goal.is_among-requires-clause-on
 is_among-requires-clause-on g c = rw c.requires.boxes ((c.requires.tables.formed.room c.args.self.now.place.player c.requires.are.place.room).0)
 
-pub returns-then-not-are_in-clause-exact : goal.returns-then-not-are_in-clause-exact
-returns-then-not-are_in-clause-exact g c = (
+pub returns-then-not-are_in : goal.returns-then-not-are_in
+returns-then-not-are_in g c = (
   λ h. absurd (false≢true h),
   λ covers.
       let missing = rw c.boxes-kept.ensures at c.if-not-are_in.ensures in
       absurd (not_both _ missing.0 (rw c.requires.there at (covers.boxes missing.0 missing.1)) missing.2),
 )
 
-pub returns-then-is_among-clause-exact : goal.returns-then-is_among-clause-exact
-returns-then-is_among-clause-exact g c = (
+pub returns-then-is_among : goal.returns-then-is_among
+returns-then-is_among g c = (
   λ h. absurd (false≢true h),
   λ covers. absurd (not_both _ c.args.self.now.place.player (rw c.boxes-kept.ensures at c.if-is_among.ensures)
       (region_lacks c.args.tables.now.board.now (position_at c.args.tables.now.board.now c.args.tables.now.groups c.args.group) _ covers.player)),
@@ -40,11 +40,11 @@ is_inside-requires-clause-off g c = none_off _ c.requires.off _
 pub is_inside-requires-clause-outside : goal.is_inside-requires-clause-outside
 is_inside-requires-clause-outside g c = rw c.boxes-kept.ensures at c.if-is_among.ensures
 
-pub returns-clause-exact : goal.returns-clause-exact
-returns-clause-exact g c = (
+pub returns : goal.returns
+returns g c = (
   λ yes. record {
     boxes = λ q h. rw c.requires.there (c.if-not-are_in.ensures q (rw c.boxes-kept.ensures h));
-    player = c.is_inside.ensures.exact.0 yes;
+    player = c.is_inside.ensures.0 yes;
   },
-  λ covers. c.is_inside.ensures.exact.1 covers.player,
+  λ covers. c.is_inside.ensures.1 covers.player,
 )

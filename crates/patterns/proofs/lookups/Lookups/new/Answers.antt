@@ -11,9 +11,9 @@ returns g c =
       place = record {
         extent = c.in_ok-new.ensures.0 ∙ c.shape.ensures.value;
         room = rw c.player.ensures.value c.requires.formed.here;
-        grown = λ some. absurd (omega arith);
-        path = root_hits level c.in_ok-new.field-0.members c.player.result c.new-2.result.items c.player.ensures.value c.new-2.ensures.items;
+        hits = root_hits level c.in_ok-new.field-0.members c.player.result c.new-2.result.items c.player.ensures.value c.new-2.ensures.items;
       };
+      grown = λ some. absurd (omega arith);
       free = c.in_ok-flood.ensures.0 ∙ c.shape-2.ensures.value;
       region = c.in_ok-flood.ensures.1 ∙ c.shape-2.ensures.value;
     }

@@ -1,23 +1,19 @@
 -- The invariant says that each push out of the group is settled, or still to be entered, or left and not settled.
-use Rattle.std.proofs.Common.{refl, ◌∙◌, inl, inr, arith}
+use Rattle.std.proofs.Common.{inl, inr, arith}
 use Rattle.std.proofs.lemmas.List.Elements.{Contains-append_cases, Contains-append_left, Contains-append_right}
 use Rattle.cellset.proofs.Truth.{either}
-use Rattle.patterns.proofs.Asked.{asked_less, settling_on}
+use Rattle.patterns.proofs.Taken.{none_in}
 use Rattle.patterns.proofs.lookups.Lookups.settle.Goals as goal
 
 pub loop-self-init : goal.loop-self-init
 loop-self-init g c =
     let begun = c.in_ok-begin.ensures in
-    let asked = c.ask_hints.ensures in
-    record {
-      settling = asked.settling;
-      asked = asked_less c.args.task.now c.begin.new.self c.ask_hints.new.self asked.buckets asked.search (λ push h. inl (asked.away.only push h))
-          (λ push h. inr (asked.here.only push h)) begun.asked;
-      only = λ push h. let there = rw (asked.left, begun.left) at h in let lt = there.1 in absurd (omega arith);
-      all = λ push out. either (begun.all push out)
-          (λ away. either (asked.away.kept push away) (λ still. inr (inl still)) (λ settled. inr (inr settled)))
-          (λ settled. inr (inr settled));
-    }
+    record { ready = begun.ready; only = λ push h. absurd (none_in push (rw begun.left at h)); all = λ push out. inr (begun.all push out) }
+
+pub settle_here-requires-clause-place : goal.settle_here-requires-clause-place
+settle_here-requires-clause-place g c =
+    let ready = c.in_ok-enter.ensures.ready in
+    record { is = c.requires.task; place = ready.are.place; boxes = ready.boxes }
 
 pub loop-self-preserved : goal.loop-self-preserved
 loop-self-preserved g c =
@@ -25,19 +21,24 @@ loop-self-preserved g c =
     let entered = c.in_ok-enter.ensures in
     let here = c.in_ok-settle_here.ensures.onward in
     let add = rw c.deref.ensures.value at c.in_ok-extend_from_slice.ensures.items in
-    let same = here.left ∙ entered.left in
+    let are = entered.ready.are in
     record {
-      settling = settling_on c.args.task.now c.settle_here.new.self _ refl refl here.settling refl here.settling.are.place refl (λ push h. h) (λ push h. h);
-      asked = here.asked;
-      only = λ push h. either (Contains-append_cases c.loop-self.self.left.items c.settle_here.new.self.unsettled.here.items push (rw (add, same) at h))
+      ready = record {
+        are = record { buckets = are.buckets; place = are.place; grown = are.grown; free = are.free; region = are.region };
+        boxes = entered.ready.boxes;
+        free = entered.ready.free;
+        whole = entered.ready.whole;
+        settling = here.settling;
+      };
+      only = λ push h. either (Contains-append_cases c.loop-self.self.left.items c.settle_here.new.self.here.items push (rw (add, entered.left) at h))
           (inv.only push)
           (λ new. ((here.settling.here push new).0, c.in_ok-settle_here.ensures.rest push new));
       all = λ push out. either (inv.all push out)
-          (λ left. inl (rw (add, same) (Contains-append_left _ c.settle_here.new.self.unsettled.here.items push left)))
+          (λ left. inl (rw (add, entered.left) (Contains-append_left _ c.settle_here.new.self.here.items push left)))
           (λ rest. either rest
           (λ away. either (entered.kept c.if-branch.true push away)
-          (λ still. either (here.away.kept push still) (λ open_still. inr (inl open_still)) (λ settled. inr (inr settled)))
-          (λ came. either (here.here.kept push came) (λ stays. inl (rw (add, same) (Contains-append_right c.loop-self.self.left.items _ push stays))) (λ settled. inr (inr settled))))
+          (λ still. inr (here.away.kept push still))
+          (λ came. either (here.here.kept push came) (λ stays. inl (rw (add, entered.left) (Contains-append_right c.loop-self.self.left.items _ push stays))) (λ settled. inr (inr settled))))
           (λ settled. inr (inr settled)));
     }
 

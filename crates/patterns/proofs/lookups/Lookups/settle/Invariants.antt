@@ -1,13 +1,12 @@
 use Rattle.std.proofs.Common.{◌⊎◌, length}
 use Rattle.std.specs.List.{Contains}
 use Rattle.reach.specs.declared.pushes.Push.{Push}
-use Rattle.patterns.specs.{Lookups.AreAsked, Lookups.IsSettling, Settling.IsPushOut, Settling.IsSettled}
+use Rattle.patterns.specs.{Lookups.IsReady, Settling.IsPushOut, Settling.IsSettled}
 use Rattle.patterns.proofs.lookups.Lookups.settle.Given as goal
 
 abbrev pub invariant-loop-self : goal.invariant-loop-self
 invariant-loop-self g l = record {
-  settling : IsSettling l.task l.self;
-  asked : AreAsked l.task l.self;
+  ready : IsReady l.task l.self;
   only : (push : Push) → Contains l.self.left.items push → IsPushOut l.task push × (IsSettled l.task push → ⊥);
   all : (push : Push) → IsPushOut l.task push → Contains l.self.left.items push ⊎ (Contains l.self.unsettled.away.items push ⊎ IsSettled l.task push);
 }

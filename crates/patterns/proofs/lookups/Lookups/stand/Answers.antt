@@ -1,35 +1,28 @@
-use Rattle.std.proofs.Common.{◌∙◌, ap}
 use Rattle.patterns.proofs.lookups.Lookups.stand.Goals as goal
 
 pub returns-then-rooted-clause-are : goal.returns-then-rooted-clause-are
 returns-then-rooted-clause-are g c =
     let are = c.requires.are in
-    let set = c.set_player.ensures in
     record {
       buckets = are.buckets;
-      place = record {
-        extent = ap (λ r. r.extent) set.boxes ∙ are.place.extent;
-        room = rw set.player c.requires.player;
-        grown = λ some. let tree = are.place.grown some in (tree.0, rw set.capacity tree.1);
-        path = rw (set.walked, set.boxes, set.player, set.hits) (c.requires.rooted c.if-rooted.true);
-      };
+      place = record { extent = are.place.extent; room = c.requires.player; hits = rw c.clear.ensures.items (c.requires.rooted c.if-rooted.true) };
+      grown = λ some. let tree = are.grown some in (tree.0, rw c.clear.ensures.capacity tree.1);
       free = are.free;
       region = are.region;
     }
 
+pub list_hits-requires : goal.list_hits-requires
+list_hits-requires g c =
+    let tree = c.in_ok-grow.ensures.are.grown c.in_ok-grow.ensures.grown in
+    record { tree = tree.0; capacity = tree.1; player = c.requires.player }
+
 pub returns-clause-are : goal.returns-clause-are
 returns-clause-are g c =
     let are = c.in_ok-grow.ensures.are in
-    let some = c.in_ok-grow.ensures.grown in
-    let set = c.set_player-2.ensures in
     record {
       buckets = are.buckets;
-      place = record {
-        extent = ap (λ r. r.extent) set.boxes ∙ are.place.extent;
-        room = rw set.player c.requires.player;
-        grown = λ _. let tree = are.place.grown some in (tree.0, rw set.capacity tree.1);
-        path = rw set.walked some;
-      };
+      place = record { extent = are.place.extent; room = c.requires.player; hits = c.list_hits.ensures.hits };
+      grown = λ some. ((are.grown some).0, c.list_hits.ensures.capacity);
       free = are.free;
       region = are.region;
     }

@@ -1,5 +1,5 @@
 -- The invariant says that the cells so far are on the grid, and that they have the cells ahead of the pushes that the loop has passed.
-use Rattle.std.proofs.Common.{◌≡◌, refl, subst, inl, inr, arith}
+use Rattle.std.proofs.Common.{◌≡◌, subst, inl, inr, arith}
 use Rattle.std.proofs.lemmas.Bool.{cases_lt}
 use Rattle.std.proofs.lemmas.List.Elements.{All-contains_itself, Contains-append_cases, Contains-append_left, Contains-append_right, Contains-push, Contains-push_cases}
 use Rattle.std.proofs.lemmas.List.{get_or_default}
@@ -10,13 +10,7 @@ use Rattle.patterns.proofs.{Grouped.boxes_on, Taken.none_in}
 use Rattle.patterns.proofs.search.Search.begin.Goals as goal
 
 pub loop-push-init : goal.loop-push-init
-loop-push-init g c = record {
-  begun = refl;
-  link = refl;
-  inside = c.clear.ensures.items;
-  on = λ q has. absurd (none_in q (rw c.clear-2.ensures.items at has));
-  ahead = λ i p lt. absurd (omega arith);
-}
+loop-push-init g c = record { on = λ q has. absurd (none_in q (rw c.clear.ensures.items at has)); ahead = λ i p lt. absurd (omega arith) }
 
 pub loop-push-preserved : goal.loop-push-preserved
 loop-push-preserved g c =
@@ -26,9 +20,6 @@ loop-push-preserved g c =
     let xs = c.loop-push.self.cells.items in
     let lt = c.loop-push-test.true in
     record {
-      begun = inv.begun;
-      link = inv.link;
-      inside = inv.inside;
       on = λ q has. either (Contains-push_cases xs _ q (rw c.in_ok-push.ensures.items at has)) (inv.on q)
           (λ same. subst (IsOn c.args.task.now.tables.now.board.now.shape) same (c.requires.pushes _ (All-contains_itself pushes n _ lt)).0.free.on);
       ahead = λ i p below. rw c.in_ok-push.ensures.items (elim (cases_lt i n) [
@@ -42,8 +33,6 @@ returns-clause-search g c = λ buckets.
     let task = c.args.task.now in
     let is = c.requires.task in
     let inv = c.loop-push.invariant in
-    let begun = inv.begun in
-    let link = inv.link in
     record {
       on = λ q has. either (Contains-append_cases c.loop-push.self.cells.items task.boxes.now q (has_listed _ q (rw c.in_ok-extend_from_slice.ensures.items at has)))
           (inv.on q)

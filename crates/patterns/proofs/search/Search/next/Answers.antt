@@ -50,7 +50,6 @@ loop-self-preserved g c =
     let same : n + 1 - 1 ≡ n = omega arith in
     record {
       search = record { on = inv.search.on; begun = omega arith; link = omega arith; key = λ up. (omega arith, rw same (last.has_key up)) };
-      inside = inv.inside;
       cells = inv.cells;
       passed = λ k low p. inv.passed k low (past_bucket shape buckets c.loop-self.self _ refl c.loop-self-test.true refl last k (omega arith) p);
       fewer = fewer_on (length cells) n (length groups.spans.items) c.index-in-loop-self.result.now _ lt (omega arith) (rw c.loop-self-test.true at inv.fewer);

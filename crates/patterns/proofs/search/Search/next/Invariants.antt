@@ -5,7 +5,6 @@ use Rattle.patterns.proofs.search.Search.next.Given as goal
 abbrev pub invariant-loop-self : goal.invariant-loop-self
 invariant-loop-self g l = record {
   search : IsSearch l.task.tables.now.board.now.shape l.task.tables.now.groups l.buckets l.self;
-  inside : l.self.inside ≡ l.fn.self.inside;
   cells : l.self.cells ≡ l.fn.self.cells;
   passed : (k : ℕ) → k < length l.task.tables.now.groups.spans.items → IsPassed l.task.tables.now.board.now.shape l.buckets l.self k →
       IsPassed l.task.tables.now.board.now.shape l.buckets l.fn.self k;

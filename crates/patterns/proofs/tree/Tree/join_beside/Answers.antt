@@ -6,7 +6,6 @@ use Rattle.std.proofs.{Common.set, Common.refl, Common.sym, Common.◌∙◌, Co
 use Rattle.std.specs.Vec.{with_item}
 use Rattle.cellset.{specs.Cell.neighbor, specs.SortedList.index, proofs.Members.remove_absent}
 use Rattle.cell_lists.proofs.Counts.{len-remove_member}
-use Rattle.cell_lists.proofs.Sets.{removed_lacks}
 use Rattle.patterns.specs.{SpanningTree.IsGrowing, declared.tree.Node.Node, declared.tree.Tree.Tree}
 use Rattle.patterns.proofs.{Spanning.laid_more, Lists.length_more}
 use Rattle.patterns.proofs.tree.Tree.join_beside.Goals as goal

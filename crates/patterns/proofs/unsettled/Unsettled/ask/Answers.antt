@@ -1,6 +1,8 @@
 -- If a box of the group isn't there, it covers the result of no push but those that lead to that box's cell (`OpenPushes.antt`).
-use Rattle.std.proofs.Common.{inl, inr}
+use Rattle.std.proofs.Common.{refl, inl, inr}
 use Rattle.cellset.proofs.{Members.not_both, Truth.either}
+use Rattle.reach.specs.declared.pushes.Push.{Push}
+use Rattle.patterns.specs.Settling.{IsPushOut}
 use Rattle.patterns.proofs.OpenPushes.{ahead_none, ahead_settles, covering_off, more_none, open_in}
 use Rattle.patterns.proofs.unsettled.Unsettled.ask.Goals as goal
 
@@ -13,30 +15,27 @@ returns-in-More-clause-found g c =
       λ push has. more_none task is c.args.group c.requires.group push (open_in task is push (c.requires.here push has).0) misses,
     )
 
-pub returns-then-not-is_trapped-clause-away : goal.returns-then-not-is_trapped-clause-away
-returns-then-not-is_trapped-clause-away g c =
+pub returns-then-not-is_trapped-clause-asked : goal.returns-then-not-is_trapped-clause-asked
+returns-then-not-is_trapped-clause-asked g c =
     let task = c.args.task.now in
     let is = c.requires.task in
     let misses = rw (c.boxes-kept.ensures, c.requires.boxes) at c.in-One.ensures in
+    let settles = λ (push : Push) (out : IsPushOut task push). ahead_settles task is c.args.group c.requires.group push (open_in task is push out) c.in-One.number misses c.sides_of.result c.sides_of.ensures in
     record {
-      kept = λ push was. either (c.take_met-then-not-is_trapped.ensures.kept push was) inl
-          (λ met. inr (ahead_settles task is c.args.group c.requires.group push (open_in task is push (c.requires.away push was).0) c.in-One.number misses
-          c.sides_of.result c.sides_of.ensures (rw c.boxes-kept.ensures at met)));
-      only = c.take_met-then-not-is_trapped.ensures.only;
-      fewer = c.take_met-then-not-is_trapped.ensures.fewer;
-    }
-
-pub returns-then-not-is_trapped-clause-here : goal.returns-then-not-is_trapped-clause-here
-returns-then-not-is_trapped-clause-here g c =
-    let task = c.args.task.now in
-    let is = c.requires.task in
-    let misses = rw (c.boxes-kept.ensures, c.requires.boxes) at c.in-One.ensures in
-    record {
-      kept = λ push was. either (c.take_met.ensures.kept push was) inl
-          (λ met. inr (ahead_settles task is c.args.group c.requires.group push (open_in task is push (c.requires.here push was).0) c.in-One.number misses
-          c.sides_of.result c.sides_of.ensures (rw c.boxes-kept.ensures at met)));
-      only = c.take_met.ensures.only;
-      fewer = c.take_met.ensures.fewer;
+      away = record {
+        kept = λ push was. either (c.take_met-then-not-is_trapped.ensures.kept push was) inl
+            (λ met. inr (settles push (c.requires.away push was).0 (rw c.boxes-kept.ensures at met)));
+        only = c.take_met-then-not-is_trapped.ensures.only;
+        fewer = c.take_met-then-not-is_trapped.ensures.fewer;
+      };
+      here = record {
+        kept = λ push was. either (c.take_met.ensures.kept push was) inl
+            (λ met. inr (settles push (c.requires.here push was).0 (rw c.boxes-kept.ensures at met)));
+        only = c.take_met.ensures.only;
+        fewer = c.take_met.ensures.fewer;
+      };
+      search = refl;
+      inside = refl;
     }
 
 pub returns-then-not-is_trapped-clause-found : goal.returns-then-not-is_trapped-clause-found

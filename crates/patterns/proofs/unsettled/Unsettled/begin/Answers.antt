@@ -1,5 +1,5 @@
 -- Each push out of the group moves one of its boxes, in one of the four directions.
-use Rattle.std.proofs.Common.{◌≡◌, ◌⊎◌, sym, ◌∙◌, ap, subst, inl, inr, arith}
+use Rattle.std.proofs.Common.{◌≡◌, ◌⊎◌, sym, ◌∙◌, subst, inl, inr, arith}
 use Rattle.std.specs.List.{Contains}
 use Rattle.std.proofs.lemmas.List.{get_or_default}
 use Rattle.cellset.{specs.CellSet.Has, proofs.Truth.either}
@@ -8,7 +8,7 @@ use Rattle.cell_lists.specs.CellLists.{cell_no, cells_in}
 use Rattle.cell_lists.proofs.CellLists.{no_cell}
 use Rattle.cellset.proofs.CellLists.{has_listed}
 use Rattle.patterns.specs.Settling.{IsPushOut, IsSettled}
-use Rattle.patterns.proofs.{Numbered.one_more, OpenPushes.each_dir}
+use Rattle.patterns.proofs.{Numbered.one_more, OpenPushes.each_dir, Taken.none_in}
 use Rattle.patterns.proofs.unsettled.Unsettled.begin.Goals as goal
 
 pub loop-number-preserved : goal.loop-number-preserved
@@ -23,7 +23,6 @@ loop-number-preserved g c =
     let Opened : Push → Type 0 = λ push. Contains new push ⊎ IsSettled task push in
     record {
       away = c.in_ok-open_toward-4.ensures.away;
-      here = ap (λ v. v.items) (d.here ∙ (r.here ∙ (u.here ∙ l.here))) ∙ inv.here;
       all = one_more (λ i. (push : Push) → IsPushOut task push → push.from ≡ cell_no task.boxes.now i → Opened push) c.loop-number.number
           (λ i lt push out from. either (inv.all i lt push out from) (λ h. inl (d.kept push (r.kept push (u.kept push (l.kept push h))))) inr)
           (λ push out from. each_dir (Opened push) push.dir
@@ -31,6 +30,24 @@ loop-number-preserved g c =
           (λ e. either (c.in_ok-open_toward-2.ensures.all push out from e) (λ h. inl (d.kept push (r.kept push h))) inr)
           (λ e. either (c.in_ok-open_toward-3.ensures.all push out from e) (λ h. inl (d.kept push h)) inr)
           (λ e. c.in_ok-open_toward-4.ensures.all push out from e));
+    }
+
+pub begin-requires-clause-pushes : goal.begin-requires-clause-pushes
+begin-requires-clause-pushes g c = rw c.deref.ensures.value c.loop-number.invariant.away
+
+pub returns-clause-settling : goal.returns-clause-settling
+returns-clause-settling g c = λ buckets.
+    let inv = c.loop-number.invariant in
+    let found = c.in_ok-begin.ensures in
+    record {
+      away = inv.away;
+      here = λ push has. absurd (none_in push (rw c.clear-2.ensures.items at has));
+      search = found.search buckets;
+      boxes_searched = found.boxes;
+      away_searched = λ push has. found.ahead push (rw c.deref.ensures.value has);
+      here_searched = λ push has. absurd (none_in push (rw c.clear-2.ensures.items at has));
+      inside = λ h has. absurd (none_in h (rw c.clear-3.ensures.items at has));
+      asked = λ h lt passed. let low = passed.begun in let none = found.begun in absurd (omega arith);
     }
 
 pub returns-clause-all : goal.returns-clause-all

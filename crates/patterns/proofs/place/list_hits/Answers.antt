@@ -8,17 +8,13 @@ use Rattle.std.proofs.lemmas.Bool.{false≢true}
 use Rattle.std.proofs.lemmas.List.{get_or_default}
 use Rattle.cellset.proofs.Members.{lacks_where}
 use Rattle.cellset.specs.{Cell.neighbor, Cell.opposite, declared.dir.Dir.TheVariants.L}
-use Rattle.patterns.{specs.Hits.HitsDecide, specs.SpanningTree.IsTree, specs.declared.tree.Hit.Hit, specs.declared.tree.Node.Node, proofs.Lists.length_more}
-use Rattle.patterns.proofs.{Hits.hits_on, Hits.hits_to, place.Place.walk_to_root.Goals.After-index-in-loop-at}
-use Rattle.patterns.proofs.place.Place.walk_to_root.Goals as goal
-
--- The tree spans the room, since the path wasn't walked.
-spanning : (g : _) (c : After-index-in-loop-at g) → IsTree c.args.board.now c.args.tree.now
-spanning g c = (c.requires.place.grown (rw c.if-self.false at c.requires.place.path)).0
+use Rattle.patterns.{specs.Hits.HitsDecide, specs.declared.tree.Hit.Hit, specs.declared.tree.Node.Node, proofs.Lists.length_more}
+use Rattle.patterns.proofs.{Hits.hits_on, Hits.hits_to, place.list_hits.Goals.After-index-in-loop-at}
+use Rattle.patterns.proofs.place.list_hits.Goals as goal
 
 -- The parent of the present node has a lower number.
 falls : (g : _) (c : After-index-in-loop-at g) → c.index-node.result.now.parent < c.loop-at.at
-falls g c = rw c.index-node.ensures ((spanning g c).nodes.down c.loop-at.at c.index-node.result.now c.loop-at-test.true c.loop-at.invariant.within)
+falls g c = rw c.index-node.ensures (c.requires.tree.nodes.down c.loop-at.at c.index-node.result.now c.loop-at-test.true c.loop-at.invariant.within)
 
 -- The step of the present node leads to the cell of its parent.
 leads : (g : _) (c : After-index-in-loop-at g) (d : Node) → neighbor (get_or c.args.tree.now.nodes.items c.loop-at.at c.index-node.result.now).cell
@@ -28,7 +24,7 @@ leads g c d =
     let r = c.index-node.result.now in
     let less = falls g c in
     let within = c.loop-at.invariant.within in
-    (spanning g c).nodes.leads c.loop-at.at r c.loop-at-test.true within ∙ ap (λ x. (get_or nodes x.parent r).cell) (sym c.index-node.ensures) ∙
+    c.requires.tree.nodes.leads c.loop-at.at r c.loop-at-test.true within ∙ ap (λ x. (get_or nodes x.parent r).cell) (sym c.index-node.ensures) ∙
     ap (λ x. x.cell) (get_or_default nodes r.parent r d (omega arith))
 
 -- The cell that is compared with the boxes is the parent's.
@@ -42,7 +38,7 @@ parent_cell g c d =
 pub loop-at-preserved : goal.loop-at-preserved
 loop-at-preserved g c =
     let at = (goal.at.loop-at-preserved g c).After-index-in-loop-at in
-    let nodes = (spanning g at).nodes in
+    let nodes = c.requires.tree.nodes in
     let inv = c.loop-at.invariant in
     let r = c.index-node.result.now in
     let less = falls g at in
@@ -50,11 +46,9 @@ loop-at-preserved g c =
     let few = inv.few in
     record {
       within = omega arith;
-      hits = λ d. hits_on c.args.board.now c.shape-shape.ensures.formed c.args.self.now.boxes.members c.args.self.now.player _ _
-          _ (leads g at d) (nodes.room c.loop-at.at r within) (nodes.room r.parent d (omega arith)) c.loop-at.self.hits.items (inv.hits r)
-          (rw (c.loop-at.invariant.boxes, parent_cell g at d) at (lacks_where c.loop-at.self.boxes.members _ (λ h. false≢true (c.if-has.ensures.1 h))));
-      boxes = inv.boxes;
-      player = inv.player;
+      hits = λ d. hits_on c.args.board.now c.shape-shape.ensures.formed c.args.boxes.now.members c.args.player _ _
+          _ (leads g at d) (nodes.room c.loop-at.at r within) (nodes.room r.parent d (omega arith)) c.loop-at.hits.items (inv.hits r)
+          (rw (parent_cell g at d) at (lacks_where c.args.boxes.now.members _ (λ h. false≢true (c.if-has.ensures.1 h))));
       roomy = inv.roomy;
       few = omega arith;
     }
@@ -62,43 +56,33 @@ loop-at-preserved g c =
 pub loop-at-preserved-then-has : goal.loop-at-preserved-then-has
 loop-at-preserved-then-has g c =
     let at = (goal.at.loop-at-preserved-then-has g c).After-index-in-loop-at in
-    let nodes = (spanning g at).nodes in
+    let nodes = c.requires.tree.nodes in
     let inv = c.loop-at.invariant in
     let r = c.index-node.result.now in
     let less = falls g at in
     let within = inv.within in
     let few = inv.few in
     let m : Hit = record { cell = c.index-in-loop-at.result.now.cell; side = c.opposite.result } in
-    let longer = length_more c.loop-at.self.hits.items m in
+    let longer = length_more c.loop-at.hits.items m in
     let room = inv.roomy in
     let capacity = c.push_reserved.ensures.capacity in
     record {
       within = omega arith;
       hits = λ d. rw c.push_reserved.ensures.items (hits_to c.args.board.now c.shape-shape.ensures.formed
-          c.args.self.now.boxes.members c.args.self.now.player _ _ _ (leads g at d) (nodes.room c.loop-at.at r within)
-          (nodes.room r.parent d (omega arith)) c.loop-at.self.hits.items (inv.hits r) m (parent_cell g at d)
+          c.args.boxes.now.members c.args.player _ _ _ (leads g at d) (nodes.room c.loop-at.at r within)
+          (nodes.room r.parent d (omega arith)) c.loop-at.hits.items (inv.hits r) m (parent_cell g at d)
           (c.opposite.ensures ∙ ap (λ x. opposite x.dir) c.index-node.ensures));
-      boxes = inv.boxes;
-      player = inv.player;
       roomy = omega arith;
       few = rw c.push_reserved.ensures.items (omega arith);
     }
 
-pub returns-clause-place : goal.returns-clause-place
-returns-clause-place g c =
-    let tree = (c.requires.place.grown (rw c.if-self.false at c.requires.place.path)).0 in
-    record {
-      extent = rw c.loop-at.invariant.boxes c.requires.place.extent;
-      room = rw c.loop-at.invariant.player c.requires.place.room;
-      grown = λ some. (tree, c.loop-at.invariant.roomy);
-      path = rw (c.loop-at.invariant.boxes, c.loop-at.invariant.player) (λ pattern within lacks.
-          let test = c.loop-at-test.false in
-          let zero : c.loop-at.at ≡ 0 = omega arith in
-          let d : Node = record { cell = c.args.self.now.player; dir = L; parent = 0 } in
-          let end = ap (λ k. (get_or c.args.tree.now.nodes.items k d).cell) zero ∙ tree.nodes.begin d in
-          subst (λ q. HitsDecide c.args.board.now c.args.self.now.player q c.loop-at.self.hits.items pattern) end
-          (c.loop-at.invariant.hits d pattern within lacks));
-    }
+pub returns-clause-hits : goal.returns-clause-hits
+returns-clause-hits g c = λ pattern within lacks.
+    let test = c.loop-at-test.false in
+    let zero : c.loop-at.at ≡ 0 = omega arith in
+    let d : Node = record { cell = c.args.player; dir = L; parent = 0 } in
+    let end = ap (λ k. (get_or c.args.tree.now.nodes.items k d).cell) zero ∙ c.requires.tree.nodes.begin d in
+    subst (λ q. HitsDecide c.args.board.now c.args.player q c.loop-at.hits.items pattern) end (c.loop-at.invariant.hits d pattern within lacks)
 
 pub loop-at-init : goal.loop-at-init
 loop-at-init g c = grind (arith, get_or_default)

@@ -1,5 +1,5 @@
-use Rattle.patterns.specs.Lookups.{HasAsked}
-use Rattle.patterns.proofs.lookups.Lookups.ask_hints.Given as goal
+use Rattle.patterns.specs.Settling.{HasAsked}
+use Rattle.patterns.proofs.unsettled.Unsettled.ask_hints.Given as goal
 
 abbrev pub invariant-loop-at : goal.invariant-loop-at
 invariant-loop-at g l = record { asked : HasAsked l.task l.fn.self l.self }
