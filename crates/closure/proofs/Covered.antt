@@ -4,13 +4,13 @@
 -- has a box off the goals, so none of these is solved.
 use Rattle.std.proofs.Common.{List, [], ◌∷◌, sym, subst, inl, inr, refl}
 use Rattle.cellset.specs.{Cell.neighbor, declared.dir.Dir.Dir}
-use Rattle.cellset.proofs.Members.{has_or_lacks, not_both}
+use Rattle.cellset.proofs.Members.{not_both}
 use Rattle.reach.specs.{Region.beside, Pushes.push_by}
 use Rattle.board.specs.Game.{Level, State, start, Steps, Walks, Pushes, Plays, IsSolved, Solvable}
 use Rattle.board.specs.Board.{IsWellFormed}
-use Rattle.patterns.specs.Pattern.{Pattern, IsCovered, PushesOut}
+use Rattle.patterns.specs.Pattern.{Pattern, IsCovered}
 use Rattle.closure.specs.Closed.{Closed}
-use Rattle.patterns.proofs.Moves.{AreOnFloor, lacks_within, moved_beside, moved_on_floor, moved_within}
+use Rattle.patterns.proofs.{Moves.AreOnFloor, Moves.lacks_within, Moves.moved_on_floor, Settled.subsumed_push}
 
 module _ (level : Level) (patterns : List Pattern) (closed : Closed level patterns) where
   walk_covered : (s : State) (d : Dir) (t : State) → IsCovered level patterns s → Walks level s d t → IsCovered level patterns t
@@ -30,32 +30,15 @@ module _ (level : Level) (patterns : List Pattern) (closed : Closed level patter
 
   push_covered : (s : State) (d : Dir) (t : State) → AreOnFloor level s.boxes → IsCovered level patterns s → Pushes level s d t → IsCovered level patterns t
   push_covered s d t on_floor (pattern, listed, covers) (box, floor, free, is) =
-      let ahead = neighbor s.player d in
-      let beyond = neighbor ahead d in
-      let still_free = lacks_within pattern.boxes s.boxes beyond covers.boxes free in
-      subst (IsCovered level patterns) (sym is) (has_or_lacks pattern.boxes ahead
-      (λ has.
-      let out : PushesOut level pattern (push_by s.player d) = record {
-        standing = covers.player;
+      subst (IsCovered level patterns) (sym is) (subsumed_push level s.boxes (push_by s.player d)
+      (record {
         next_cell = refl;
-        box = has;
+        floor = on_floor (neighbor s.player d) box;
+        box = box;
         cell_behind = refl;
-        free = record { on = floor.0; no_wall = floor.1; no_bar = still_free };
-      } in
-      let pushed = closed.pushes pattern listed (push_by s.player d) out in (
-        pushed.0,
-        pushed.1,
-        record { boxes = λ c h. moved_within pattern.boxes s.boxes ahead beyond covers.boxes c (pushed.2.boxes c h); player = pushed.2.player },
-      ))
-      (λ lacks.
-      let stands = on_floor ahead box in (
-        pattern,
-        listed,
-        record {
-          boxes = moved_beside pattern.boxes s.boxes ahead beyond lacks covers.boxes;
-          player = beside d covers.player (record { on = stands.0; no_wall = stands.1; no_bar = lacks });
-        },
-      )))
+        free = record { on = floor.0; no_wall = floor.1; no_bar = free };
+      })
+      patterns pattern (λ u held. (pattern, listed, held)) (closed.pushes pattern listed) covers)
 
   step_on_floor : (s : State) (d : Dir) (t : State) → AreOnFloor level s.boxes → Steps level s d t → AreOnFloor level t.boxes
   step_on_floor s d t on_floor (inl walk) = subst (λ u. AreOnFloor level u.boxes) (sym walk.2) on_floor

@@ -26,58 +26,28 @@ pub(crate) fn check_closed<S: CellSet>(
     ensures ok { OnOk result (Closed board.now (list_in arena)) }
     ensures exact { IfErr result (λ fault. fault ≢ CheckFault.Memory → IsFirstPatternFault board.now (lines_in arena) fault) }
 {
-    let Ok(mut trap) = Rows::new(alloc, board.shape()) else {
-        drop(arena);
-        return Err(CheckFault::Memory);
-    };
-    let Ok(are_trapped) = find_trap(alloc, board, &arena, &mut trap) else {
-        drop(arena);
-        drop(trap);
-        return Err(CheckFault::Memory);
-    };
+    let mut trap = Rows::new(alloc, board.shape())?;
+    let are_trapped = find_trap(alloc, board, &arena, &mut trap)?;
     if are_trapped && trap.meets(board.boxes()) {
-        drop(arena);
-        drop(trap);
         return Ok(());
     }
     let tables = Tables::build(alloc, board, arena, trap)?;
-    check_tables(alloc, tables)
-}
-
-// Checks a list by its tables.
-fn check_tables<S: CellSet>(alloc: Global, tables: Tables<S>) -> Result<(), CheckFault>
-    requires tables { AreTables tables }
-    ensures ok { OnOk result (Closed tables.entry.board.now (list_of tables.entry.groups)) }
-    ensures exact { IfErr result (λ fault. fault ≢ CheckFault.Memory
-        → IsFirstPatternFault tables.entry.board.now (lines_in tables.entry.groups.arena) fault) }
-{
-    let Ok(mut covered) = vec![in alloc; false; tables.groups.spans.len()] else {
-        drop(tables);
-        return Err(CheckFault::Memory);
-    };
-    let checked = check_start(alloc, &tables, &mut covered);
-    drop(covered);
-    drop(tables);
-    checked
+    check_tables(alloc, &tables)
 }
 
 // Checks that the list covers the start, and then what pushes lead to. Most lists need no lookup, since the trap and hints settle all pushes.
-fn check_start<S: CellSet>(
-    alloc: Global,
-    tables: &Tables<S>,
-    covered: &mut Vec<bool>,
-) -> Result<(), CheckFault>
-    requires tables { AreTables tables.now }
-    requires covered { AreNoted tables.now.board.now tables.now.groups covered.old.items }
+fn check_tables<S: CellSet>(alloc: Global, tables: &Tables<S>) -> Result<(), CheckFault>
+    requires { AreTables tables.now }
     ensures ok { OnOk result (Closed tables.now.board.now (list_of tables.now.groups)) }
     ensures exact { IfErr result (λ fault. fault ≢ CheckFault.Memory
         → IsFirstPatternFault tables.now.board.now (lines_in tables.now.groups.arena) fault) }
 {
+    let mut covered = vec![in alloc; false; tables.groups.spans.len()]?;
     if !is_start_covered(tables) {
         return Err(CheckFault::Start);
     }
-    note_hinted(tables, covered);
-    if are_all(covered) {
+    note_hinted(tables, &mut covered);
+    if are_all(&covered) {
         return Ok(());
     }
     let tried = vec![in alloc; false; tables.groups.spans.len()]?;
@@ -89,9 +59,7 @@ fn check_start<S: CellSet>(
         pause: 0,
         wait: 0,
     };
-    let checked = checker.check_pushes(alloc, tables, covered);
-    drop(checker);
-    checked
+    checker.check_pushes(alloc, tables, &mut covered)
 }
 
 // Returns whether the list covers the start.
@@ -200,7 +168,7 @@ impl Checker {
             self.wait -= 1;
             return Ok(());
         }
-        let inside = &self.lookups.search.inside;
+        let inside = &self.lookups.unsettled.inside;
         let Some(head) = find_head(tables, inside, covered, &self.tried) else {
             return Ok(());
         };

@@ -32,7 +32,6 @@ mod index;
 mod lawful;
 mod laws;
 mod pattern_list;
-mod region;
 mod scan;
 mod zone;
 

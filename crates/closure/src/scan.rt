@@ -7,12 +7,11 @@ ghost use Rattle.patterns.specs.{Arena.list_in, Arena.pattern_in, Pattern.patter
 ghost use Rattle.closure.specs.Scan.{AreEntries, EntriesCover, IsEntryOf};
 
 use crate::coverage::Coverage;
-use crate::region::Finder;
 use answers::Pattern;
 use board::Board;
 use cell_lists::{are_in, is_among};
 use cellset::{Cell, CellSet, Shape};
-use patterns::{Arena, CellPattern};
+use patterns::{Arena, CellPattern, Flood};
 use std::alloc::{AllocError, Global};
 use std::marker::Model;
 
@@ -89,32 +88,27 @@ fn is_any_covering<S: CellSet>(entries: &[Entry<S>], room: &S, player: Cell, box
     false
 }
 
-// Returns the entry of a pattern. `set` is a buffer.
+// Returns the entry of a pattern. `flood` is a buffer.
 fn enter<S: CellSet>(
     alloc: Global,
     board: &Board<S>,
     pattern: CellPattern,
-    finder: &mut Finder<S>,
-    set: &mut S,
+    flood: &mut Flood,
 ) -> Result<Entry<S>, AllocError>
     requires lawful { IsLawful board.now (pattern_in pattern) }
-    requires flooder { finder.old.flooder ≡ board.now.shape }
-    requires seeds { S.extent finder.old.seeds ≡ board.now.shape }
-    requires set { S.extent set.old ≡ board.now.shape }
-    ensures flooder { finder.new.flooder ≡ board.now.shape }
-    ensures seeds { S.extent finder.new.seeds ≡ board.now.shape }
-    ensures set { S.extent set.new ≡ board.now.shape }
+    requires free { flood.old.free.extent ≡ board.now.shape }
+    requires region { flood.old.region.extent ≡ board.now.shape }
+    ensures free { flood.new.free.extent ≡ board.now.shape }
+    ensures region { flood.new.region.extent ≡ board.now.shape }
     ensures ok { IfOk result (IsEntryOf board.now (pattern_in pattern.entry)) }
 {
     let shape = board.shape();
     let boxes = pattern.boxes.to_vec(alloc)?;
-    let region = match pattern.seeds {
-        None => None,
-        Some(_) => {
-            let mut region = S::new(alloc, shape)?;
-            finder.find(board, pattern, set, &mut region);
-            Some(region)
-        }
+    flood.take_out(board.room_rows(), pattern.boxes);
+    let region = if flood.find_line(pattern) {
+        None
+    } else {
+        Some(flood.found(false).to_set(alloc)?)
     };
     Ok(Entry {
         shape,
@@ -123,29 +117,8 @@ fn enter<S: CellSet>(
     })
 }
 
-// Returns the entry of each line. `set` is a buffer.
+// Returns the entry of each line.
 fn enter_each<S: CellSet>(
-    alloc: Global,
-    board: &Board<S>,
-    arena: &Arena,
-    finder: &mut Finder<S>,
-    set: &mut S,
-) -> Result<Vec<Entry<S>>, AllocError>
-    requires lawful { AreLawful board.now (list_in arena.now) }
-    requires flooder { finder.old.flooder ≡ board.now.shape }
-    requires seeds { S.extent finder.old.seeds ≡ board.now.shape }
-    requires set { S.extent set.old ≡ board.now.shape }
-    ensures { IfOk result (λ v. AreEntries board.now (list_in arena.now) (length arena.now.lines.items) v.items) }
-{
-    let mut entries = Vec::with_capacity(alloc, arena.lines.len())?;
-    for line in 0..arena.lines.len() {
-        entries.push_reserved(enter(alloc, board, arena.pattern(line), finder, set)?);
-    }
-    Ok(entries)
-}
-
-// Returns the entry of each line, found in buffers of its own.
-fn enter_all<S: CellSet>(
     alloc: Global,
     board: &Board<S>,
     arena: &Arena,
@@ -153,12 +126,12 @@ fn enter_all<S: CellSet>(
     requires { AreLawful board.now (list_in arena.now) }
     ensures { IfOk result (λ v. AreEntries board.now (list_in arena.now) (length arena.now.lines.items) v.items) }
 {
-    let shape = board.shape();
-    let mut set = S::new(alloc, shape)?;
-    let mut finder = Finder::new(alloc, shape)?;
-    let entries = enter_each(alloc, board, arena, &mut finder, &mut set);
-    drop(finder);
-    entries
+    let mut flood = Flood::new(alloc, board.shape())?;
+    let mut entries = Vec::with_capacity(alloc, arena.lines.len())?;
+    for line in 0..arena.lines.len() {
+        entries.push_reserved(enter(alloc, board, arena.pattern(line), &mut flood)?);
+    }
+    Ok(entries)
 }
 
 impl<S: CellSet> Scan<S> {
@@ -176,7 +149,7 @@ impl<S: CellSet> Scan<S> {
             ↔ IsCovered board.now (patterns_of (map said_pattern patterns.now)) s) }
     {
         let arena = Arena::with_lines(alloc, board.shape(), patterns)?;
-        let entries = enter_all(alloc, board, &arena)?;
+        let entries = enter_each(alloc, board, &arena)?;
         let mut room = S::new(alloc, board.shape())?;
         room.copy_from(board.room());
         Ok(Scan { room, entries })

@@ -18,7 +18,6 @@ use board::Board;
 use cell_lists::{is_same, number_of};
 use cellset::{Cell, CellSet, Dir};
 use reach::Push;
-use std::alloc::{AllocError, Global};
 
 // A box of a group, by its number, the hash of the other boxes, and on which sides of it the region lies.
 #[derive(Clone, Copy)]

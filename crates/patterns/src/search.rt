@@ -1,7 +1,7 @@
 //! The search of the buckets for groups whose boxes may be there before or after a push.
-ghost use Rattle.std.specs.Prelude.{◌≡◌, ◌⊎◌, ◌<◌, ℕ, OnOk, Option, Some, MatchOption, IfSome, length, slice_index};
+ghost use Rattle.std.specs.Prelude.{◌≡◌, ◌⊎◌, ◌<◌, ℕ, OnOk, Option, Some, MatchOption, IfSome, length};
 ghost use Rattle.std.specs.List.{Contains};
-ghost use Rattle.cellset.specs.{CellSet.Has, SortedList.index, declared.cell.Cell.Cell as GridCell};
+ghost use Rattle.cellset.specs.{CellSet.Has, declared.cell.Cell.Cell as GridCell};
 ghost use Rattle.reach.specs.declared.pushes.Push.{Push as OutPush};
 ghost use Rattle.cell_lists.specs.CellLists.{cells_in};
 ghost use Rattle.patterns.specs.{Buckets.AreBuckets, Search.IsPassed, Search.IsSearch, Search.IsSearched, Search.searches_left, Settling.AreOpen, Settling.IsTask};

@@ -4,7 +4,7 @@
 //! further. This is for what `make` writes of dead squares: without it those lists take 4 to 9 times as long.
 ghost use Rattle.std.specs.Prelude.{◌≡◌, IsTrue, IfOk, MatchBool, OnOk};
 ghost use Rattle.std.specs.FinSet as finset;
-ghost use Rattle.cellset.specs.{CellSet.Has, CellSet.Lacks, declared.cell.Cell.Cell as GridCell};
+ghost use Rattle.cellset.specs.{CellSet.Has, declared.cell.Cell.Cell as GridCell};
 ghost use Rattle.cell_lists.specs.CellLists.{cells_in};
 ghost use Rattle.patterns.specs.{Pattern.AreLawful, Arena.AreOnGrid, Arena.list_in};
 ghost use Rattle.patterns.specs.Trap.{AreOff, AreSinglesIn, AreTrapped, IsTrapOf};

@@ -3,9 +3,8 @@
 //! A group settles a push if at most one of its boxes isn't there: none, and its region has the player, and it lacks the pushed box; or just
 //! the one on the cell ahead, and its region lies on the side of it from which the box comes. If the group covers the player and is noted as
 //! covered itself, it settles all pushes from the piece.
-ghost use Rattle.std.specs.Prelude.{◌≡◌, ◌⊎◌, ◌↔◌, ◌<◌, ◌≤◌, [], IsTrue, MatchBool, OnOk, Option, length};
+ghost use Rattle.std.specs.Prelude.{◌≡◌, ◌⊎◌, ◌↔◌, ◌<◌, ◌≤◌, IsTrue, MatchBool, OnOk, Option, length};
 ghost use Rattle.std.specs.List.{Contains};
-ghost use Rattle.cellset.specs.{CellSet.Has, CellSet.Lacks, declared.cell.Cell.Cell as GridCell};
 ghost use Rattle.reach.specs.declared.pushes.Push.{Push as OutPush};
 ghost use Rattle.cell_lists.specs.CellLists.{cell_no, cells_in};
 ghost use Rattle.patterns.specs.{Place.IsSubset, Piece.AreInPiece, Piece.InPiece, Piece.IsFreeOf};

@@ -1,10 +1,35 @@
-use Rattle.std.proofs.{Common.◌∙◌, Common.ap, Common.length, lemmas.Bool.false≢true, lemmas.List.get_or-replicate, lemmas.List.length-replicate}
+use Rattle.std.proofs.{Common.refl, Common.◌∙◌, Common.ap, Common.length, lemmas.Bool.false≢true, lemmas.List.get_or-replicate, lemmas.List.length-replicate, lemmas.Option.none-some}
+use Rattle.patterns.proofs.GroupPushes.{covers_all}
 use Rattle.closure.proofs.checking.check_tables.Goals as goal
 
-pub check_start-checked-requires-clause-covered : goal.check_start-checked-requires-clause-covered
-check_start-checked-requires-clause-covered g c =
-    let all = c.in-Ok.ensures.items_if_clones_equal (λ _ e. e) in
+pub note_hinted-requires-clause-covered : goal.note_hinted-requires-clause-covered
+note_hinted-requires-clause-covered g c =
+    let all = c.in_ok-covered.ensures.items_if_clones_equal (λ _ e. e) in
     record {
-      long = ap (λ l. length l) all ∙ length-replicate _ _ ∙ c.len.ensures ∙ c.args.tables.groups.spans.ok.0;
+      long = ap (λ l. length l) all ∙ length-replicate _ _ ∙ c.len.ensures ∙ c.args.tables.now.groups.spans.ok.0;
       covers = λ h lt yes. let low = rw (all, length-replicate) at lt in absurd (false≢true (rw (all, get_or-replicate) at yes));
     }
+
+pub returns-then-not-is_start_covered-clause-exact : goal.returns-then-not-is_start_covered-clause-exact
+returns-then-not-is_start_covered-clause-exact g c = λ _. (c.requires.lawful, λ covered. false≢true (c.if-not-is_start_covered.ensures.1 covered))
+
+pub returns-then-are_all-clause-ok : goal.returns-then-are_all-clause-ok
+returns-then-are_all-clause-ok g c = record {
+  lawful = c.requires.lawful;
+  start = c.if-not-is_start_covered.ensures.0 refl;
+  pushes = covers_all c.args.tables.now.board.now c.args.tables.now.groups c.note_hinted.new.covered.items c.note_hinted.ensures c.requires.grouped
+      (rw c.deref.ensures.value at (c.if-are_all.ensures refl));
+}
+
+pub check_pushes-requires : goal.check_pushes-requires
+check_pushes-requires g c = record {
+  tables = c.requires;
+  start = c.if-not-is_start_covered.ensures.0 refl;
+  covered = c.note_hinted.ensures;
+  checker = record {
+    are = c.in_ok-lookups.ensures;
+    free = λ h is. absurd (none-some h is);
+    rest = λ h is. absurd (none-some h is);
+    tried = ap (λ l. length l) (c.in_ok-tried.ensures.items_if_clones_equal (λ _ e. e)) ∙ length-replicate _ _ ∙ c.len-2.ensures ∙ c.args.tables.now.groups.spans.ok.0;
+  };
+}

@@ -5,10 +5,9 @@ use Rattle.closure.proofs.scan.enter_each.Goals as goal
 
 pub enter-requires : goal.enter-requires
 enter-requires g c = record {
-  lawful = rw c.pattern.ensures.pattern (c.requires.lawful _ (listed_at c.args.arena.now c.loop-line.line (omega arith)));
-  flooder = c.loop-line.invariant.flooder;
-  seeds = c.loop-line.invariant.seeds;
-  set = c.loop-line.invariant.set;
+  lawful = rw c.pattern.ensures.pattern (c.requires _ (listed_at c.args.arena.now c.loop-line.line (omega arith)));
+  free = c.loop-line.invariant.free;
+  region = c.loop-line.invariant.region;
 }
 
 pub push_reserved-requires : goal.push_reserved-requires
@@ -18,9 +17,8 @@ pub loop-line-preserved : goal.loop-line-preserved
 loop-line-preserved g c =
     let old = c.loop-line.invariant in
     record {
-      flooder = c.in_ok-enter.ensures.flooder;
-      seeds = c.in_ok-enter.ensures.seeds;
-      set = c.in_ok-enter.ensures.set;
+      free = c.in_ok-enter.ensures.free;
+      region = c.in_ok-enter.ensures.region;
       roomy = rw c.push_reserved.ensures.capacity old.roomy;
       entries = entries_more c.args.board.now (list_in c.args.arena.now) c.loop-line.line c.loop-line.entries.items _ c.in_ok-enter.field-0 old.entries
           c.push_reserved.ensures.items (rw c.pattern.ensures.pattern at c.in_ok-enter.ensures.ok);

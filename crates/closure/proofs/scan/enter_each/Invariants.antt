@@ -5,9 +5,8 @@ use Rattle.closure.proofs.scan.enter_each.Given as goal
 
 abbrev pub invariant-loop-line : goal.invariant-loop-line
 invariant-loop-line g l = record {
-  flooder : l.finder.flooder ≡ l.board.shape;
-  seeds : g.S.CellSet.extent l.finder.seeds ≡ l.board.shape;
-  set : g.S.CellSet.extent l.set ≡ l.board.shape;
+  free : l.flood.free.extent ≡ l.board.shape;
+  region : l.flood.region.extent ≡ l.board.shape;
   roomy : length l.arena.lines.items ≤ vec_capacity l.entries;
   entries : AreEntries l.board (list_in l.arena) l.line l.entries.items;
 }

@@ -6,8 +6,8 @@ use Rattle.closure.proofs.scan.Scan.build.Goals as goal
 pub with_lines-requires : goal.with_lines-requires
 with_lines-requires g c = λ pattern listed q named. rw c.shape.ensures.value ((c.requires pattern listed).board q named)
 
-pub enter_all-requires : goal.enter_all-requires
-enter_all-requires g c = rw c.in_ok-arena.ensures c.requires
+pub enter_each-requires : goal.enter_each-requires
+enter_each-requires g c = rw c.in_ok-arena.ensures c.requires
 
 pub invariant_of-result : goal.invariant_of-result
 invariant_of-result g c =
