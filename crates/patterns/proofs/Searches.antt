@@ -14,56 +14,25 @@ module _ (shape : Extent) (buckets : Buckets) (old new : Search) (cells_is : new
   pub past_bucket : old.link ≡ 0 → new.begun ≡ old.begun + 1
       → IsLast buckets.keys.items (index shape (cell_no old.cells.items old.begun)) (length buckets.keys.items) new.link → (g : ℕ)
       → g < length buckets.keys.items → IsPassed shape buckets new g → IsPassed shape buckets old g
-  past_bucket none begun_is last g lt p =
-      let low = p.begun in
-      elim (cases_lt p.at old.begun) [
-        | inl before ↦ record { at = p.at; begun = before; key = rw cells_is at p.key; past = inr (omega arith) }
-        | inr from ↦
-            let here : p.at ≡ old.begun = omega arith in
-            either p.past (λ over. absurd (omega arith)) (λ up. absurd (last.others g up lt (rw (cells_is, here) at p.key)))
-      ]
+  past_bucket none begun_is last g lt p = grind (arith, cases_lt, either)
 
   pub past_group : 0 < old.link → new.begun ≡ old.begun
       → IsLast buckets.keys.items (index shape (cell_no old.cells.items (old.begun - 1))) (old.link - 1) new.link → (g : ℕ)
       → IsPassed shape buckets new g → IsPassed shape buckets old g ⊎ (g ≡ old.link - 1)
-  past_group some begun_is last g p =
-      let low = p.begun in
-      elim (cases_lt (p.at + 1) old.begun) [
-        | inl before ↦ inl (record { at = p.at; begun = omega arith; key = rw cells_is at p.key; past = inl before })
-        | inr from ↦
-            let here : p.at ≡ old.begun - 1 = omega arith in
-            let key = rw cells_is at p.key in
-            either p.past (λ over. absurd (omega arith)) (λ up. elim (cases_lt g (old.link - 1)) [
-              | inl below ↦ absurd (last.others g up below (rw here at key))
-              | inr above ↦ elim (cases_lt (old.link - 1) g) [
-                | inl more ↦ inl (record { at = p.at; begun = omega arith; key = key; past = inr (omega arith) })
-                | inr until ↦ inr (omega arith)
-              ]
-            ])
-      ]
+  past_group some begun_is last g p = grind (arith, cases_lt, either)
 
 -- At the end the search has come past each group in the buckets of its cells.
 pub past_all : (shape : Extent) (buckets : Buckets) (s : Search) → s.link ≡ 0 → s.begun ≡ length s.cells.items → (g : ℕ) (c : Cell)
     → Has (cells_in s.cells.items) c → slice_index buckets.keys.items g ≡ index shape c → IsPassed shape buckets s g
-past_all shape buckets s none all g c has key =
-    let there = has_listed s.cells.items c has in
-    let low = there.1 in
-    record {
-      at = there.0;
-      begun = omega arith;
-      key = rw (get_or_default s.cells.items there.0 no_cell c low, there.2) key;
-      past = inr (omega arith);
-    }
+past_all shape buckets s none all g c has key = grind (arith, has_listed, get_or_default, no_cell)
 
 -- Another bucket has at most all groups, so fewer groups are left.
 pub fewer_left : (cells begun groups link : ℕ) → begun < cells → link ≤ groups → (cells - (begun + 1)) * (groups + 1) + link ≤ (cells - begun) * (groups + 1)
-fewer_left cells begun groups link low few =
-    let one : cells - begun ≡ (cells - (begun + 1)) + 1 = omega arith in
-    rw one (grind arith)
+fewer_left cells begun groups link low few = grind arith
 
 pub fewer_on : (cells begun groups link bound : ℕ) → begun < cells → link ≤ groups → (cells - begun) * (groups + 1) + 0 ≤ bound
     → (cells - (begun + 1)) * (groups + 1) + link ≤ bound
-fewer_on cells begun groups link bound low few was = let step = fewer_left cells begun groups link low few in omega arith
+fewer_on cells begun groups link bound low few was = grind (arith, fewer_left)
 
 -- The cell whose bucket comes next is on the grid.
 pub next_on : (shape : Extent) (groups : Groups) (buckets : Buckets) (s : Search) → IsSearch shape groups buckets s → s.begun < length s.cells.items → (d : Cell)

@@ -34,11 +34,7 @@ pub record IsPushIn (level : Level) (boxes : Cells) (push : Push) : Type 0 where
 -- A push out of a pattern is one of its boxes.
 pub push_in : (level : Level) (own : Pattern) → ((c : Cell) → Has own.boxes c → IsFloor level c) → ((c : Cell) → InPatternRegion level own c → Has level.room c)
     → (push : Push) → PushesOut level own push → IsPushIn level own.boxes push
-push_in level own floor room push out = record {
-  room = room push.player out.standing;
-  outside = region_lacks level own push.player out.standing;
-  move = record { next_cell = out.next_cell; floor = floor push.from out.box; box = out.box; cell_behind = out.cell_behind; free = out.free };
-}
+push_in level own floor room push out = search (region_lacks)
 
 -- A cell of a region is free.
 pub region_free : (level : Level) (pattern : Pattern) (c : Cell) → InPatternRegion level pattern c → IsFree level.shape level.walls pattern.boxes c
@@ -64,11 +60,7 @@ module _ (level : Level) (formed : IsWellFormed level) (boxes : Cells) (free : C
   module _ (player : Cell) (outside : Lacks boxes player) (Part : Cell → Type 0) (piece : (c : Cell) → Part c → Joined (Has free.members) (λ seed. seed ≡ player) c) where
     -- Pushes by players in a piece.
     pub all_in_piece : (pushes : List Push) → ((push : Push) → Contains pushes push → Part push.player) → AreInPiece level boxes player pushes
-    all_in_piece pushes part = record {
-      outside = outside;
-      onward = λ push has. alike player push.player (piece push.player (part push has));
-      back = λ push has. alike_back player push.player (piece push.player (part push has));
-    }
+    all_in_piece pushes part = search (alike, alike_back)
 
     -- If a piece has the player and the root, the player's path meets no box that matters.
     pub rooted_hits : Part level.player → AreHits level boxes player level.player []
@@ -84,13 +76,7 @@ module _ (level : Level) (formed : IsWellFormed level) (boxes : Cells) (free : C
 
 -- A player on the root has a path without hits.
 pub root_hits : (level : Level) (boxes : Cells) (player : Cell) (hits : List Hit) → player ≡ level.player → hits ≡ [] → AreHits level boxes player level.player hits
-root_hits level boxes player hits at none pattern within lacks =
-    let short = ap (λ l. length l) none in
-    record {
-      free = λ _. rw at at lacks;
-      passed = λ _. rw at (λ h. h, λ h. h);
-      first = λ i m lt. absurd (omega arith);
-    }
+root_hits level boxes player hits at none pattern within lacks = grind arith
 
 module _ (level : Level) (boxes : Cells) (push : Push) (is : IsMove level boxes push) where
   -- ---- the player before the push
@@ -143,22 +129,12 @@ module _ (level : Level) (boxes : Cells) (push : Push) (is : IsMove level boxes 
 
   -- ---- a box on the cell ahead
   pub steps_back : IsStepBack push
-  steps_back = ap (λ c. neighbor c (opposite push.dir)) is.cell_behind ∙ neighbor_back push.from push.dir is.floor.0.top is.floor.0.left
+  steps_back = grind (arith, neighbor_back)
 
   pub ahead_decides : (pattern : Pattern) → ((c : Cell) → Has pattern.boxes c → Has boxes c ⊎ (c ≡ push.to)) → Lacks pattern.boxes push.from
       → Covers level pattern (state_after boxes push) ↔ InPatternRegion level pattern (neighbor push.to (opposite push.dir))
-  ahead_decides pattern within lacks = (
-    λ covers. rw steps_back covers.player,
-    λ inside. record {
-      boxes = λ c has. either (within c has)
-          (λ box. kept_by_insert (set.remove boxes push.from) push.to c
-          (kept_by_remove boxes push.from c (λ e. not_both pattern.boxes push.from (rw e at has) lacks) box))
-          (λ same. rw same (inserted (set.remove boxes push.from) push.to));
-      player = rw steps_back at inside;
-    },
-  )
+  ahead_decides pattern within lacks = grind (arith, steps_back, either, kept_by_insert, kept_by_remove, not_both, inserted)
 
   -- A pattern that covers the result has no box but those that are there and the cell ahead.
   pub after_within : (pattern : Pattern) → Covers level pattern (state_after boxes push) → (c : Cell) → Has pattern.boxes c → Has boxes c ⊎ (c ≡ push.to)
-  after_within pattern covers c has = either (has_insert (set.remove boxes push.from) push.to c (covers.boxes c has)) inr
-      (λ rest. inl (has_remove boxes push.from c rest).1)
+  after_within pattern covers c has = grind (arith, either, has_insert, has_remove)
