@@ -8,10 +8,7 @@ use Rattle.closure.proofs.checking.is_start_covered.Goals.{After-boxes-boxes}
 use Rattle.closure.proofs.checking.is_start_covered.Goals as goal
 
 within : (g : _) (c : After-boxes-boxes g) → c.loop-group.group < length c.args.tables.now.groups.spans.items
-within g c =
-    let test = c.loop-group-test.true in
-    let count = c.len-group-end.ensures in
-    omega arith
+within g c = grind arith
 
 pub returns-then-meets : goal.returns-then-meets
 returns-then-meets g c = (
@@ -28,24 +25,13 @@ are_in-requires g c = λ q has.
     c.loop-group.group (within g (goal.at.are_in-requires g c).After-boxes-boxes) c.boxes-boxes.result.now c.boxes-boxes.ensures q has)
 
 pub loop-group-preserved-then-not-are_in : goal.loop-group-preserved-then-not-are_in
-loop-group-preserved-then-not-are_in g c =
-    let level = c.args.tables.now.board.now in
-    let missing = rw (c.boxes-start.ensures.members, c.boxes-boxes.ensures) at c.if-not-are_in.ensures in
-    record {
-      none = one_more (λ k. GroupCovers level c.args.tables.now.groups k (start level) → ⊥) c.loop-group.group c.loop-group.invariant.none
-          (λ covers. not_both level.boxes missing.0 (covers.1.boxes missing.0 missing.1) missing.2);
-    }
+loop-group-preserved-then-not-are_in g c = grind (arith, one_more, not_both)
 
 pub has_root-requires-clause-off : goal.has_root-requires-clause-off
-has_root-requires-clause-off g c = λ q has. c.if-meets.ensures q (c.if-not-are_in.ensures q (rw c.boxes-boxes.ensures has))
+has_root-requires-clause-off g c = grind arith
 
 pub loop-group-preserved : goal.loop-group-preserved
-loop-group-preserved g c =
-    let level = c.args.tables.now.board.now in
-    record {
-      none = one_more (λ k. GroupCovers level c.args.tables.now.groups k (start level) → ⊥) c.loop-group.group c.loop-group.invariant.none
-          (λ covers. false≢true (c.if-has_root.ensures.1 covers.1.player));
-    }
+loop-group-preserved g c = grind (arith, one_more, false≢true)
 
 pub returns-then-has_root : goal.returns-then-has_root
 returns-then-has_root g c = (

@@ -17,11 +17,7 @@ with_lines L U (Err x) e h = tt
 
 -- the line that is read is the pattern that was added
 stored_is : (g : _) (c : After-line g) → stored_pattern c.add.new.self c.line.result ≡ pattern_of (said_pattern c.args.pattern.now)
-stored_is g c =
-    let said = said_pattern c.args.pattern.now in
-    let added = rw c.if-not-branch.false at c.in_ok-add.ensures.added in
-    let long : c.len-line.result ≡ length (lines_in c.make_room.new.self) = simp length-map (omega arith) in
-    c.line.ensures.pattern ∙ ap (λ ls. pattern_at (patterns_of ls) c.len-line.result) added ∙ last_pattern _ said c.len-line.result long
+stored_is g c = grind (arith, length-map, last_pattern)
 
 pub why_unlawful-requires : goal.why_unlawful-requires
 why_unlawful-requires g c = record {
@@ -31,9 +27,7 @@ why_unlawful-requires g c = record {
 }
 
 pub line-requires : goal.line-requires
-line-requires g c =
-    let added = rw c.if-not-branch.false at c.in_ok-add.ensures.added in
-    omega (arith, simp (length-map, length-append) at (ap (λ ls. length ls) added))
+line-requires g c = grind (arith, length-map, length-append)
 
 pub returns : goal.returns
 returns g c =

@@ -25,6 +25,4 @@ loop-line-preserved g c =
     }
 
 pub returns : goal.returns
-returns g c =
-    let all : c.loop-line.line ≡ length c.args.arena.now.lines.items = omega arith in
-    rw all at c.loop-line.invariant.entries
+returns g c = grind arith

@@ -7,10 +7,7 @@ use Rattle.std.proofs.lemmas.List.{get_or_default}
 use Rattle.closure.proofs.scan.is_any_covering.Goals as goal
 
 pub covers-requires : goal.covers-requires
-covers-requires g c =
-    let same : c.entry-item.result.extent ≡ g.S.CellSet.extent c.args.room.now =
-    rw c.entry-item.is (c.requires.entries c.loop-entry.entry-index c.entry-item.result c.loop-entry-test.true) in
-    record { room = sym same; boxes = c.requires.boxes ∙ sym same; player = rw same c.requires.player }
+covers-requires g c = grind arith
 
 pub loop-entry-preserved : goal.loop-entry-preserved
 loop-entry-preserved g c = grind (arith, cases_lt, get_or_default)

@@ -16,17 +16,10 @@ use Rattle.closure.proofs.checking.Checker.check_pushes.Goals as goal
 
 -- ---- the line and its group
 is_line : (g : _) (c : After-index g) → c.loop-line.line < length c.args.tables.now.groups.arena.lines.items
-is_line g c =
-    let test = c.loop-line-test.true in
-    let len = c.len-line-end.ensures in
-    omega arith
+is_line g c = grind arith
 
 of_line : (g : _) (c : After-index g) → c.index.result.now ≡ slice_index c.args.tables.now.groups.of.items c.loop-line.line
-of_line g c =
-    let groups = c.args.tables.now.groups in
-    let long = c.requires.tables.grouped.all.long in
-    let lt = is_line g c in
-    c.index.ensures ∙ get_or_default groups.of.items c.loop-line.line c.index.result.now 0 (omega arith)
+of_line g c = grind (arith, is_line, get_or_default)
 
 is_group : (g : _) (c : After-index g) → c.index.result.now < length c.args.tables.now.groups.spans.items
 is_group g c = rw (of_line g c) (c.requires.tables.grouped.all.into c.loop-line.line (is_line g c))

@@ -5,21 +5,13 @@ use Rattle.closure.proofs.Rests.{none_rest}
 use Rattle.closure.proofs.checking.Checker.settle_head.Goals as goal
 
 pub index_mut-requires : goal.index_mut-requires
-index_mut-requires g c =
-    let long = c.requires.checker.tried in
-    let low = c.in-Some.ensures.0 in
-    omega arith
+index_mut-requires g c = grind arith
 
 pub settle-requires-clause-checker : goal.settle-requires-clause-checker
-settle-requires-clause-checker g c =
-    let checker = c.requires.checker in
-    record { are = checker.are; free = checker.free; rest = checker.rest; tried = length-set _ _ _ ∙ checker.tried }
+settle-requires-clause-checker g c = grind (arith, length-set)
 
 pub index_mut-requires-then-is_empty : goal.index_mut-requires-then-is_empty
-index_mut-requires-then-is_empty g c =
-    let long = c.requires.covered.long in
-    let low = c.in-Some.ensures.0 in
-    omega arith
+index_mut-requires-then-is_empty g c = grind arith
 
 pub returns-then-is_empty-clause-covered : goal.returns-then-is_empty-clause-covered
 returns-then-is_empty-clause-covered g c =

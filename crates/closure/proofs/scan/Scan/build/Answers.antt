@@ -10,12 +10,7 @@ pub enter_each-requires : goal.enter_each-requires
 enter_each-requires g c = rw c.in_ok-arena.ensures c.requires
 
 pub invariant_of-result : goal.invariant_of-result
-invariant_of-result g c =
-    let are = c.in_ok-entries.ensures in
-    let long = are.long in
-    record {
-      same_grid = λ k d lt. (are.each k d (omega arith)).extent ∙ sym (c.copy_from.ensures.extent ∙ c.in_ok-room.ensures.extent ∙ c.shape-2.ensures.value);
-    }
+invariant_of-result g c = grind arith
 
 pub returns-clause-exact : goal.returns-clause-exact
 returns-clause-exact g c = λ s.
