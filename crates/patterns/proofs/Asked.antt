@@ -41,7 +41,7 @@ module _ {S : Type 0} (task : Task S) (buckets : Buckets) (old new : Unsettled) 
 module _ {S : Type 0} (task : Task S) where
   -- ---- pushes that were taken out
   pub taken_none : (pushes : List Push) → AreTaken task pushes pushes
-  taken_none pushes = record { kept = λ push was. inl was; only = λ push has. has; fewer = omega arith }
+  taken_none pushes = grind arith
 
   pub taken_on : (first second third : List Push) → AreTaken task first second → AreTaken task second third → AreTaken task first third
   taken_on first second third one two = record {
@@ -51,29 +51,19 @@ module _ {S : Type 0} (task : Task S) where
   }
 
   pub asked_none : (u : Unsettled) → HasAsked task u u
-  asked_none u = record { away = taken_none u.away.items; here = taken_none u.here.items; search = refl; inside = refl }
+  asked_none u = search (taken_none)
 
   pub asked_on : (first old new : Unsettled) → HasAsked task first old → HasAsked task old new → HasAsked task first new
-  asked_on first old new one two = record {
-    away = taken_on first.away.items old.away.items new.away.items one.away two.away;
-    here = taken_on first.here.items old.here.items new.here.items one.here two.here;
-    search = two.search ∙ one.search;
-    inside = two.inside ∙ one.inside;
-  }
+  asked_on first old new one two = search (taken_on)
 
   pub piece_less : (place : Cell) (old new : List Push) → AreInPiece task.tables.now.board.now (cells_in task.boxes.now) place old
       → ((push : Push) → Contains new push → Contains old push) → AreInPiece task.tables.now.board.now (cells_in task.boxes.now) place new
-  piece_less place old new was only =
-      record { outside = was.outside; onward = λ push has. was.onward push (only push has); back = λ push has. was.back push (only push has) }
+  piece_less place old new was only = grind arith
 
   -- ---- settling on
   module _ (buckets : Buckets) where
     pub onward_on : (first old new : Unsettled) → IsOnward task buckets first old → IsOnward task buckets old new → IsOnward task buckets first new
-    onward_on first old new one two = record {
-      settling = two.settling;
-      away = taken_on first.away.items old.away.items new.away.items one.away two.away;
-      here = taken_on first.here.items old.here.items new.here.items one.here two.here;
-    }
+    onward_on first old new one two = search (taken_on)
 
     pub onward_asked : (old new : Unsettled) → IsSettling task buckets old → HasAsked task old new → IsOnward task buckets old new
     onward_asked old new was now = record {

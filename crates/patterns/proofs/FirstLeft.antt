@@ -18,7 +18,7 @@ module _ (level : Level) (groups : Groups) (grouped : IsGrouped groups) (j : ℕ
   own = position_at level groups (slice_index groups.of.items j)
 
   same : line.boxes ≡ own.boxes
-  same = line_boxes level groups grouped (slice_index groups.of.items j) j lt refl
+  same = search (line_boxes)
 
   left_or_covered : (push : Push) → PushesOut level line push → Contains left push ⊎ IsCovered level (list_of groups) (after_push line push)
   left_or_covered push out = either (rest.all push (out_of_group level groups grouped j lt push out)) inl

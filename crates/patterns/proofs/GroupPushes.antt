@@ -55,16 +55,7 @@ covered_each_box level patterns pattern boxes n past own each push out = grind (
 -- A push out of a pattern is one out of its group.
 pub out_of_group : (level : Level) (groups : Groups) → IsGrouped groups → (j : ℕ) → j < length groups.arena.lines.items → (push : Push)
     → PushesOut level (pattern_at (list_of groups) j) push → PushesOut level (position_at level groups (slice_index groups.of.items j)) push
-out_of_group level groups grouped j lt push out =
-    let g = slice_index groups.of.items j in
-    let same = line_boxes level groups grouped g j lt refl in
-    record {
-      standing = of_line level groups grouped g j lt refl push.player out.standing;
-      next_cell = out.next_cell;
-      box = rw same at out.box;
-      cell_behind = out.cell_behind;
-      free = rw same at out.free;
-    }
+out_of_group level groups grouped j lt push out = grind (arith, line_boxes, of_line)
 
 -- The results of the pushes out of a pattern are covered if the results are for its group.
 pub pattern_of_group : (level : Level) (groups : Groups) → IsGrouped groups → (j : ℕ) → j < length groups.arena.lines.items

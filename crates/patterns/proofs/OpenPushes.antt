@@ -68,14 +68,14 @@ module _ {S : Type 0} (task : Task S) (is : IsTask task) where
     cell = cell_no task.boxes.now number
 
     pub cell_on : IsOn level.shape cell
-    cell_on = boxes_on level groups is.tables.lawful is.tables.grouped task.group is.group task.boxes.now is.boxes cell (in_list task.boxes.now number no_cell lt)
+    cell_on = search (boxes_on, in_list, no_cell)
 
     -- No push goes out from a side without the region.
     pub none_from : (InPatternRegion level (at task.group) (neighbor cell (opposite dir)) → ⊥) → (push : Push) → IsPushOut task push → push.from ≡ cell → push.dir ≡ dir → ⊥
-    none_from lacks push out from toward = unreached level (at task.group) cell dir lacks push out from toward
+    none_from lacks push out from toward = search (unreached)
 
     pub to_is : (push : Push) → IsPushOut task push → push.from ≡ cell → push.dir ≡ dir → push.to ≡ neighbor cell dir
-    to_is push out from toward = out.cell_behind ∙ (ap (λ c. neighbor c push.dir) from ∙ ap (λ e. neighbor cell e) toward)
+    to_is push out from toward = search
 
     module _ (player to : Cell) (player_at : player ≡ neighbor cell (opposite dir)) (to_at : to ≡ neighbor cell dir) where
       pub goes_out : InPatternRegion level (at task.group) (neighbor cell (opposite dir)) → Has level.room to → Lacks boxes to
@@ -92,7 +92,7 @@ module _ {S : Type 0} (task : Task S) (is : IsTask task) where
 
   -- ---- which pushes a group settles
   pub settled_by : (g : ℕ) (push : Push) → GroupCovers level groups g (state_after boxes push) → IsSettled task push
-  settled_by g push covers = covered_of_group level groups is.tables.grouped (state_after boxes push) g covers.1
+  settled_by g push covers = search (covered_of_group)
 
   -- A group that covers the result of an open push is off the trap.
   pub covering_off : (push : Push) → Lacks task.tables.now.trap.members push.to → (g : ℕ) → GroupCovers level groups g (state_after boxes push)

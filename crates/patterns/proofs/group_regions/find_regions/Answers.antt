@@ -138,20 +138,10 @@ loop-group-preserved-then-is_trapped g c =
     }
 
 pub boxes-boxes-requires : goal.boxes-boxes-requires
-boxes-boxes-requires g c = record {
-  groups = c.requires.groups;
-  group = rw (c.len-group-end.ensures ∙ c.args.groups.now.spans.ok.0) at c.loop-group-test.true;
-}
+boxes-boxes-requires g c = grind arith
 
 pub returns : goal.returns
-returns g c =
-    let all : c.loop-group.group ≡ length c.args.groups.now.spans.items = omega arith in
-    record {
-      long = c.loop-group.invariant.long;
-      count = c.loop-group.invariant.count ∙ all;
-      sides = rw all at c.loop-group.invariant.sides;
-      each = rw all at c.loop-group.invariant.each;
-    }
+returns g c = grind arith
 
 pub push_reserved-requires : goal.push_reserved-requires
 push_reserved-requires g c = omega arith

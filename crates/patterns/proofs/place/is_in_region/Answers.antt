@@ -40,7 +40,4 @@ returns g c =
     through c.has_root.ensures (told.1, told.0)
 
 pub loop-found-preserved : goal.loop-found-preserved
-loop-found-preserved g c = λ i m.
-    let d : Hit = record { cell = record { row = 0; column = 0 }; side = L } in
-    below_more (λ k. Lacks (cells_in c.boxes-boxes.result.now) (get_or c.args.hits.now k m).cell) c.loop-found.found-index (λ k. c.loop-found.invariant k m)
-    (rw (get_or_default c.args.hits.now c.loop-found.found-index m d c.loop-found-test.true) c.in_default.ensures) i
+loop-found-preserved g c = grind (arith, get_or_default)

@@ -14,26 +14,17 @@ use Rattle.patterns.proofs.place.list_hits.Goals as goal
 
 -- The parent of the present node has a lower number.
 falls : (g : _) (c : After-index-in-loop-at g) → c.index-node.result.now.parent < c.loop-at.at
-falls g c = rw c.index-node.ensures (c.requires.tree.nodes.down c.loop-at.at c.index-node.result.now c.loop-at-test.true c.loop-at.invariant.within)
+falls g c = grind arith
 
 -- The step of the present node leads to the cell of its parent.
 leads : (g : _) (c : After-index-in-loop-at g) (d : Node) → neighbor (get_or c.args.tree.now.nodes.items c.loop-at.at c.index-node.result.now).cell
     (get_or c.args.tree.now.nodes.items c.loop-at.at c.index-node.result.now).dir ≡ (get_or c.args.tree.now.nodes.items c.index-node.result.now.parent d).cell
-leads g c d =
-    let nodes = c.args.tree.now.nodes.items in
-    let r = c.index-node.result.now in
-    let less = falls g c in
-    let within = c.loop-at.invariant.within in
-    c.requires.tree.nodes.leads c.loop-at.at r c.loop-at-test.true within ∙ ap (λ x. (get_or nodes x.parent r).cell) (sym c.index-node.ensures) ∙
-    ap (λ x. x.cell) (get_or_default nodes r.parent r d (omega arith))
+leads g c d = grind (arith, falls, get_or_default)
 
 -- The cell that is compared with the boxes is the parent's.
 parent_cell : (g : _) (c : After-index-in-loop-at g) (d : Node) → c.index-in-loop-at.result.now.cell ≡
     (get_or c.args.tree.now.nodes.items c.index-node.result.now.parent d).cell
-parent_cell g c d =
-    let less = falls g c in
-    let within = c.loop-at.invariant.within in
-    ap (λ x. x.cell) (c.index-in-loop-at.ensures ∙ get_or_default c.args.tree.now.nodes.items c.index-node.result.now.parent c.index-in-loop-at.result.now d (omega arith))
+parent_cell g c d = grind (arith, falls, get_or_default)
 
 pub loop-at-preserved : goal.loop-at-preserved
 loop-at-preserved g c =

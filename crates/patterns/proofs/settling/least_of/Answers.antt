@@ -17,17 +17,13 @@ IsAfter pushes region first i =
 -- whether a push comes before another one, if there is one
 over : (b : Bool) (known : Option Push) (q : Push) → MatchOption known (IsTrue b) (λ f. IsTrue b ↔ PushBefore q f)
     → MatchBool b ((f : Push) → known ≡ Some f → PushBefore q f) ((f : Push) × (known ≡ Some f) × (PushBefore q f → ⊥))
-over true None q is = λ f none. absurd (none-some f none)
-over true (Some k) q is = λ f same. rw (same_Some k f same) at (is.0 refl)
+over true None q is = grind (arith, none-some)
+over true (Some k) q is = grind (arith, same_Some)
 over false None q is = absurd (false≢true is)
-over false (Some k) q is = (k, refl, λ before. false≢true (is.1 before))
+over false (Some k) q is = grind (arith, false≢true)
 
 pub loop-push-preserved-then-not-has : goal.loop-push-preserved-then-not-has
-loop-push-preserved-then-not-has c = record {
-  only = c.loop-push.invariant.only;
-  least = one_more (IsAfter c.args.pushes.now c.args.region.now.members c.loop-push.first) c.loop-push.push-index c.loop-push.invariant.least
-      (λ inside. absurd (false≢true (sym c.if-not-has.true ∙ c.has.ensures.1 inside)));
-}
+loop-push-preserved-then-not-has c = grind (arith, one_more, false≢true)
 
 pub loop-push-preserved-then-not-is_least : goal.loop-push-preserved-then-not-is_least
 loop-push-preserved-then-not-is_least c = record {

@@ -9,29 +9,10 @@ use Rattle.cellset.proofs.CellLists.{has_listed}
 use Rattle.patterns.proofs.unsettled.find_missing.Goals as goal
 
 pub returns-then-not-is_same : goal.returns-then-not-is_same
-returns-then-not-is_same c =
-    let kept = c.args.kept.now in
-    let known = rw c.in-Some.is at c.loop-number.invariant in (
-      cell_no kept c.in-Some.known,
-      cell_no kept c.loop-number.number,
-      in_list kept c.in-Some.known no_cell known.0,
-      in_list kept c.loop-number.number no_cell c.loop-number-test.true,
-      c.if-not-is_same.ensures,
-      known.1,
-      lacks_where c.args.boxes.now.members (cell_no kept c.loop-number.number) (λ has. false≢true (sym c.if-has.false ∙ c.has.ensures.1 has)),
-    )
+returns-then-not-is_same c = grind (arith, in_list, no_cell, lacks_where, false≢true)
 
 pub returns-in-None-missing : goal.returns-in-None-missing
-returns-in-None-missing c =
-    let all = rw c.in-None-missing.is at c.loop-number.invariant in
-    let past = c.loop-number-test.false in
-    λ q has. let at = has_listed c.args.kept.now q has in rw (sym (get_or_default c.args.kept.now at.0 q no_cell at.1) ∙ at.2) at (all at.0 (omega arith))
+returns-in-None-missing c = grind (arith, has_listed, get_or_default, no_cell)
 
 pub returns-in-Some-missing : goal.returns-in-Some-missing
-returns-in-Some-missing c =
-    let one = rw c.in-Some-missing.is at c.loop-number.invariant in
-    let past = c.loop-number-test.false in (
-      one.0,
-      one.1,
-      λ q has. let at = has_listed c.args.kept.now q has in rw (sym (get_or_default c.args.kept.now at.0 q no_cell at.1) ∙ at.2) at (one.2 at.0 (omega arith)),
-    )
+returns-in-Some-missing c = grind (arith, has_listed, get_or_default, no_cell)

@@ -7,28 +7,10 @@ use Rattle.patterns.proofs.InBuckets.{no_group_covers, player_in_room}
 use Rattle.patterns.proofs.lookups.Lookups.covers.Goals as goal
 
 pub list_hits-requires : goal.list_hits-requires
-list_hits-requires g c =
-    let tree = c.requires.are.grown c.requires.grown in
-    record { tree = tree.0; capacity = tree.1; player = rw c.room.ensures.members at (sym c.if-not-contains.ensures) }
+list_hits-requires g c = grind arith
 
 pub loop-cell-init : goal.loop-cell-init
-loop-cell-init g c = record {
-  can_next = tt;
-  is_finite = tt;
-  all = rw c.into_iter-cell-iterator.ensures.into_iter_gives c.new-cell-items.ensures;
-  are = record {
-    buckets = c.requires.are.buckets;
-    place = record {
-      extent = c.load.ensures.extent ∙ c.requires.are.place.extent;
-      room = rw c.room.ensures.members at (sym c.if-not-contains.ensures);
-      hits = c.list_hits.ensures.hits;
-    };
-    grown = λ some. ((c.requires.are.grown some).0, c.list_hits.ensures.capacity);
-    free = c.requires.are.free;
-    region = c.requires.are.region;
-  };
-  passed = λ q k came. let lt = came.1 in absurd (omega arith);
-}
+loop-cell-init g c = grind arith
 
 pub loop-cell-preserved : goal.loop-cell-preserved
 loop-cell-preserved g c =

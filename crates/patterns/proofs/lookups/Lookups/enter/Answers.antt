@@ -11,7 +11,7 @@ use Rattle.patterns.proofs.lookups.Lookups.enter.Goals.{After-index}
 
 -- the push whose piece is entered
 has_first : (g : _) (c : After-index g) → Contains c.args.self.now.unsettled.away.items c.index.result.now
-has_first g c = let some = c.if-is_empty.ensures in (0, grind arith, sym c.index.ensures)
+has_first g c = grind arith
 
 within : (g : _) (c : After-index g) → IsPushIn c.args.task.now.tables.now.board.now (cells_in c.args.task.now.boxes.now) c.index.result.now
 within g c = open_in c.args.task.now c.requires.task c.index.result.now (c.requires.ready.settling.away c.index.result.now (has_first g c)).0

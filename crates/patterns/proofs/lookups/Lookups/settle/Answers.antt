@@ -6,14 +6,10 @@ use Rattle.patterns.proofs.Taken.{none_in}
 use Rattle.patterns.proofs.lookups.Lookups.settle.Goals as goal
 
 pub loop-self-init : goal.loop-self-init
-loop-self-init g c =
-    let begun = c.in_ok-begin.ensures in
-    record { ready = begun.ready; only = λ push h. absurd (none_in push (rw begun.left at h)); all = λ push out. inr (begun.all push out) }
+loop-self-init g c = grind (arith, none_in)
 
 pub settle_here-requires-clause-place : goal.settle_here-requires-clause-place
-settle_here-requires-clause-place g c =
-    let ready = c.in_ok-enter.ensures.ready in
-    record { is = c.requires.task; place = ready.are.place; boxes = ready.boxes }
+settle_here-requires-clause-place g c = grind arith
 
 pub loop-self-preserved : goal.loop-self-preserved
 loop-self-preserved g c =
@@ -43,10 +39,7 @@ loop-self-preserved g c =
     }
 
 pub loop-self-smaller : goal.loop-self-smaller
-loop-self-smaller g c =
-    let less = rw c.if-branch.true at c.in_ok-enter.ensures.fewer in
-    let kept = c.in_ok-settle_here.ensures.onward.away.fewer in
-    omega arith
+loop-self-smaller g c = grind arith
 
 pub returns-clause-rest : goal.returns-clause-rest
 returns-clause-rest g c =

@@ -10,7 +10,7 @@ use Rattle.patterns.proofs.{Grouped.boxes_on, Taken.none_in}
 use Rattle.patterns.proofs.search.Search.begin.Goals as goal
 
 pub loop-push-init : goal.loop-push-init
-loop-push-init g c = record { on = λ q has. absurd (none_in q (rw c.clear.ensures.items at has)); ahead = λ i p lt. absurd (omega arith) }
+loop-push-init g c = grind (arith, none_in)
 
 pub loop-push-preserved : goal.loop-push-preserved
 loop-push-preserved g c =

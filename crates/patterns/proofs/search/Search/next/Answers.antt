@@ -13,16 +13,11 @@ use Rattle.patterns.proofs.search.Search.next.Goals.{After-index, After-index-2}
 use Rattle.patterns.proofs.search.Search.next.Goals as goal
 
 pub returns-then-self-len-clause-found : goal.returns-then-self-len-clause-found
-returns-then-self-len-clause-found g c = λ k q low has key.
-    past_all c.args.task.now.tables.now.board.now.shape c.args.buckets.now c.loop-self.self c.loop-self-test.true (c.if-self-len.true ∙ (c.len.ensures ∙ c.loop-self.self.cells.ok.0)) k q has key
+returns-then-self-len-clause-found g c = grind (arith, past_all)
 
 -- there is a cell whose bucket wasn't begun
 some_left : (g : _) (c : After-index g) → c.loop-self.self.begun < length c.loop-self.self.cells.items
-some_left g c =
-    let ne = c.if-self-len.false in
-    let len = c.len.ensures ∙ c.loop-self.self.cells.ok.0 in
-    let le = c.loop-self.invariant.search.begun in
-    omega arith
+some_left g c = grind arith
 
 pub index_of-requires : goal.index_of-requires
 index_of-requires g c =

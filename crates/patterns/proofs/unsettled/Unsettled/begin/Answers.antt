@@ -51,11 +51,4 @@ returns-clause-settling g c = λ buckets.
     }
 
 pub returns-clause-all : goal.returns-clause-all
-returns-clause-all g c =
-    let task = c.args.task.now in
-    let past = c.loop-number-test.false in
-    λ push out.
-    let box = subst (λ b. Has (cells_in b) push.from) (sym c.requires.task.boxes) out.box in
-    let found = has_listed task.boxes.now push.from box in
-    let lt = found.1 in
-    c.loop-number.invariant.all found.0 (omega arith) push out (sym found.2 ∙ get_or_default task.boxes.now found.0 push.from no_cell found.1)
+returns-clause-all g c = grind (arith, has_listed, get_or_default, no_cell)

@@ -8,10 +8,7 @@ use Rattle.patterns.proofs.unsettled.Unsettled.settle_inside.Goals as goal
 use Rattle.patterns.proofs.unsettled.Unsettled.settle_inside.Goals.{After-index-group}
 
 within : (g : _) (c : After-index-group g) → c.loop-at.at < length c.loop-at.self.inside.items
-within g c =
-    let low = c.loop-at-test.true in
-    let len = c.len-at-end.ensures in
-    rw c.loop-at.invariant.asked.inside (omega arith)
+within g c = grind arith
 
 pub settle_by-requires : goal.settle_by-requires
 settle_by-requires g c =
