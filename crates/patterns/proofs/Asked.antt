@@ -1,5 +1,5 @@
 -- What is kept while pushes are settled. What a search and its groups leave open stays so when fewer pushes are unsettled.
-use Rattle.std.proofs.Common.{◌≡◌, ◌⊎◌, ℕ, ◌<◌, List, length, refl, ◌∙◌, ap, inl, inr, arith}
+use Rattle.std.proofs.Common.{◌≡◌, ◌⊎◌, ℕ, ◌<◌, List, length, ap, inl, inr, arith}
 use Rattle.std.specs.List.{Contains}
 use Rattle.cellset.{specs.CellSet.Has, specs.declared.cell.Cell.Cell, proofs.Truth.either}
 use Rattle.reach.specs.declared.pushes.Push.{Push}
@@ -50,8 +50,6 @@ module _ {S : Type 0} (task : Task S) where
     fewer = (let first = one.fewer in let second = two.fewer in omega arith);
   }
 
-  pub asked_none : (u : Unsettled) → HasAsked task u u
-  asked_none u = search (taken_none)
 
   pub asked_on : (first old new : Unsettled) → HasAsked task first old → HasAsked task old new → HasAsked task first new
   asked_on first old new one two = search (taken_on)

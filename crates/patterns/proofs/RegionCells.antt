@@ -34,11 +34,6 @@ module _ (level : Level) (formed : IsWellFormed level) (boxes : Cells) where
     λ chain. (in_room c chain, region_lacks level (record { boxes = boxes; seeds = whole_room }) c chain),
   )
 
-  pub room_region : (c : Cell) → Has (set.difference level.room boxes) c ↔ InPatternRegion level (record { boxes = boxes; seeds = whole_room }) c
-  room_region c = (
-    λ has. (room_outside c).0 (has_difference level.room boxes c has),
-    λ chain. let both = (room_outside c).1 chain in in_difference level.room boxes c both.0 both.1,
-  )
 
 pub region_outside : (level : Level) (pattern : Pattern) (region : Cells) (c : Cell) → (Has region c ↔ InPatternRegion level pattern c) →
     (Has region c × Lacks pattern.boxes c) ↔ InPatternRegion level pattern c

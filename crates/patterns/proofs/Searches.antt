@@ -1,6 +1,6 @@
 -- A search of buckets. A group that the search has come past after a bucket was begun, it had come past before, since the chain of the bucket
 -- has each group of the bucket. If it goes on to the next group, it has come past that one and no other.
-use Rattle.std.proofs.Common.{◌≡◌, ℕ, ◌+◌, ◌-◌, ◌*◌, ◌<◌, ◌≤◌, length, get_or, inl, inr, arith}
+use Rattle.std.proofs.Common.{◌≡◌, ℕ, ◌+◌, ◌-◌, ◌*◌, ◌<◌, ◌≤◌, length, get_or, arith}
 use Rattle.std.{specs.Prelude.◌⊎◌, specs.Prelude.slice_index, proofs.lemmas.Bool.cases_lt}
 use Rattle.std.proofs.lemmas.List.{get_or_default}
 use Rattle.cellset.specs.{Shape.Extent, Cell.IsOn, CellSet.Has, SortedList.index, declared.cell.Cell.Cell}

@@ -6,9 +6,8 @@
 -- either the pattern lacks the box, or the push is one out of the pattern, and the boxes after that one are among the boxes after this
 -- (`subsumed_push`). A pattern that has a box on the cell ahead, and whose other boxes are there, decides by the side from which the box comes
 -- (`ahead_decides`).
-use Rattle.std.proofs.Common.{◌≡◌, [], List, length, ◌∙◌, ap, inl, inr, arith}
+use Rattle.std.proofs.Common.{◌≡◌, [], List, arith}
 use Rattle.std.{specs.Prelude.◌↔◌, specs.Prelude.◌⊎◌, specs.List.Contains}
-use Rattle.std.specs.FinSet as set
 use Rattle.cellset.specs.{Cell.neighbor, Cell.opposite, CellSet.Cells, CellSet.CellsOn, CellSet.Has, CellSet.Lacks, declared.cell.Cell.Cell}
 use Rattle.cellset.proofs.{Members.has_insert, Members.has_or_lacks, Members.has_remove, Members.inserted, Members.kept_by_insert, Members.kept_by_remove, Members.not_both, Neighbors.neighbor_back, Truth.either}
 use Rattle.reach.specs.{Region.IsFree, Region.Joined, Region.at_seed, Region.beside, declared.pushes.Push.Push}

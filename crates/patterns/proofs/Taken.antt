@@ -1,10 +1,8 @@
 -- Lists from which an item is taken out, whose place the last one takes.
-use Rattle.std.proofs.Common.{◌≡◌, ◌⊎◌, ℕ, zero, suc, ◌<◌, List, [], ◌∷◌, ◌++◌, length, get_or, sym, ◌∙◌, ap, inl, inr, arith}
-use Rattle.std.specs.Prelude.{Option, Some}
-use Rattle.std.specs.Option.{option_to_list}
+use Rattle.std.proofs.Common.{◌≡◌, ◌⊎◌, ℕ, zero, suc, ◌<◌, List, [], ◌∷◌, length, get_or, sym, inl, inr, arith}
 use Rattle.std.{specs.List.Contains, specs.List.swap_remove}
 use Rattle.std.proofs.lemmas.Grind.{common_steps}
-use Rattle.std.proofs.lemmas.List.Elements.{Contains-append_cases, Contains-append_left, Contains-append_right, Contains-push, Contains-push_cases}
+use Rattle.std.proofs.lemmas.List.Elements.{Contains-append_cases, Contains-append_right}
 use Rattle.std.proofs.lemmas.List.Sorted.{Contains-permutation, IsPermutation-swap_remove, IsPermutation-sym}
 
 module _ {X : Type 0} where
@@ -15,15 +13,6 @@ module _ {X : Type 0} where
   pub none_in : (x : X) → Contains [] x → ⊥
   none_in x (k, lt, is) = absurd (omega arith)
 
-  -- the list from which the last item was taken
-  pub popped : (old new : List X) (found : Option X) (last : X) → old ≡ new ++ option_to_list found → found ≡ Some last
-      → ((y : X) → Contains new y → Contains old y) × Contains old last × ((y : X) → Contains old y → Contains new y ⊎ (y ≡ last))
-  popped old new found last is some =
-      let longer : old ≡ new ++ last ∷ [] = is ∙ ap (λ f. new ++ option_to_list f) some in (
-        λ y has. rw longer (Contains-append_left new (last ∷ []) y has),
-        rw longer (Contains-push new last),
-        λ y has. elim (Contains-push_cases new last y (rw longer at has)) [ inl rest ↦ inl rest | inr same ↦ inr (sym same) ],
-      )
 
   -- What is left was there before.
   pub taken_only : (xs ys : List X) (i : ℕ) (x : X) → i < length xs → x ≡ get_or xs i x → ys ≡ swap_remove xs i x → (y : X) → Contains ys y → Contains xs y

@@ -2,7 +2,7 @@
 use Rattle.std.proofs.{Common.◌<◌, Common.length, Common.refl, Common.arith, lemmas.Bool.false≢true}
 use Rattle.board.specs.Game.{start}
 use Rattle.cellset.{proofs.Members.not_both}
-use Rattle.patterns.{specs.Groups.list_of, specs.Tables.GroupCovers}
+use Rattle.patterns.{specs.Groups.list_of}
 use Rattle.patterns.proofs.{Grouped.boxes_on, Grouped.covered_of_group, InBuckets.no_group_covers, Numbered.one_more, Traps.start_trapped}
 use Rattle.closure.proofs.checking.is_start_covered.Goals.{After-boxes-boxes}
 use Rattle.closure.proofs.checking.is_start_covered.Goals as goal
@@ -24,14 +24,8 @@ are_in-requires g c = λ q has.
     rw c.boxes-start.ensures.extent (boxes_on c.args.tables.now.board.now c.args.tables.now.groups c.requires.lawful c.requires.grouped
     c.loop-group.group (within g (goal.at.are_in-requires g c).After-boxes-boxes) c.boxes-boxes.result.now c.boxes-boxes.ensures q has)
 
-pub loop-group-preserved-then-not-are_in : goal.loop-group-preserved-then-not-are_in
-loop-group-preserved-then-not-are_in g c = grind (arith, one_more, not_both)
 
-pub has_root-requires-clause-off : goal.has_root-requires-clause-off
-has_root-requires-clause-off g c = grind arith
 
-pub loop-group-preserved : goal.loop-group-preserved
-loop-group-preserved g c = grind (arith, one_more, false≢true)
 
 pub returns-then-has_root : goal.returns-then-has_root
 returns-then-has_root g c = (

@@ -3,7 +3,7 @@ use Rattle.std.proofs.Common.{◌≡◌, ℕ, Ok, Err, Some, None, IfOk, List, �
 use Rattle.std.specs.Prelude.{MatchOption, Option, Result}
 use Rattle.std.proofs.lemmas.List.{get_or_push, length-append, length-map, map-append}
 use Rattle.answers.specs.{Body.PatternLine, Grammar.said_pattern}
-use Rattle.patterns.specs.{Pattern.pattern_of, Pattern.patterns_of, Arena.IsOnGrid, Arena.lines_in, Arena.pattern_at, Arena.stored_pattern}
+use Rattle.patterns.specs.{Pattern.pattern_of, Pattern.patterns_of, Arena.IsOnGrid, Arena.pattern_at, Arena.stored_pattern}
 use Rattle.closure.proofs.pattern_list.add_lawful.Goals as goal
 use Rattle.closure.proofs.pattern_list.add_lawful.Goals.{After-line}
 
@@ -26,8 +26,6 @@ why_unlawful-requires g c = record {
       (rw (c.if-not-branch.false, c.shape.ensures.value) at c.in_ok-add.ensures.on);
 }
 
-pub line-requires : goal.line-requires
-line-requires g c = grind (arith, length-map, length-append)
 
 pub returns : goal.returns
 returns g c =
@@ -36,5 +34,3 @@ returns g c =
     with_lines _ _ c.why_unlawful.result (added ∙ ap (λ ls. ls ++ said ∷ []) c.make_room.ensures)
     (rw (stored_is g (goal.at.returns g c).After-line) at c.why_unlawful.ensures)
 
-pub returns-then-not-branch : goal.returns-then-not-branch
-returns-then-not-branch g c = rw (c.if-not-branch.true, c.shape.ensures.value) at c.in_ok-add.ensures.on

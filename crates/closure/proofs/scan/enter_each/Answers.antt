@@ -1,4 +1,4 @@
-use Rattle.std.proofs.Common.{◌≡◌, length, arith}
+use Rattle.std.proofs.Common.{arith}
 use Rattle.patterns.{specs.Arena.list_in, proofs.Arenas.listed_at}
 use Rattle.closure.proofs.Entries.{entries_more}
 use Rattle.closure.proofs.scan.enter_each.Goals as goal
@@ -10,8 +10,6 @@ enter-requires g c = record {
   region = c.loop-line.invariant.region;
 }
 
-pub push_reserved-requires : goal.push_reserved-requires
-push_reserved-requires g c = let long = c.loop-line.invariant.entries.long in omega arith
 
 pub loop-line-preserved : goal.loop-line-preserved
 loop-line-preserved g c =
@@ -24,5 +22,3 @@ loop-line-preserved g c =
           c.push_reserved.ensures.items (rw c.pattern.ensures.pattern at c.in_ok-enter.ensures.ok);
     }
 
-pub returns : goal.returns
-returns g c = grind arith

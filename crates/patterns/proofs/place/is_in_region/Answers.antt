@@ -2,11 +2,10 @@
 -- a box of the group. So the first hit that is one decides: the player is in the region exactly if the region lies on the side of the box
 -- where the path meets it, which the facts about the region have. If no hit is a box of the group, the root decides, and these facts have
 -- that too.
-use borrow.Author.Count.{below_more}
 use Rattle.std.{proofs.Common.get_or, proofs.Common.sym, proofs.Common.◌∙◌, proofs.Common.ap, proofs.Common.arith, specs.Prelude.◌↔◌, specs.Prelude.IsTrue}
 use Rattle.std.proofs.lemmas.List.{get_or_default}
-use Rattle.cellset.specs.{Cell.neighbor, CellSet.Lacks, declared.dir.Dir.TheVariants.L}
-use Rattle.cell_lists.specs.CellLists.{cell_no, cells_in}
+use Rattle.cellset.specs.{Cell.neighbor, declared.dir.Dir.TheVariants.L}
+use Rattle.cell_lists.specs.CellLists.{cell_no}
 use Rattle.cell_lists.proofs.CellLists.{in_list, no_cell}
 use Rattle.patterns.specs.{Pattern.InPatternRegion, Groups.position_at, declared.tree.Hit.Hit}
 use Rattle.patterns.proofs.Turns.{through}

@@ -3,7 +3,7 @@
 -- the parent's cell, a region without a box on it has both cells or neither (`hits_on` in `Hits.antt`); if there is one, it becomes a hit,
 -- with the side on which the path meets it (`hits_to`). A parent has a lower number, so the walk ends at the root and makes fewer hits
 -- than there are nodes, for which there is room.
-use Rattle.std.proofs.Common.{◌≡◌, ◌<◌, get_or, sym, ◌∙◌, ap, subst, arith}
+use Rattle.std.proofs.Common.{◌≡◌, ◌<◌, get_or, ◌∙◌, ap, subst, arith}
 use Rattle.std.proofs.lemmas.Bool.{false≢true}
 use Rattle.std.proofs.lemmas.List.{get_or_default}
 use Rattle.cellset.proofs.Members.{lacks_where}

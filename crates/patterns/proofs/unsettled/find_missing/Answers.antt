@@ -1,9 +1,8 @@
 -- The invariant says that each box so far is there, or that one isn't and each other that isn't there is the same cell.
-use Rattle.std.proofs.Common.{sym, ◌∙◌, arith}
+use Rattle.std.proofs.Common.{arith}
 use Rattle.std.proofs.lemmas.Bool.{false≢true}
 use Rattle.std.proofs.lemmas.List.{get_or_default}
 use Rattle.cellset.{proofs.Members.lacks_where}
-use Rattle.cell_lists.specs.CellLists.{cell_no}
 use Rattle.cell_lists.proofs.CellLists.{in_list, no_cell}
 use Rattle.cellset.proofs.CellLists.{has_listed}
 use Rattle.patterns.proofs.unsettled.find_missing.Goals as goal

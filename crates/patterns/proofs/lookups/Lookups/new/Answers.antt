@@ -1,4 +1,4 @@
-use Rattle.std.proofs.Common.{◌∙◌, arith}
+use Rattle.std.proofs.Common.{arith}
 use Rattle.patterns.proofs.Settled.{root_hits}
 use Rattle.patterns.proofs.lookups.Lookups.new.Goals as goal
 

@@ -1,10 +1,10 @@
 -- Each push out of the group moves one of its boxes, in one of the four directions.
-use Rattle.std.proofs.Common.{◌≡◌, ◌⊎◌, sym, ◌∙◌, subst, inl, inr, arith}
+use Rattle.std.proofs.Common.{◌≡◌, ◌⊎◌, inl, inr, arith}
 use Rattle.std.specs.List.{Contains}
 use Rattle.std.proofs.lemmas.List.{get_or_default}
-use Rattle.cellset.{specs.CellSet.Has, proofs.Truth.either}
+use Rattle.cellset.{proofs.Truth.either}
 use Rattle.reach.specs.declared.pushes.Push.{Push}
-use Rattle.cell_lists.specs.CellLists.{cell_no, cells_in}
+use Rattle.cell_lists.specs.CellLists.{cell_no}
 use Rattle.cell_lists.proofs.CellLists.{no_cell}
 use Rattle.cellset.proofs.CellLists.{has_listed}
 use Rattle.patterns.specs.Settling.{IsPushOut, IsSettled}
