@@ -50,7 +50,6 @@ module _ {S : Type 0} (task : Task S) where
     fewer = (let first = one.fewer in let second = two.fewer in omega arith);
   }
 
-
   pub asked_on : (first old new : Unsettled) → HasAsked task first old → HasAsked task old new → HasAsked task first new
   asked_on first old new one two = search (taken_on)
 

@@ -34,7 +34,6 @@ module _ (level : Level) (formed : IsWellFormed level) (boxes : Cells) where
     λ chain. (in_room c chain, region_lacks level (record { boxes = boxes; seeds = whole_room }) c chain),
   )
 
-
 pub region_outside : (level : Level) (pattern : Pattern) (region : Cells) (c : Cell) → (Has region c ↔ InPatternRegion level pattern c) →
     (Has region c × Lacks pattern.boxes c) ↔ InPatternRegion level pattern c
 region_outside level pattern region c exact = (λ both. exact.0 both.0, λ inside. (exact.1 inside, region_lacks level pattern c inside))

@@ -13,7 +13,6 @@ module _ {X : Type 0} where
   pub none_in : (x : X) → Contains [] x → ⊥
   none_in x (k, lt, is) = absurd (omega arith)
 
-
   -- What is left was there before.
   pub taken_only : (xs ys : List X) (i : ℕ) (x : X) → i < length xs → x ≡ get_or xs i x → ys ≡ swap_remove xs i x → (y : X) → Contains ys y → Contains xs y
   taken_only xs ys i x lt read is y has =

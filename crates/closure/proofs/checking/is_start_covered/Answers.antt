@@ -24,9 +24,6 @@ are_in-requires g c = λ q has.
     rw c.boxes-start.ensures.extent (boxes_on c.args.tables.now.board.now c.args.tables.now.groups c.requires.lawful c.requires.grouped
     c.loop-group.group (within g (goal.at.are_in-requires g c).After-boxes-boxes) c.boxes-boxes.result.now c.boxes-boxes.ensures q has)
 
-
-
-
 pub returns-then-has_root : goal.returns-then-has_root
 returns-then-has_root g c = (
   λ _.

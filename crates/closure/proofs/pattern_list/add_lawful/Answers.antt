@@ -26,11 +26,9 @@ why_unlawful-requires g c = record {
       (rw (c.if-not-branch.false, c.shape.ensures.value) at c.in_ok-add.ensures.on);
 }
 
-
 pub returns : goal.returns
 returns g c =
     let said = said_pattern c.args.pattern.now in
     let added = rw c.if-not-branch.false at c.in_ok-add.ensures.added in
     with_lines _ _ c.why_unlawful.result (added ∙ ap (λ ls. ls ++ said ∷ []) c.make_room.ensures)
     (rw (stored_is g (goal.at.returns g c).After-line) at c.why_unlawful.ensures)
-

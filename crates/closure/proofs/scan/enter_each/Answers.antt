@@ -10,7 +10,6 @@ enter-requires g c = record {
   region = c.loop-line.invariant.region;
 }
 
-
 pub loop-line-preserved : goal.loop-line-preserved
 loop-line-preserved g c =
     let old = c.loop-line.invariant in
@@ -21,4 +20,3 @@ loop-line-preserved g c =
       entries = entries_more c.args.board.now (list_in c.args.arena.now) c.loop-line.line c.loop-line.entries.items _ c.in_ok-enter.field-0 old.entries
           c.push_reserved.ensures.items (rw c.pattern.ensures.pattern at c.in_ok-enter.ensures.ok);
     }
-

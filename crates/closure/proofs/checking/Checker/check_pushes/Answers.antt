@@ -34,8 +34,6 @@ one_line g c covers =
     one_more (λ (j : ℕ). CoversPushesOf level (list_of groups) (pattern_at (list_of groups) j)) c.loop-line.line c.loop-line.invariant.covered
     (pattern_of_group level groups c.requires.tables.grouped c.loop-line.line (is_line g c) (rw (of_line g c) at covers))
 
-
-
 pub index_mut-requires : goal.index_mut-requires
 index_mut-requires g c =
     let low = is_group g (goal.at.index_mut-requires g c).After-index in

@@ -4,9 +4,6 @@ use Rattle.patterns.proofs.GroupPushes.{noted_more}
 use Rattle.closure.proofs.Rests.{none_rest}
 use Rattle.closure.proofs.checking.Checker.settle_head.Goals as goal
 
-
-
-
 pub returns-then-is_empty-clause-covered : goal.returns-then-is_empty-clause-covered
 returns-then-is_empty-clause-covered g c =
     let settled = c.in_ok-settle.ensures in
