@@ -158,7 +158,8 @@ class ThereAndBack(Case):
             text = "".join(chance.choice("ab") * chance.randint(1, 4)
                            for _ in range(chance.randint(0, 6)))
             self.assertEqual(coding.expand(coded(chance, text), 1000), text)
-        for text, most in (("3(a2b)", 9), ("2(2(2a))", 8), ("a", 1), ("", 0)):
+        self.assertEqual(coding.expand("aa", 1), "aa")  # no limit for what isn't coded
+        for text, most in (("3(a2b)", 9), ("2(2(2a))", 8), ("(a)", 1), ("()", 0)):
             self.assertEqual(len(coding.expand(text, most)), most)
             self.assertRaises(coding.Wrong, coding.expand, text + "a", most)
         for text in ("(", ")", "2", "2)", "(2)", "(" * 21 + ")" * 21, "9" * 5000 + "a"):

@@ -182,7 +182,7 @@ class Collection:
                                                    else "not exactly one player"))
         try:
             most = texts.MOST_BYTES - self._letters
-            text = coding.expand(letters, most) if coding.is_coded(letters) else letters
+            text = coding.expand(letters, most)
         except coding.Wrong as wrong:
             return _failed(str(wrong))
         self._played += len(text)

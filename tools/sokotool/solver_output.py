@@ -25,7 +25,7 @@ def solution_in(level: Level, parts: Sequence[bytes]) -> Tuple[Optional[bytes], 
             continue
         tried.add(text)
         try:
-            spelled = coding.expand(text, left) if coding.is_coded(text) else text
+            spelled = coding.expand(text, left)
         except coding.Wrong:
             continue
         left -= len(spelled)

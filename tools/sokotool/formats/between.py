@@ -295,7 +295,7 @@ class Between:
 
 def _length(piece: str) -> int:
     """Returns the number of letters of a text, written out if it is coded as a whole."""
-    return len(coding.expand(piece, 1 << 25) if coding.is_coded(piece) else piece)
+    return len(coding.expand(piece, 1 << 25))
 
 
 def is_foreign_board(lines: List[str]) -> bool:

@@ -26,9 +26,7 @@ def untagged(line: str) -> str:
 def are_alone(line: str) -> bool:
     """Returns whether a line is letters, run-length coded or not, perhaps quoted or numbered."""
     line = untagged(line)
-    if _NAME.match(line):
-        return False
-    return bool(_ALONE.fullmatch(line, _FRONT.match(line).end()))  # type: ignore[union-attr]
+    return not _NAME.match(line) and bool(_ALONE.fullmatch(_FRONT.sub("", line, 1)))
 
 
 def heads(line: str) -> bool:
@@ -38,9 +36,7 @@ def heads(line: str) -> bool:
 
 def packed(line: str) -> str:
     """Returns the letters of a line that has nothing else, without blanks and the like."""
-    line = untagged(line)
-    front = _FRONT.match(line)
-    return line[front.end() if front else 0:].translate(_NO_BETWEEN)
+    return _FRONT.sub("", untagged(line), 1).translate(_NO_BETWEEN)
 
 
 def among_words(line: str) -> List[str]:
@@ -62,12 +58,10 @@ def among_words(line: str) -> List[str]:
 
 def _sequences(text: str) -> List[str]:
     whole = _LOOSE_NUMBER.sub(" ", text).translate(_NO_BETWEEN)
-    if not coding.is_coded(whole):
-        return [whole]
     try:
         coding.expand(whole, 1 << 25)
-        return [whole]
     except coding.TooLong:
-        return [whole]
+        pass
     except coding.Wrong:
         return [found.translate(_NO_BETWEEN) for found in _PURE.findall(text)]
+    return [whole]

@@ -149,7 +149,7 @@ def _spelled(line: str) -> Optional[Tuple[str, ...]]:
             not line.strip("#0123456789") and re.search("#[0-9]", line)):
         return None
     try:
-        text = coding.expand(line, WIDEST * (WIDEST + 1)) if coding.is_coded(line) else line
+        text = coding.expand(line, WIDEST * (WIDEST + 1))
     except coding.Wrong:
         return None
     found = tuple(row for row in text.translate(LETTERS).split("|") if row)
