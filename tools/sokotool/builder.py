@@ -1,5 +1,5 @@
 """A collection while it is built: the text of its levels, their solutions, and messages."""
-from typing import Callable, Dict, List, NamedTuple, Optional, Sequence, Tuple
+from typing import Callable, Dict, List, NamedTuple, Optional, Sequence, Tuple, Union
 
 from . import answers, levels, texts
 from .board import Board, Replay, board_of
@@ -35,15 +35,21 @@ class Try(NamedTuple):
     attempt: Attempt
     notes: List[str]
 
+    def record(self, level: int) -> bytes:
+        """Returns the letters as the record of a level, after the comments."""
+        notes = "".join(f"; {texts.shown(note).strip(' ;')}\n" for note in self.notes)
+        return notes.encode("utf-8", "replace") + answers.solution(level, self.attempt.letters)
+
 
 class Collection:
     """Collects levels, text and solutions.
 
     `faults` counts what was reported as left out or wrong. Of these, `unsolved` counts the
     solutions that are kept although they leave boxes off the goals, and `torn` the levels that seem
-    to lack rows. If both of the best are kept, `others` has the solutions with fewer pushes by the
-    numbers of their levels. With `split`, a collection that is too large becomes several: `count`
-    has the levels of the last one, and `total` all levels. If it doesn't, `advice` follows.
+    to lack rows. `kept` has the answers by the places of their levels among all, from 0, and
+    `others` the solutions with fewer pushes, if both of the best are kept. With `split`, a
+    collection that is too large becomes several, each with its text: `count` has the levels of the
+    last one, and `total` all levels. If it doesn't, `advice` follows.
     """
 
     def __init__(self, best: str = "", split: bool = False, encoding: str = "",
@@ -51,10 +57,9 @@ class Collection:
                  advice: str = "; --split writes several collections") -> None:
         self.best, self.split, self.encoding, self.advice = best, split, encoding, advice
         self._report = report
-        self.full: List[Tuple[bytes, bytes]] = []
-        self.text = bytearray()
-        self.records: List[bytes] = []
-        self.others: Dict[int, bytes] = {}
+        self.texts, self._firsts = [bytearray()], [0]
+        self.kept: Dict[int, Union[Try, answers.Answer]] = {}
+        self.others: Dict[int, Try] = {}
         self.count = self.total = 0
         self.solutions = self.faults = self.unsolved = self.torn = 0
         self.file = self.published = ""
@@ -102,7 +107,7 @@ class Collection:
     def summary(self) -> str:
         """Returns how much was read and left out."""
         unsolved = f", {self.unsolved} unsolved" if self.unsolved else ""
-        files = f" in {len(self.full) + 1} collections" if self.full else ""
+        files = f" in {len(self.texts)} collections" if len(self.texts) > 1 else ""
         return (f"{self.total} levels{files}, {self.solutions} solutions, "
                 f"{self.faults - self.unsolved - self.torn} left out{unsolved}")
 
@@ -152,20 +157,20 @@ class Collection:
         file."""
         most = texts.MOST_BYTES // 4 * 3
         return (self.count == levels.MOST_LEVELS or self._letters > most
-                or self.count > 0 and len(self.text) + length > most)
+                or self.count > 0 and len(self.texts[-1]) + length > most)
 
     def _begin_next(self) -> None:
-        self.full.append((bytes(self.text), answers.text(self.records)))
-        self.text, self.records = bytearray(), []
+        self.texts.append(bytearray())
+        self._firsts.append(self.total)
         self.count = self._letters = 0
         self.add_text(self.source())
 
     def _add(self, text: str) -> None:
         data = text.encode("utf-8", "replace")
-        if len(self.text) + len(data) >= texts.MOST_BYTES:
+        if len(self.texts[-1]) + len(data) >= texts.MOST_BYTES:
             raise texts.Stop(f"{texts.shown(self.file)}: the levels are longer than "
                              f"{texts.MOST_BYTES} bytes{self.advice}")
-        self.text += data + b"\n"
+        self.texts[-1] += data + b"\n"
         self._after_row = False
 
     # ---- solutions
@@ -212,12 +217,11 @@ class Collection:
             self.fault(it.line, f"the solution of level {self.count} {it.attempt.why}", it.file)
             self.unsolved += it is kept
         if kept:
-            self.records.append(answers.solution(self.count, kept.attempt.letters))
+            self.kept[self.total - 1] = kept
             self.solutions += 1
-            self._letters += len(kept.attempt.letters)
         if other:
-            self.others[self.count] = answers.solution(self.count, other.attempt.letters)
-            self._letters += len(other.attempt.letters)
+            self.others[self.total - 1] = other
+        self._letters += sum(len(it.attempt.letters) for it in (kept, other) if it)
         self.level = self._board = None
         self._tries, self._spares = [], []
 
@@ -243,7 +247,15 @@ class Collection:
 
     def parts(self) -> List[Tuple[bytes, bytes]]:
         """Returns the levels and the answers of each collection."""
-        return [*self.full, (bytes(self.text), answers.text(self.records))]
+        kept = sorted(self.kept.items())
+        return [(bytes(text), answers.text([it.record(at - first + 1) for at, it in kept
+                                            if first <= at < end]))
+                for text, first, end in zip(self.texts, self._firsts,
+                                            [*self._firsts[1:], self.total])]
+
+    def other_answers(self) -> bytes:
+        """Returns the answers file of `others`."""
+        return answers.text([it.record(at + 1) for at, it in sorted(self.others.items())])
 
     def files(self, name: str) -> List[Tuple[str, bytes]]:
         """Returns the names and bytes of the two files of each collection, with NAME-1.* and so on

@@ -140,8 +140,7 @@ def converted(given: Run, reading: Reading) -> Conversion:
             given.shown.keep(place.said(why))
         raise texts.Stop("these files have no level" + quotes * (
             len(options.exports) > 1 and os.path.exists(whole)))
-    others = answers.text([record for _, record in sorted(collection.others.items())])
-    files = [*(data for _, data in collection.files(given.name)), others]
+    files = [*(data for _, data in collection.files(given.name)), collection.other_answers()]
     return Conversion(reading.digest(), files, places.Origins(collection.origins, problems), notes)
 
 

@@ -93,7 +93,7 @@ def read_back(text: bytes, best: str) -> List[exporting.Entry]:
     found = levels.read(data)
     solutions, others = ({record.level: (record.letters.decode(), ())
                           for record in answers.read(text).records}
-                         for text in (solved, answers.text([*collection.others.values()])))
+                         for text in (solved, collection.other_answers()))
     return exporting.content_of(data, found, solutions, others)[1]
 
 

@@ -30,7 +30,7 @@ class Lists:
         self._lists: List[Tuple[str, Sequence[str], str]] = []
         # files of answers, with the forms of the levels that they count
         self._answers: List[Tuple[str, Sequence[forms.Form], Sequence[answers.Record]]] = []
-        self._certificates: Dict[int, bytes] = {}
+        self._certificates: Dict[int, answers.Answer] = {}
         # the exports by their paths without the end, with the places of their levels
         self._exports: List[Tuple[str, range]] = []
         # each level, with its collection: 0, or more if it was split
@@ -55,9 +55,8 @@ class Lists:
     def place(self) -> None:
         if not self._lists and not self._answers:
             return
-        parts = self.collection.parts()
-        self._levels = [(part, level) for part, (text, _) in enumerate(parts)
-                        for level in levels.read(text)]
+        self._levels = [(part, level) for part, text in enumerate(self.collection.texts)
+                        for level in levels.read(bytes(text))]
         for at, (_, level) in enumerate(self._levels):
             for name in {key_of(level.title), key_of(level.title.strip(DRESS))} - {""}:
                 self._by_title.setdefault(name, []).append(at)
@@ -65,12 +64,10 @@ class Lists:
             self._place_answers(*answered)
         for listed in self._lists:
             self._read(*listed)
-        for part, (text, written) in enumerate(parts):
-            records = self._joined(part, answers.read(written).records)
-            if part < len(self.collection.full):
-                self.collection.full[part] = (text, answers.text(records))
-            else:
-                self.collection.records = records
+        for at, several in sorted(self._found.items()):
+            self._join(at, several)
+        for at, answer in self._certificates.items():
+            self.collection.kept.setdefault(at, answer)
 
     # ---- answers
 
@@ -97,7 +94,7 @@ class Lists:
         """Gives an answer to a level. Returns in words why it doesn't hold, or ""."""
         level = self._levels[at][1]
         if answer.kind != "solution":
-            self._certificates.setdefault(at, answer.record(level.number))
+            self._certificates.setdefault(at, answer)
             return ""
         attempt = self.collection.attempt_on(board_of(level), answer.letters.decode("latin-1"))
         if attempt.why:
@@ -203,35 +200,12 @@ class Lists:
                 and not _BARE_NUMBER.fullmatch(words.text)
                 and not any(name in self._by_title for name in names(words.text))]
 
-    # ---- records
-
-    def _joined(self, part: int, records: Sequence[answers.Record]) -> List[bytes]:
-        """Returns the records of a collection with the solutions of the lists."""
-        texts_of = {record.level: record.text for record in records}
-        own = {record.level: record.letters for record in records}
-        others = {record.level: record.letters for record in answers.read(
-            answers.text(list(self.collection.others.values())), rising=False).records}
-        for at, (other_part, level) in enumerate(self._levels):
-            several = self._found.get(at, [])
-            if other_part != part:
-                continue
-            if at in self._certificates and not several:
-                texts_of.setdefault(level.number, self._certificates[at])
-            if not several:
-                continue
-            before = [Try("", 0, self.collection.attempt_on(board_of(level), it.decode()), [])
-                      for it in [own.get(level.number), others.get(level.number)] if it]
-            kept, other = self.collection.choose(
-                level.number, [it for it in before if not it.attempt.why] + several)
-            self.collection.others.pop(level.number, None)
-            if other:
-                self.collection.others[level.number] = _record(level.number, other)
-            self.collection.solutions += not before
-            if kept.line:
-                texts_of[level.number] = _record(level.number, kept)
-        return [text for _, text in sorted(texts_of.items())]
-
-
-def _record(number: int, found: Try) -> bytes:
-    notes = "".join(f"; {texts.shown(note).strip(' ;')}\n" for note in found.notes)
-    return notes.encode("utf-8", "replace") + answers.solution(number, found.attempt.letters)
+    def _join(self, at: int, several: Sequence[Try]) -> None:
+        """Keeps the best of the solutions of the lists and of those that a level has."""
+        kept, others = self.collection.kept, self.collection.others
+        self.collection.solutions += at not in kept
+        before = [it for it in (kept.get(at), others.pop(at, None))
+                  if isinstance(it, Try) and not it.attempt.why]
+        kept[at], other = self.collection.choose(self._levels[at][1].number, [*before, *several])
+        if other:
+            others[at] = other
