@@ -5,7 +5,7 @@ import shutil
 import subprocess
 import sys
 import tempfile
-from typing import Any, Iterator, NamedTuple, Optional, Sequence, Tuple
+from typing import Iterator, NamedTuple, Optional, Sequence, Tuple
 
 from . import answers, levels, report, system, texts
 
@@ -69,23 +69,18 @@ class Auditor(NamedTuple):
         return ran.out
 
 
-class Audits:
-    """Runs sokoaudit on a collection. `text` is the last report."""
+class Audits(contextlib.ExitStack):
+    """Runs sokoaudit on a collection, in a folder of its own. `text` is the last report."""
 
     def __init__(self, program: Auditor, levels_text: bytes, count: int) -> None:
+        super().__init__()
         self.program, self.count = program, count
-        self._folder = tempfile.TemporaryDirectory()
+        self._folder = self.enter_context(tempfile.TemporaryDirectory())
         self._levels = self._put("levels", levels_text)
         self.text = b""
 
-    def __enter__(self) -> "Audits":
-        return self
-
-    def __exit__(self, *_: Any) -> None:
-        self._folder.cleanup()
-
     def _put(self, name: str, data: bytes) -> str:
-        path = os.path.join(self._folder.name, name)
+        path = os.path.join(self._folder, name)
         with open(path, "wb") as file:
             file.write(data)
         return path
@@ -101,14 +96,14 @@ class Audits:
 
     def made(self, some: Sequence[levels.Level]) -> Iterator[Tuple[int, answers.Answer]]:
         """Yields the certificates that sokoaudit makes for some levels, with their numbers."""
-        text = b"\n".join(b"".join(row + b"\n" for row in level.rows) for level in some)
+        text = b"\n".join(answers.spelled(level.rows) for level in some)
         for record in answers.read(self.program.make(self._put("some", text))).records:
             yield some[record.level - 1].number, record.answer
 
 
 def refusal(program: Auditor, level: levels.Level, lines: Sequence[bytes]) -> str:
     """Returns why an audit refuses lines as a certificate of a level, or ""."""
-    with Audits(program, b"".join(row + b"\n" for row in level.rows), 1) as audits:
+    with Audits(program, answers.spelled(level.rows), 1) as audits:
         line = audits.audit(answers.text([answers.certificate(1, lines)])).lines[0]
     if line.is_answered:
         return ""

@@ -1,5 +1,6 @@
 """What changed from one state of a collection to another: levels are matched by their boards, and
 the others by title or position."""
+from itertools import groupby
 from types import MappingProxyType
 from typing import (Callable, Dict, Hashable, Iterator, List, Mapping, NamedTuple, Optional,
                     Sequence, Set)
@@ -193,10 +194,7 @@ def runs(found: Sequence[Change]) -> List[List[Change]]:
 
 def ranges(numbers: Sequence[int]) -> str:
     """Returns rising numbers as text, consecutive ones as `4-9`."""
-    runs: List[List[int]] = []
-    for number in numbers:
-        if runs and runs[-1][1] == number - 1:
-            runs[-1][1] = number
-        else:
-            runs.append([number, number])
-    return ", ".join(f"{first}-{last}" if first < last else str(first) for first, last in runs)
+    # Consecutive numbers are equally far from their indices.
+    runs = [[number for _, number in run] for _, run in groupby(
+        enumerate(numbers), lambda it: it[1] - it[0])]
+    return ", ".join(f"{run[0]}-{run[-1]}" if len(run) > 1 else str(run[0]) for run in runs)

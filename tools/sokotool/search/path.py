@@ -1,17 +1,15 @@
 """The letters of a play: the pushes of a plan with the steps of the player between them."""
 from typing import Dict, Iterable, List, Tuple
 
-from .rooms import Room
-
-_DIRECTIONS = "lurd"
+from .rooms import Room, bits
 
 
 def letters_of(room: Room, plan: Iterable[Tuple[int, int]]) -> bytes:
     """Returns the letters of a plan that brings all boxes of a room to goals. It has the places of
     a box before and after each push."""
-    steps = {name: room.board.steps[name] for name in _DIRECTIONS}
+    steps = room.board.steps
     names = {step: name for name, step in steps.items()}
-    boxes = {place for place in range(room.cells.bit_length()) if room.boxes >> place & 1}
+    boxes = {box.bit_length() - 1 for box in bits(room.boxes)}
     player, letters = room.player.bit_length() - 1, []
     for box, to in plan:
         letters.append(_walk(room, boxes, (player, 2 * box - to), steps))
