@@ -115,16 +115,11 @@ class Collection:
 
     def add_text(self, line: str) -> None:
         """Adds a line that isn't a row, as a comment if the auditor would read it as one."""
-        self._add(("; " + line if levels.is_row(line.encode("utf-8", "replace")) else line))
-
-    def add_lines(self, lines: Sequence[str]) -> None:
-        """Adds lines without a wall."""
-        if lines:
-            self._add("\n".join(lines))
+        self.add("; " + line if levels.is_row(line.encode("utf-8", "replace")) else line)
 
     def add_comment(self, lines: Sequence[str]) -> None:
         """Adds rows that aren't a level, as comments."""
-        self._add("; " + "\n; ".join(lines))
+        self.add("; " + "\n; ".join(lines))
 
     def add_level(self, rows: Sequence[str], line: int, title: str = "") -> None:
         """Adds a level, after an empty line if the line before is a row."""
@@ -136,8 +131,8 @@ class Collection:
             raise texts.Stop(f"{texts.shown(self.file)} line {line}: more than "
                              f"{levels.MOST_LEVELS} levels{self.advice}")
         if self._after_row:
-            self._add("")
-        self._add(drawn)
+            self.add("")
+        self.add(drawn)
         self.count += 1
         self.total += 1
         self._after_row = True
@@ -145,8 +140,7 @@ class Collection:
         self.level = levels.Level(self.count, kept, line)
         self.origins.append(self._place(line))
         self._board = board_of(self.level)
-        doubt = self._board.doubt
-        if doubt:
+        if doubt := self._board.doubt:
             self.fault(line, f"level {self.count} {doubt}")
             self.torn += 1
         if title:
@@ -165,7 +159,8 @@ class Collection:
         self.count = self._letters = 0
         self.add_text(self.source())
 
-    def _add(self, text: str) -> None:
+    def add(self, text: str) -> None:
+        """Adds lines as they are."""
         data = text.encode("utf-8", "replace")
         if len(self.texts[-1]) + len(data) >= texts.MOST_BYTES:
             raise texts.Stop(f"{texts.shown(self.file)}: the levels are longer than "
@@ -198,13 +193,10 @@ class Collection:
                        not (replay.fault or "").startswith("move"), _why(replay, text),
                        replay.solved)
 
-    def add_try(self, line: int, attempt: Attempt) -> None:
-        """Adds an attempt to solve the last level; a level may have several."""
-        self._tries.append(Try(self.file, line, attempt, []))
-
-    def add_spare(self, line: int, attempt: Attempt) -> None:
-        """Adds letters that solve the last level, for use if no solution does."""
-        self._spares.append(Try(self.file, line, attempt, []))
+    def add_try(self, line: int, attempt: Attempt, is_spare: bool = False) -> None:
+        """Adds an attempt to solve the last level; a level may have several. A spare one solves it,
+        and is used if no other does."""
+        (self._spares if is_spare else self._tries).append(Try(self.file, line, attempt, []))
 
     def end_level(self) -> None:
         """Ends the last level, and adds the solution of it that is kept."""

@@ -17,10 +17,12 @@ LONG = 8
 # how many lines are added to the text at once
 MOST_ADDED = 1 << 20
 MOST_TRIED, MOST_PARTS, MOST_LINES = 1000, 100, 5000
-_EVENT = re.compile(b"[^%b%b%b]" % tuple(bytes([it]) for it in (headings.TEXT, BLANK,
-                                                                headings.KEY)))
 _LETTER, _BLANK = bytes([LETTERS]), bytes([BLANK])
-_LETTERS = re.compile(b"[%b%b]+" % (_LETTER, _BLANK))
+# lines of letters with at most one blank line between two, or another line that counts
+_EVENT = re.compile(b"(%b+(?:%b%b+)*)|[^%b]" % (
+    _LETTER, _BLANK, _LETTER, bytes((headings.TEXT, BLANK, headings.KEY))))
+# letters, perhaps after a blank line
+_NEAR = re.compile(b"%b?%b" % (_BLANK, _LETTER))
 
 
 class Heading(NamedTuple):
@@ -58,17 +60,12 @@ class Between:
         """Reads the lines from `first` up to `end`."""
         self.kept, self.heading, self.tried, self.idle = first, None, {}, set()
         at = first
-        while True:
-            event = _EVENT.search(self.kinds, at, end)
-            if not event:
-                break
-            at = event.start()
-            if self.kinds[at] == LETTERS:
-                stop = self._end_of_letters(at, end)
-                self._read_letters(at, stop)
-                at = stop
+        while event := _EVENT.search(self.kinds, at, end):
+            at = event.end()
+            if event[1]:
+                self._read_letters(event.start(), at)
             else:
-                at = self._read_line(at, end)
+                at = self._read_line(event.start(), end)
         self._end_heading()
         self._keep(end)
         if end - first == 1 and self.kinds[first] != WALLS:
@@ -78,7 +75,7 @@ class Between:
         """Adds the lines up to `end` to the text of the collection, and leaves out those from there
         up to `after`."""
         for at in range(self.kept, end, MOST_ADDED):
-            self.collection.add_lines(self.lines[at:min(end, at + MOST_ADDED)])
+            self.collection.add("\n".join(self.lines[at:min(end, at + MOST_ADDED)]))
         self.kept = after or end
 
     # ---- single lines
@@ -86,7 +83,8 @@ class Between:
     def _read_line(self, at: int, end: int) -> int:
         """Reads a line that is not letters alone. Returns where to go on."""
         kind, line = self.kinds[at], self.lines[at]
-        if line in self.idle and self.heading is None and not self._goes_on(at, end):
+        goes_on = bool(_NEAR.match(self.kinds, at + 1, end))
+        if line in self.idle and self.heading is None and not goes_on:
             return at + 1
         if kind == WALLS and at in self.reasons:
             after, why = self.reasons[at]
@@ -110,16 +108,11 @@ class Between:
         if kind not in PASSED:
             self._end_heading()
         if not self.is_skipping and kind not in (TITLE, TYPE):
-            self._read_words(at, kind, self._goes_on(at, end))
+            self._read_words(at, kind, goes_on)
         return at + 1
 
-    def _goes_on(self, at: int, end: int) -> bool:
-        """Returns whether letters follow a line, perhaps after an empty one."""
-        after = self.kinds[at + 1:min(end, at + 3)]
-        return after[:1] == _LETTER or after == _BLANK + _LETTER
-
     def _read_words(self, at: int, kind: int, goes_on: bool) -> None:
-        """Tries the letters of a line, and remembers a heading."""
+        """Tries the letters of a line, and remembers a heading. Other letters may follow."""
         found = self.among_words[self.lines[at]]
         is_solved = self.collection.level is not None and self._try_words(at, found, kind)
         if (kind == HEADING and self.collection.level is not None
@@ -149,10 +142,7 @@ class Between:
         for text in found:
             attempt = self._attempt(text)
             if attempt and attempt.why is None:
-                if kind in (HEADING, SOFT):
-                    self.collection.add_try(at + 1, attempt)
-                else:
-                    self.collection.add_spare(at + 1, attempt)
+                self.collection.add_try(at + 1, attempt, kind not in (HEADING, SOFT))
                 return True
         return False
 
@@ -175,23 +165,12 @@ class Between:
                 self._report_no_level(heading.at)
         elif heading.front and (heading.kind == HEADING or len(heading.front) >= LONG
                                 or headings.ends_in_letters(self.lines[heading.at])):
-            attempt = self._attempt(heading.front)
-            if attempt:
+            if attempt := self._attempt(heading.front):
                 self.collection.add_try(heading.at + 1, attempt)
         elif heading.kind == HEADING:
             self.collection.fault(heading.at + 1, "a solution heading with no letters")
 
     # ---- letters
-
-    def _end_of_letters(self, at: int, end: int) -> int:
-        """Returns the end of a run of lines of letters with at most one blank line between two."""
-        match = _LETTERS.match(self.kinds, at, end)
-        stop = match.end() if match else at + 1
-        two = self.kinds.find(_BLANK * 2, at, stop)
-        stop = stop if two < 0 else two
-        while self.kinds[stop - 1] == BLANK:
-            stop -= 1
-        return stop
 
     def _read_letters(self, first: int, stop: int) -> None:
         heading = self.heading
@@ -217,30 +196,25 @@ class Between:
         If there are letters in front, the first solution begins with them; returns false, and reads
         nothing, if that solves nothing.
         """
-        parts = 0
-        while first < stop:
-            if parts == MOST_PARTS:
-                self.collection.fault(first + 1, "letters that were not tried: too many before")
-                break
+        for _ in range(MOST_PARTS):
             end = min(stop, first + MOST_LINES)
             pieces = list(map(self.packed.__getitem__, self.lines[first:end]))
             attempt = self.collection.attempt(front + "".join(pieces))
             used = self._solved_end(front, pieces, attempt, first)
             if not used and front:
                 return False
-            parts += 1
-            if used:
-                if used < end - first or attempt.why is not None:
-                    attempt = self.collection.attempt(front + "".join(pieces[:used]))
-            else:
-                used, blank = end - first, self.kinds.find(BLANK, first, end)
-                if blank >= 0 and not attempt.plays:
-                    used = blank - first
-                    attempt = self.collection.attempt("".join(pieces[:used]))
+            if not used:
+                blank = self.kinds.find(BLANK, first, end)
+                used = blank - first if blank >= 0 and not attempt.plays else end - first
+            if used < end - first:
+                attempt = self.collection.attempt(front + "".join(pieces[:used]))
             self._take(first, first + used, heading, attempt)
             first, heading, front = first + used, None, ""
             while first < stop and self.kinds[first] == BLANK:
                 first += 1
+            if first == stop:
+                return True
+        self.collection.fault(first + 1, "letters that were not tried: too many before")
         return True
 
     def _solved_end(self, front: str, pieces: List[str], attempt: Attempt, first: int) -> int:
@@ -252,14 +226,14 @@ class Between:
                 first:first + len(pieces)]:
             return len(pieces)
         try:
-            lengths = list(accumulate(map(_length, [front, *pieces])))
+            lengths = [*accumulate(len(coding.expand(it, 1 << 25)) for it in (front, *pieces))]
         except coding.Wrong:
             return len(pieces) if attempt.why is None else 0
         starts = [first for first, _ in attempt.solved]
         found = 0
         for at, count in enumerate(lengths[1:], 1):
             span = bisect_right(starts, count) - 1
-            is_solved = span >= 0 and attempt.solved[span][0] <= count <= attempt.solved[span][1]
+            is_solved = span >= 0 and count <= attempt.solved[span][1]
             ends = at == len(pieces) or self.kinds[first + at] == BLANK
             if is_solved and (ends or not found) and pieces[at - 1]:
                 found = at
@@ -272,7 +246,7 @@ class Between:
         kind = heading.kind if heading else 0
         if kind == SAVED:
             if attempt.why is None:
-                self.collection.add_spare(first + 1, attempt)
+                self.collection.add_try(first + 1, attempt, True)
         elif attempt.why is None or kind in (HEADING, SOFT):
             self.collection.add_try(first + 1, attempt)
             self._keep(first, end)
@@ -291,11 +265,6 @@ class Between:
         why = rows.why_no_row(line, True) if is_between else self.why_no_row[line]
         if why:
             self.collection.fault(at + 1, why)
-
-
-def _length(piece: str) -> int:
-    """Returns the number of letters of a text, written out if it is coded as a whole."""
-    return len(coding.expand(piece, 1 << 25))
 
 
 def is_foreign_board(lines: List[str]) -> bool:

@@ -15,7 +15,8 @@ from .. import auditor, levels, texts
 from ..levels import FLOOR, WALL
 from . import letters
 
-LETTERS_IN_LINE = 70
+# a line of letters
+_LINE = re.compile(".{1,70}")
 _TITLE = re.compile(r"[ \t]*title[ \t]*:[ \t]*(.*)", re.I)
 _AUTHOR = re.compile(r"[; \t]*(author|copyright)[ \t]*:[ \t]*(.*\S)", re.I)
 # lines that sokotool writes
@@ -40,10 +41,8 @@ class Entry(NamedTuple):
     other: str
 
     def solutions(self) -> List[Tuple[str, str]]:
-        if not self.other:
-            return [("Solution", self.letters)] if self.letters else []
-        both = ("Solution/Moves", self.letters), ("Solution/Pushes", self.other)
-        return [(head, solved) for head, solved in both if solved]
+        heads = ("Solution/Moves", "Solution/Pushes") if self.other else ("Solution", "")
+        return [(head, it) for head, it in zip(heads, (self.letters, self.other)) if it]
 
 
 def content_of(data: bytes, found: Sequence[levels.Level], solutions: Mapping[int, Solution],
@@ -97,11 +96,8 @@ def _text(lines: Sequence[bytes], titles: Container[str], next_title: str) -> Li
         kept.append("Collection: " + match.group(1) if match else line.rstrip())
     if title_at >= 0:
         del kept[title_at]
-    while kept and not kept[-1]:
-        kept.pop()
-    while kept and not kept[0]:
-        kept.pop(0)
-    return kept
+    text = "\n".join(kept).strip("\n")
+    return text.split("\n") if text else []
 
 
 # ---- forms of lines
@@ -119,13 +115,9 @@ def sok(head: Sequence[str], entries: Sequence[Entry],
                      if not line or _COMMENT.fullmatch(line)), len(entry.text))
         yield from entry.text[:keys]
         for head, solved in entry.solutions():
-            yield from ["", head, *_cut(solved)]
+            yield from ["", head, *_LINE.findall(solved)]
         if entry.text[keys:]:
             yield from ["", *entry.text[keys:]]
-
-
-def _cut(text: str) -> List[str]:
-    return [text[at:at + LETTERS_IN_LINE] for at in range(0, len(text), LETTERS_IN_LINE)]
 
 
 def _coded(entry: Entry) -> List[str]:
@@ -148,7 +140,7 @@ def xsb(head: Sequence[str], entries: Sequence[Entry]) -> Iterator[str]:
         if entry.title and not is_read:
             yield "Title: " + entry.title
         for head, solved in entry.solutions():
-            yield from ["; " + head, *("; " + line for line in _cut(solved))]
+            yield from ["; " + head, *("; " + line for line in _LINE.findall(solved))]
         if entry.text:
             yield from ["", *map(_comment, entry.text)]
 

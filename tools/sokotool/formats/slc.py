@@ -115,14 +115,15 @@ class _Reader:
             self.collection.fault(self.line, "a solution heading with no letters")
 
     def end_level(self) -> None:
-        """Adds the level that is open, with its texts and solutions below it."""
-        drawn, title = self.rows, " ".join(self.title.split())
+        """Adds the level that is open, with its texts and solutions below it. An empty row within
+        it cuts it in two."""
+        drawn, title = "\n".join(self.rows or []).rstrip("\n"), " ".join(self.title.split())
         self.rows, self.title = None, ""
-        while drawn and not drawn[-1]:
-            drawn.pop()
-        if drawn:
-            self._add_levels(drawn, title)
-        elif title:
+        if "\n\n" in drawn:
+            self.collection.fault(self.first, "a row without a wall, which ends the level")
+        for part in re.split("\n\n+", drawn) if drawn else ():
+            self.collection.add_level(part.split("\n"), self.first, title)
+        if title and not drawn:
             self.collection.add_text("; " + title)
         for line in filter(None, self.said):
             self.collection.add_text(line)
@@ -130,21 +131,10 @@ class _Reader:
             for text in found if self.collection.level else ():
                 attempt = self.collection.attempt(text)
                 if attempt.why is None:
-                    self.collection.add_spare(self.first, attempt)
+                    self.collection.add_try(self.first, attempt, True)
         solutions, self.said, self.solutions = self.solutions, [], []
         for text in solutions:
             self._try(text)
-
-    def _add_levels(self, drawn: List[str], title: str) -> None:
-        """Adds the rows as a level; an empty row within them cuts it in two."""
-        at = 0
-        if "" in drawn:
-            self.collection.fault(self.first, "a row without a wall, which ends the level")
-        while at < len(drawn):
-            end = drawn.index("", at) if "" in drawn[at:] else len(drawn)
-            if drawn[at:end]:
-                self.collection.add_level(drawn[at:end], self.first, title)
-            at = end + 1
 
 
 class _Refused(Exception):
