@@ -170,20 +170,15 @@ def read_text(name: str, data: bytes, levels: Optional[int] = None, rising: bool
     """Reads an answers text of this name; its first fault ends the command."""
     try:
         found = read(data, levels, rising)
-        check_ends(found)
+        # Where a record seems to go on in the next one, the auditor reads both as one, and refuses
+        # that.
+        for number, line in (it for record in found.records for it in record.body):
+            if _LEVEL.fullmatch(line):
+                raise Fault(number, "end")
         return found
     except Fault as fault:
         place = "" if fault.why == "header" else f"line {fault.line}: "
         raise texts.Stop(f"{texts.shown(name)} {place}{advice(data, fault, levels)}") from None
-
-
-def check_ends(found: Answers) -> None:
-    """Raises a fault where a record seems to go on in the next one. The auditor reads both as one
-    record, and refuses that."""
-    for record in found.records:
-        for number, line in record.body:
-            if _LEVEL.fullmatch(line):
-                raise Fault(number, "end")
 
 
 def advice(data: bytes, fault: Fault, levels: Optional[int]) -> str:
