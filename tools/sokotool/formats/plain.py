@@ -29,9 +29,8 @@ NOTES = {"spaced": "no-break spaces were read as floor",
 
 def read(collection: Collection, lines: List[str]) -> None:
     """Reads the lines of a text into the collection."""
-    found, comments, reasons, has_marks = rows_of(lines)
-    if has_marks:
-        lines = [line.lstrip(rows.MARK) for line in lines]
+    found, comments, reasons = rows_of(lines)
+    lines = [line.lstrip(rows.MARK) for line in lines]
     kinds = bytearray(map(texts.Cache(headings.kind_of).__getitem__, lines))
     for first, end in comments:
         kinds[first:end] = kinds[first:end].translate(_IN_COMMENT)
@@ -66,28 +65,25 @@ def read(collection: Collection, lines: List[str]) -> None:
 
 # ---- which lines are rows
 
-def rows_of(lines: Sequence[str]) -> Tuple[Rows, List[Span], Reasons, bool]:
-    """Returns the row of each line, or None; the spans of comments, which have no rows; why some
-    lines that look like rows are none; and whether byte order marks are left at the start of lines.
-    """
-    reader = rows.Reader()
-    # Most lines of a long text have none of these characters.
-    found = [reader[line] if "#" in line or ":" in line or rows.MARK in line else None
-             for line in lines]
+def rows_of(lines: Sequence[str]) -> Tuple[Rows, List[Span], Reasons]:
+    """Returns the row of each line, or None; the spans of comments, which have no rows; and why
+    some lines that look like rows are none."""
+    read_row = texts.Cache(rows.read)
+    found = [read_row[line] if "#" in line else None for line in lines]
+    # Most texts have neither mazes nor comments.
+    keys = {line for line in lines if ":" in line and "#" not in line}
     is_maze = False
-    for at, line in enumerate(lines if reader.has_mazes else ()):
+    for at, line in enumerate(lines if any(map(rows.is_maze_head, keys)) else ()):
         is_maze = is_maze or rows.is_maze_head(line)
         found[at] = is_maze and rows.read_maze(line) or found[at]
-    comments = list(_comments(lines)) if reader.has_comments else []
+    comments = list(_comments(lines)) if any(map(rows.is_comment_end, keys)) else []
     for first, end in comments:
         found[first:end] = [None] * (end - first)
-    mazes = [at for at, row in enumerate(found) if row and row.kind == "maze"
-             ] if reader.has_mazes else []
+    mazes = [at for at, row in enumerate(found) if row and row.kind == "maze"]
     for first, end in list(runs(found)):
         _drop_others(found, first, end)
     return found, comments, {
-        at: (at + 1, "a row of a maze without others") for at in mazes if found[at] is None
-    }, reader.has_marks
+        at: (at + 1, "a row of a maze without others") for at in mazes if found[at] is None}
 
 
 def distinct(found: Rows) -> List[Row]:

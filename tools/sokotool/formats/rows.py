@@ -17,7 +17,7 @@ import html
 import re
 from typing import NamedTuple, Optional, Tuple
 
-from .. import levels, texts
+from .. import levels
 from ..levels import BOXES, GOALS, LETTERS, PLAYERS, ROW, WALL
 from . import coding
 
@@ -61,25 +61,6 @@ class Row(NamedTuple):
         return not any(_THINGS.intersection(row) for row in self.rows)
 
 
-class Reader(texts.Cache):
-    """Maps a line to the row that it may be, or None, and notes what else the text has.
-
-    Only lines with '#', ':' or a byte order mark are looked up.
-    """
-
-    def __init__(self) -> None:
-        super().__init__(self._row_of)
-        self.has_mazes = self.has_comments = self.has_marks = False
-
-    def _row_of(self, line: str) -> Optional[Row]:
-        self.has_marks = self.has_marks or line[:1] == MARK
-        if "#" in line:
-            return read(line)
-        self.has_mazes = self.has_mazes or is_maze_head(line)
-        self.has_comments = self.has_comments or is_comment_end(line)
-        return None
-
-
 def is_comment_end(line: str) -> bool:
     """Returns whether a line ends the comment of a level, as some editors write it."""
     return line[:40].strip(" \t:;").lower() in ("comment-end", "comment_end", "comment end")
@@ -111,8 +92,7 @@ def read(line: str) -> Optional[Row]:
     if line[0] == MARK:
         row = read(line[1:])
         return row and row._replace(starts=True)
-    lead = _LEAD.match(line)
-    if lead:
+    if lead := _LEAD.match(line):
         row = _read(line[lead.end():])
         return row and row._replace(lead=lead.group())
     return _read(line)
@@ -180,8 +160,7 @@ def why_no_row(line: str, is_between: bool) -> Optional[str]:
     core = line.strip(" ")
     if "\t" in core:
         return "a tab in a row, whose width is not known"
-    strange = _NOT_ROW_LIKE.search(core) or re.search("[~x^\u00a0]", core)
-    if strange:
+    if strange := _NOT_ROW_LIKE.search(core) or re.search("[~x^\u00a0]", core):
         return f"looks like a row, but {strange.group()!a} is no character of rows"
     return "looks like a coded row, but can't be read as one"
 
