@@ -4,6 +4,7 @@ A place is a number: row * stride + column, both from 1. The board has a rim of 
 adds a number to a place and never leaves the board.
 """
 import re
+from functools import cached_property
 from typing import FrozenSet, List, Optional, Sequence, Set, Tuple
 
 from . import levels, texts
@@ -33,7 +34,6 @@ class Board:
         self.walls = bytearray(b"\1") * (self.stride * (len(rows) + 2))
         self._read(rows)
         self.player = self.players[0] if len(self.players) == 1 else None
-        self._room: Optional[FrozenSet[int]] = None
         self._solved: Optional["Replay"] = None
         self.fault = self.fault or self._first_fault(level)
 
@@ -75,23 +75,21 @@ class Board:
             return "isn't closed by walls: are these all of its rows?"
         return None
 
-    @property
+    @cached_property
     def room(self) -> FrozenSet[int]:
         """The places that the player could reach if there were no boxes; none without exactly one
         player."""
-        if self._room is None:
-            walls, steps = self.walls, tuple(self.steps.values())
-            work = [] if self.player is None else [self.player]
-            found = set(work)
-            while work:
-                place = work.pop()
-                for step in steps:
-                    near = place + step
-                    if near not in found and not walls[near]:
-                        found.add(near)
-                        work.append(near)
-            self._room = frozenset(found)
-        return self._room
+        walls, steps = self.walls, tuple(self.steps.values())
+        work = [] if self.player is None else [self.player]
+        found = set(work)
+        while work:
+            place = work.pop()
+            for step in steps:
+                near = place + step
+                if near not in found and not walls[near]:
+                    found.add(near)
+                    work.append(near)
+        return frozenset(found)
 
     def place(self, column: int, row: int) -> Optional[int]:
         """Returns the place of a cell, or None off the board."""

@@ -1,5 +1,6 @@
 """Guesses the encoding of lines that aren't UTF-8, by the words that they would have."""
 import codecs
+import contextlib
 import re
 from typing import Callable, Dict, Iterator, Tuple
 
@@ -41,10 +42,8 @@ def guessed(data: bytes) -> str:
 def decoded(line: bytes, name: str) -> str:
     """Returns a line in an encoding, or byte for byte where it can't be in that one."""
     for codec in (CODECS.get(name, name), "cp1252"):
-        try:
+        with contextlib.suppress(UnicodeDecodeError):
             return line.decode(codec)
-        except UnicodeDecodeError:
-            continue
     return line.decode("latin-1")
 
 
@@ -97,22 +96,18 @@ def _cyrillic(word: str) -> float:
     return case * sum(_COMMON.get(c, 0.3) for c in word.lower()) / len(word)
 
 
-def _of_pairs(codec: str, usual: Tuple[int, int], signs: Tuple[int, int]) -> Callable[[str], float]:
+def _of_pairs(codec: str, *usual: range) -> Callable[[str], float]:
     """Returns what judges characters of two bytes by the first one: those in common use are all in
     one part of the table, and the signs in another."""
     def judge(word: str) -> float:
-        marks = [_mark(c.encode(codec)) for c in word if not c.isascii()]
+        pairs = (c.encode(codec) for c in word if not c.isascii())
+        marks = [1 if any(pair[0] in part for part in usual) else 0.2
+                 for pair in pairs if len(pair) == 2]
         return _DOUBT * sum(marks) / len(word)
-
-    def _mark(pair: bytes) -> float:
-        if len(pair) != 2:
-            return 0
-        is_usual = usual[0] <= pair[0] <= usual[1] or signs[0] <= pair[0] <= signs[1]
-        return 1 if is_usual else 0.2
     return judge
 
 
 _JUDGES: Dict[str, Callable[[str], float]] = {
     CP1252: _latin, CP437: _latin, CP1251: _cyrillic, KOI8_R: _cyrillic,
-    GB18030: _of_pairs("gb18030", (0xb0, 0xd7), (0xa1, 0xa3)),
-    SHIFT_JIS: _of_pairs("cp932", (0x88, 0x97), (0x81, 0x83))}
+    GB18030: _of_pairs("gb18030", range(0xb0, 0xd8), range(0xa1, 0xa4)),
+    SHIFT_JIS: _of_pairs("cp932", range(0x88, 0x98), range(0x81, 0x84))}

@@ -47,16 +47,13 @@ class Jobs:
                 for at, job in list(self._running.items()):
                     if job.is_over():
                         self._done[at] = self._running.pop(at).result()
-                while self._done:
-                    at = self._yielded if self.is_ordered else min(self._done)
-                    if at not in self._done:
-                        break
-                    self._yielded += 1
-                    yield self._done.pop(at)
+                for at in sorted(self._done):
+                    if at == self._yielded or not self.is_ordered:
+                        self._yielded += 1
+                        yield self._done.pop(at)
         finally:
             for at, job in self._running.items():
-                result = job.cut()
-                if result:
+                if result := job.cut():
                     self._done[at] = result
             self._close()
 

@@ -47,8 +47,7 @@ class Lost:
         direction = self.known.direction(player, pushed)
         if not direction.live & pushed:
             return self._pattern(pushed, player)
-        others = boxes & direction[pushed.bit_length() - 1]
-        if others:
+        if others := boxes & direction[pushed.bit_length() - 1]:
             return self._pattern(pushed | others & -others, player)
         found = self._of_several(boxes, player)
         assert found

@@ -105,8 +105,7 @@ class Cores:
         for place, ahead in self.plans[chosen]:
             target, box, to = 1 << 2 * place - ahead, 1 << place, 1 << ahead
             if player != target:
-                layers = self._layers(player, target, moved, others)
-                if layers:
+                if layers := self._layers(player, target, moved, others):
                     wanted = layers[-1:] if is_last else layers
                     hindering = self._on_path(target, wanted, moved | others)
             hindering = hindering or to & others

@@ -102,11 +102,9 @@ class Known:
     def is_lost_alone(self, box: int, player: int) -> bool:
         """Returns whether a box is lost with the player on a cell of the room."""
         free = self.room.cells ^ box
-        for direction in self.directions.values():
-            side = direction.back(box) & free
-            if side and not direction.live & box and self.room.flood(side, free) & player:
-                return True
-        return False
+        return any(not direction.live & box
+                   and self.room.flood(direction.back(box) & free, free) & player
+                   for direction in self.directions.values())
 
     def find_pairs(self, budget: Budget) -> None:
         """Finds the pairs that aren't lost, by pulls from the goals, unless there are too many or

@@ -24,8 +24,7 @@ def outcome(level: Level, seconds: float) -> Tuple[str, bytes]:
     budget, board, number = Budget(seconds), Board(level), level.number
     if board.fault:
         return ILLEGAL, b""
-    unreachable = board.boxes - board.goals - board.room
-    if unreachable:
+    if unreachable := board.boxes - board.goals - board.room:
         return FOUND, answers.patterns(number, [([board.cell(min(unreachable))], None)])
     room = Room(board)
     if not room.boxes & ~room.goals:
@@ -42,8 +41,7 @@ def outcome(level: Level, seconds: float) -> Tuple[str, bytes]:
         if not play:
             return LATE if budget.is_late() else FULL, b""
         lost, boxes = Lost(known, play.seen.items()), play.chosen
-    patterns = list_of(lost, boxes)
-    if patterns:
+    if patterns := list_of(lost, boxes):
         more = min(seconds * SHARE_TO_SHORTEN, budget.seconds_left() + OVERTIME)
         patterns = shorten(room, patterns, boxes, Budget(more))
     if not patterns or len(patterns) > MOST_PATTERNS:

@@ -5,6 +5,7 @@ from itertools import combinations
 from math import comb
 from typing import Dict, List, Optional, Sequence, Tuple
 
+from .. import texts
 from .budget import Budget
 from .closed import Pattern, Patterns, pushes_out
 from .rooms import Room, bits, count
@@ -17,7 +18,7 @@ class Cover:
 
     def __init__(self, patterns: Patterns, sizes: Sequence[int]):
         self.patterns, self.sizes = patterns, sizes
-        self.tried: Dict[int, List[int]] = {}
+        self.sizes_below = texts.Cache(self._sizes_below)
 
     def boxes(self, boxes: int, player: int, pushed: int) -> int:
         """Returns the boxes of a pattern that covers the state after a push, or no cell. Patterns
@@ -26,7 +27,7 @@ class Cover:
         if patterns.get(pushed, 0) & player:
             return pushed
         others = list(bits(boxes ^ pushed))
-        for size in self._sizes_below(len(others) + 1):
+        for size in self.sizes_below[len(others) + 1]:
             for some in combinations(others, size - 1):
                 few = sum(some, pushed)
                 if patterns.get(few, 0) & player:
@@ -36,12 +37,8 @@ class Cover:
     def _sizes_below(self, most: int) -> List[int]:
         """Returns the numbers of boxes that patterns have, from 2 to below `most`, for which few
         subsets have to be looked up."""
-        sizes = self.tried.get(most)
-        if sizes is None:
-            sizes = [size for size in self.sizes if 1 < size < most]
-            sizes = [size for size in sizes if comb(most - 1, size - 1) <= MOST_SUBSETS]
-            self.tried[most] = sizes
-        return sizes
+        return [size for size in self.sizes
+                if 1 < size < most and comb(most - 1, size - 1) <= MOST_SUBSETS]
 
 
 def shorten(room: Room, patterns: Patterns, start: int, budget: Budget) -> Patterns:
