@@ -86,8 +86,8 @@ class Beside(Check):
         self.check("mine", "a.txt")
         self.write("a.txt", LONG)
         files = {name: self.read(name) for name in os.listdir()}
-        with unittest.mock.patch.object(auditor.Auditor, "audit", autospec=True,
-                                        side_effect=self.type_and_audit(auditor.Auditor.audit)):
+        with unittest.mock.patch.object(auditor.Auditor, "printed", autospec=True,
+                                        side_effect=self.type_and_audit(auditor.Auditor.printed)):
             result = self.check("mine", "a.txt")
         said = "mine.xsb was changed by somebody else"
         self.assertEqual((result.status, result.err.splitlines()),

@@ -54,15 +54,9 @@ class Auditor(NamedTuple):
             return Ran(2, b"", said or f"ended by signal {-ran.returncode}")
         return Ran(ran.returncode, ran.stdout, said)
 
-    def audit(self, levels_file: str, answers_file: str) -> bytes:
-        """Returns the report of two files."""
-        return self._printed("audit", levels_file, answers_file)
-
-    def make(self, levels_file: str) -> bytes:
-        """Returns the answers that the program makes for a collection."""
-        return self._printed("make", levels_file)
-
-    def _printed(self, *words: str) -> bytes:
+    def printed(self, *words: str) -> bytes:
+        """Returns what a run prints: the report of `audit` with the levels and the answers, or the
+        answers of `make` with the levels."""
         ran = self.run(*words)
         if ran.status == 2:
             raise texts.Stop(f"{texts.shown(self.path)} {words[0]}: {ran.fault}")
@@ -87,17 +81,16 @@ class Audits(contextlib.ExitStack):
 
     def audit(self, written: bytes) -> report.Report:
         """Returns the report on an answers text."""
-        self.text = self.program.audit(self._levels, self._put("answers", written))
+        self.text = self.program.printed("audit", self._levels, self._put("answers", written))
         read = report.read(self.text)
-        fault = read.fault(self.count)
-        if fault:
+        if fault := read.fault(self.count):
             raise texts.Stop(f"{texts.shown(self.program.path)} printed no report: {fault}")
         return read
 
     def made(self, some: Sequence[levels.Level]) -> Iterator[Tuple[int, answers.Answer]]:
         """Yields the certificates that sokoaudit makes for some levels, with their numbers."""
         text = b"\n".join(answers.spelled(level.rows) for level in some)
-        for record in answers.read(self.program.make(self._put("some", text))).records:
+        for record in answers.read(self.program.printed("make", self._put("some", text))).records:
             yield some[record.level - 1].number, record.answer
 
 
