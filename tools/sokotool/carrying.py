@@ -3,7 +3,7 @@ mirrored or moved."""
 import re
 from typing import Dict, List, Sequence, Tuple
 
-from . import answers, changes, forms
+from . import answers, changes, forms, texts
 
 _CELLS = rb"([0-9]{1,5},[0-9]{1,5}(?: [0-9]{1,5},[0-9]{1,5})*)"
 _LINE = re.compile(rb"pattern %b @ (?:\*|%b)|zone %b" % (_CELLS, _CELLS, _CELLS))
@@ -16,11 +16,10 @@ def carried(records: Sequence[answers.Record], old: Sequence[forms.Form],
     record. If it gets several, the one of the level that it was comes first."""
     before = {match.new: match.old for match in changes.matches_of_forms(old, new)}
     by_key = forms.by_key(new)
-    found: Dict[int, List[Tuple[int, answers.Answer]]] = {}
-    for at, record in enumerate(records):
-        form = old[record.level - 1]
-        for index in by_key.get(form.key, ()):
-            found.setdefault(index + 1, []).append((at, turned(record.answer, form, new[index])))
+    found = texts.grouped((index + 1, (at, turned(record.answer, form, new[index])))
+                          for at, record in enumerate(records)
+                          for form in [old[record.level - 1]]
+                          for index in by_key.get(form.key, ()))
     for number, several in found.items():
         several.sort(key=lambda one: records[one[0]].level - 1 != before.get(number - 1))
     return found

@@ -2,9 +2,9 @@
 It needs no network, no script and no other file."""
 import html
 import itertools
-from typing import Dict, Iterator, List, Optional, Sequence
+from typing import Iterator, Optional, Sequence
 
-from . import changes
+from . import changes, texts
 from .levels import Level
 
 _STYLE = """
@@ -27,9 +27,7 @@ _KINDS = {"#": "wall", ".": "goal", "$": "box", "*": "box goal", "@": "player", 
 def text(old: changes.Snapshot, new: changes.Snapshot, found: Sequence[changes.Change],
          names: Sequence[str]) -> bytes:
     """Returns the page of these changes between two states, whose levels have these names."""
-    by_level: Dict[int, List[changes.Change]] = {}
-    for change in found:
-        by_level.setdefault(change.level or -change.was, []).append(change)
+    by_level = texts.grouped((change.level or -change.was, change) for change in found)
     parts = "\n".join(_section(old, new, several, names) for several in by_level.values())
     title = html.escape(f"{names[0]} and {names[1]}")
     said = "" if found else "<p>Nothing changed.</p>"

@@ -5,7 +5,7 @@ from types import MappingProxyType
 from typing import (Callable, Dict, Hashable, Iterator, List, Mapping, NamedTuple, Optional,
                     Sequence, Set)
 
-from . import forms
+from . import forms, texts
 from .level_texts import Block
 from .levels import Level
 from .report import Line
@@ -68,9 +68,8 @@ class _Pairs:
     def match(self, old_name: Callable[[int], Hashable], new_name: Callable[[int], Hashable]
               ) -> None:
         """Pairs the unpaired indices with the same name, in order. None is no name."""
-        waiting: Dict[Hashable, List[int]] = {}
-        for index in sorted(self.old, reverse=True):
-            waiting.setdefault(old_name(index), []).append(index)
+        waiting = texts.grouped((old_name(index), index)
+                                for index in sorted(self.old, reverse=True))
         for index in sorted(self.new):
             name = new_name(index)
             if name is not None and waiting.get(name):

@@ -10,6 +10,7 @@ import hashlib
 from typing import Dict, Iterable, List, NamedTuple, Sequence, Tuple
 
 from .levels import BOXES, GOALS, LARGEST_SIDE, PLAYERS, WALL, Level, OfRows
+from .texts import grouped
 
 Cell = Tuple[int, int]
 Key = Tuple[str, int, bytes]
@@ -169,10 +170,7 @@ def forms_of(levels: Iterable[Level]) -> List[Form]:
 
 def by_key(forms: Iterable[Form]) -> Dict[Key, List[int]]:
     """Returns the indices of forms in a list by their keys."""
-    found: Dict[Key, List[int]] = {}
-    for index, form in enumerate(forms):
-        found.setdefault(form.key, []).append(index)
-    return found
+    return grouped((form.key, index) for index, form in enumerate(forms))
 
 
 def duplicates_of(forms: Sequence[Form]) -> List[Tuple[int, int, Turn]]:

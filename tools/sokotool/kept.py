@@ -6,7 +6,8 @@ for a level that is away. Each has its level in NAME.kept.xsb, after a comment t
 came.
 """
 import re
-from typing import Dict, List, NamedTuple, Optional, Sequence, Set, Tuple
+from collections import Counter
+from typing import List, NamedTuple, Optional, Sequence, Set, Tuple
 
 from . import answers, changes, forms, level_texts, merging, texts
 from .level_texts import Block
@@ -53,9 +54,8 @@ class Kept(NamedTuple):
     def reasons(self, forms: Sequence[forms.Form]) -> List[str]:
         """Returns how many things are kept, and why. The forms are those of the collection."""
         keys = {form.key for form in forms}
-        are_there = [form.key in keys for form in self.collection().forms]
-        count = {is_there: sum(bool(entry.record) for entry, it in zip(self.entries, are_there)
-                               if it == is_there) for is_there in (False, True)}
+        count = Counter(form.key in keys for entry, form in zip(
+            self.entries, self.collection().forms) if entry.record)
         typed = [entry for entry in self.entries if entry.has_text]
         alone = [entry for entry in self.entries
                  if entry.head and not (entry.record or entry.has_text)]
@@ -79,9 +79,7 @@ class Kept(NamedTuple):
 
 def read(levels_text: bytes, found: answers.Answers) -> Kept:
     """Returns what two files have. A level with several answers is there several times."""
-    records: Dict[int, List[answers.Record]] = {}
-    for record in found.records:
-        records.setdefault(record.level, []).append(record)
+    records = texts.grouped((record.level, record) for record in found.records)
     entries = []
     for number, block in enumerate(level_texts.read(levels_text, _cut), 1):
         heads = [at for at, line in enumerate(block.above) if line.startswith(_HEAD)]

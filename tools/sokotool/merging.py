@@ -102,9 +102,7 @@ def _marked(written: Sequence[Block], mine: Sequence[Block], was: Dict[int, int]
 def _paired(written: Written, was: Dict[int, int], sources: Sequence[str]) -> Dict[int, int]:
     """Returns the indices in the exports by the indices now, as the last check paired them, for
     levels whose text in the exports is the same. Otherwise duplicates could change places."""
-    waiting: Dict[str, List[int]] = {}
-    for index, source in reversed(list(enumerate(sources))):
-        waiting.setdefault(source, []).append(index)
+    waiting = texts.grouped((source, at) for at, source in reversed(list(enumerate(sources))))
     place_of = {place: waiting[source].pop() for place, source in enumerate(written.sources)
                 if waiting.get(source)}
     now = [place_of.get(place) if place is not None else None for place in written.places]

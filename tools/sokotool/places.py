@@ -47,13 +47,11 @@ class Origins(NamedTuple):
         numbers = numbers_of(indices)
         found: Dict[int, Source] = {number: (self.levels[at], [])
                                     for at, number in numbers.items()}
-        lines: Dict[str, List[Tuple[int, int]]] = {}
-        for at, place in enumerate(self.levels):
-            lines.setdefault(place.published, []).append((place.line, at))
+        lines = texts.grouped((place.published, (place.line, at))
+                              for at, place in enumerate(self.levels))
         for problem in self.problems:
             place, why = problem
-            number = numbers.get(_level_of(problem, lines.get(place.published, [])), 0)
-            if number:
+            if number := numbers.get(_level_of(problem, lines.get(place.published, [])), 0):
                 found[number][1].append(f"line {place.line}: {_numbered(why, numbers)}")
         return found
 
@@ -68,8 +66,7 @@ def _level_of(problem: Problem, lines: Sequence[Tuple[int, int]]) -> int:
     """Returns the index of the level that a problem names, or of the last level of its file that
     begins above it, or -1. `lines` has the lines of the levels in the file with their indices."""
     place, why = problem
-    named = _LEVEL.search(why)
-    if named:
+    if named := _LEVEL.search(why):
         return int(named[1]) - 1
     above = bisect_right(lines, (place.line + 1, -1))
     return lines[above - 1][1] if above else -1

@@ -91,8 +91,7 @@ class Pool:
 
     def add_exported(self, records: Sequence[Record]) -> None:
         """Adds the records of the exports, by the numbers of the levels."""
-        for record in records:
-            self._exported.setdefault(record.level, []).append(record.answer)
+        self._exported = texts.grouped((record.level, record.answer) for record in records)
         self._by_board(records, self.now, True)
 
     def add_computed(self, number: int, answer: Answer) -> None:

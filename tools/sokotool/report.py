@@ -47,8 +47,7 @@ class Line(NamedTuple):
         """Returns the words and numbers of the line by their names."""
         found: Dict[str, Any] = {"level": self.level, "status": self.status}
         for form, names in _FIELDS:
-            match = form.fullmatch(self.said)
-            if match:
+            if match := form.fullmatch(self.said):
                 found.update((name, int(word) if word.isdigit() else word)
                              for name, word in zip(names, match.groups()))
                 break
@@ -78,12 +77,13 @@ class Report(NamedTuple):
         return None
 
 
-def demand(read: Report, name: str, levels: str, count: int, status: int = 2) -> None:
-    """Ends the command, unless a report of this name is one on these levels, so many."""
-    fault = read.fault(count)
-    if fault:
+def demanded(data: bytes, name: str, levels: str, count: int, status: int = 2) -> Report:
+    """Reads a report of this name. Ends the command, unless it is one on these levels, so many."""
+    found = read(data)
+    if fault := found.fault(count):
         raise texts.Stop(f"{texts.shown(name)} isn't a report on {texts.shown(levels)}: {fault}",
                          status)
+    return found
 
 
 def line_of(text: str) -> Optional[Line]:

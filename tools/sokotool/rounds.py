@@ -87,8 +87,7 @@ class Rounds:
         self._hand_on(hand_on)
         if not goes_on:
             hand_on([])  # The interrupt may have come while results were handed on.
-        left = self.count - sum(self._done.values())
-        if left:
+        if left := self.count - sum(self._done.values()):
             self.shown.keep(f"{texts.count(left, 'level')} left: the next run goes on with them")
         return goes_on
 

@@ -77,8 +77,7 @@ class Searches(Jobs):
 
     def _begin(self, level: Level, seconds: float) -> Optional[Job]:
         there = [it for it in self._workers if not it.has_ended]
-        worker = next((it for it in there if it.is_ready), None)
-        if worker:
+        if worker := next((it for it in there if it.is_ready), None):
             worker.search(level, seconds)
             return worker
         most = min(self.limits.jobs, len(self.levels), system.MOST_PROCESSES)

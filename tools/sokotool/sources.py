@@ -77,9 +77,7 @@ def published(names: Sequence[str]) -> Dict[str, str]:
     """Returns the names of files from their common folder on, so that they don't tell where they
     are on this machine. On several drives each has a common folder, and its letter comes first."""
     paths = {name: os.path.abspath(name) for name in names if name != "-"}
-    drives: Dict[str, List[str]] = {}
-    for path in paths.values():
-        drives.setdefault(_drive(path), []).append(os.path.dirname(path))
+    drives = texts.grouped((_drive(path), os.path.dirname(path)) for path in paths.values())
     found = {"-": "-"}
     for name, path in paths.items():
         drive = _drive(path)

@@ -58,8 +58,7 @@ class Run:
 
     def keep(self) -> bool:
         """Keeps what was found in NAME.memory alone. Returns whether there is anything."""
-        finds = self.without([])
-        if finds:
+        if finds := self.without([]):
             files = own_files.Files(self.name, True)
             remembered = files.memory()._replace(found=finds)
             remembered.outcomes.join(self.outcomes)
@@ -141,8 +140,7 @@ class State:
         run.give(self.pool)
         with Audits(run.program, self.text, len(self.now.levels)) as audits:
             self._audit(run, audits)
-            left = [form for form in self.unanswered() if form.key not in run.made]
-            if left:
+            if left := [form for form in self.unanswered() if form.key not in run.made]:
                 run.shown.show("making certificates")
                 run.made.update(form.key for form in left)
                 made = [(self.now.forms[number - 1], answer)

@@ -1,7 +1,7 @@
 """The summary of a check, which fits a screen."""
 import sys
 from collections import Counter
-from typing import Dict, Iterator, List, Sequence, Tuple
+from typing import Dict, Iterator, List, Sequence
 
 from . import auditor, changes, forms, levels, messages, own_files, report, texts
 from .outcomes import FULL, ILLEGAL, LATE, LONG, MEMORY, NOTHING, Outcomes
@@ -45,8 +45,7 @@ def lines(run: Run, state: State, problems: Sequence[str]) -> Iterator[str]:
     if others:
         yield (f"with fewer pushes in {run.name}.other.answers: {_levels(others)} "
                f"{changes.ranges(others)}")
-    kept = state.left.reasons(now.forms)
-    if kept:
+    if kept := state.left.reasons(now.forms):
         yield f"kept in {run.name}.kept.xsb: " + ", ".join(kept)
     yield from _some("twins: ", [
         f"level {later + 1} is level {first + 1}, {turn.words}"
@@ -76,11 +75,9 @@ def _some(head: str, items: Sequence[str], most: int = MOST_LINES) -> Iterator[s
 def searched(forms: Sequence[forms.Form], known: Outcomes, new: Outcomes) -> List[str]:
     """Returns a line for each way in which levels without an answer were searched by earlier runs,
     with their outcomes."""
-    ways: Dict[str, List[Tuple[str, float]]] = {}
-    for form in forms:
-        for way, outcome in known.kept.get(form.digest, {}).items():
-            if way not in new.kept.get(form.digest, {}):
-                ways.setdefault(way, []).append(outcome)
+    ways = texts.grouped((way, outcome) for form in forms
+                         for way, outcome in known.kept.get(form.digest, {}).items()
+                         if way not in new.kept.get(form.digest, {}))
     found = []
     for way, several in sorted(ways.items()):
         words = Counter(_OUTCOMES.get(what, "an answer that is lost") for what, _ in several)

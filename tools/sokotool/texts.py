@@ -4,10 +4,13 @@ import hashlib
 import os
 import re
 import sys
-from typing import Any, AnyStr, Callable, Dict, List, Optional, Sequence, Tuple, Union
+from typing import (Any, AnyStr, Callable, Dict, Iterable, List, Optional, Sequence, Tuple, TypeVar,
+                    Union)
 
 from . import encodings
 
+Name = TypeVar("Name")
+Item = TypeVar("Item")
 MOST_BYTES = 33_554_432
 MARK = b"\xef\xbb\xbf"
 # the most lines that a cache keeps
@@ -212,6 +215,14 @@ def same_file(first: str, second: str) -> bool:
         return os.path.samestat(os.fstat(sys.stdin.fileno()), os.stat(name))
     except (OSError, ValueError, AttributeError):
         return False
+
+
+def grouped(pairs: Iterable[Tuple[Name, Item]]) -> Dict[Name, List[Item]]:
+    """Returns items by their names, in order."""
+    found: Dict[Name, List[Item]] = {}
+    for name, item in pairs:
+        found.setdefault(name, []).append(item)
+    return found
 
 
 def digest(data: bytes) -> str:

@@ -37,8 +37,7 @@ def run(options: argparse.Namespace) -> int:
 
 def state(levels_name: str, report_name: str) -> changes.Snapshot:
     found = levels.read_file(levels_name)
-    read = report.read(texts.read(report_name))
-    report.demand(read, report_name, levels_name, len(found))
+    read = report.demanded(texts.read(report_name), report_name, levels_name, len(found))
     return changes.Snapshot(found, forms.forms_of(found), read.lines)
 
 

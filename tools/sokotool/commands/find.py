@@ -79,6 +79,5 @@ def chosen(every: List[levels.Level], options: argparse.Namespace) -> List[level
         raise texts.Stop(f"{texts.shown(options.levels)} has no level")
     if not options.report:
         return every
-    read = report.read(texts.read(options.report))
-    report.demand(read, options.report, options.levels, len(every))
+    read = report.demanded(texts.read(options.report), options.report, options.levels, len(every))
     return [level for level, line in zip(every, read.lines) if line.status == "missing"]

@@ -29,8 +29,7 @@ def run(options: argparse.Namespace) -> int:
     data = texts.read(options.report)
     name = texts.shown(options.levels)
     if options.csv:
-        read = report.read(data)
-        report.demand(read, options.report, options.levels, len(found), 1)
+        read = report.demanded(data, options.report, options.levels, len(found), 1)
         sys.stdout.buffer.write(sheet.text([(level, line, name, level.line)
                                             for level, line in zip(found, read.lines)]))
         return 0
@@ -46,5 +45,5 @@ def run(options: argparse.Namespace) -> int:
                                      if line.status == "refused" else {})}))
         else:
             print(f"{text}\t{name}:{level.line}\t{level.title}" if level else text)
-    report.demand(report.read(data), options.report, options.levels, len(found), 1)
+    report.demanded(data, options.report, options.levels, len(found), 1)
     return 0

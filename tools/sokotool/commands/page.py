@@ -76,8 +76,7 @@ def written(files: Sequence[bytes], names: List[str], above: str = "",
 def difference(found: Sequence[levels.Level], records: Dict[int, answers.Record],
                read: report.Report) -> Optional[str]:
     """Returns why a report isn't of these levels and answers, or None."""
-    fault = read.fault(len(found))
-    if fault:
+    if fault := read.fault(len(found)):
         return fault
     for level, line in zip(found, read.lines):
         if not is_of(board_of(level), records.get(level.number), line):

@@ -97,11 +97,8 @@ def names_of(files: Sequence[str]) -> List[str]:
 def marks(entrants: Sequence[Entrant],
           order: Callable[[Tuple[int, ...]], Tuple[int, ...]]) -> Marks:
     """Returns who is best at a level, or tied with others."""
-    best: Dict[int, List[Tuple[Tuple[int, ...], str]]] = {}
-    for entrant in entrants:
-        for line in entrant.lines:
-            if line.counts:
-                best.setdefault(line.level, []).append((order(line.counts), entrant.name))
+    best = texts.grouped((line.level, (order(line.counts), entrant.name)) for entrant in entrants
+                         for line in entrant.lines if line.counts)
     found = {}
     for level, several in best.items():
         first = [name for counts, name in several if counts == min(several)[0]]
@@ -193,8 +190,7 @@ def _table(caption: str, head: Sequence[str], body: Sequence[Sequence[str]],
     lines = [f"<table><caption>{caption}</caption>", f"<thead><tr>{heads}</tr></thead>", "<tbody>"]
     for row in body:
         cells = [html.escape(cell) for cell in row]
-        number = numbers.get((row[0], row[1]))
-        if number:
+        if number := numbers.get((row[0], row[1])):
             cells[2] = f'<a href="#{number}">{cells[2]}</a>'
         lines.append("<tr>" + "".join(
             f'<td class="number">{cell}</td>' if cell.isdigit() else f"<td>{cell}</td>"

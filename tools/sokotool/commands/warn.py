@@ -51,8 +51,7 @@ def _warn_of(name: str) -> int:
 def _of_levels(data: bytes) -> Iterator[Warning]:
     listed = levels.read(data, levels.MOST_LEVELS + 1)
     for level in listed[:levels.MOST_LEVELS]:
-        doubt = Board(level).doubt
-        if doubt:
+        if doubt := Board(level).doubt:
             yield level.line, f"level {level.number} {doubt}"
     if len(listed) > levels.MOST_LEVELS:
         yield listed[-1].line, f"more than {levels.MOST_LEVELS} levels"

@@ -57,9 +57,9 @@ class Lists:
             return
         self._levels = [(part, level) for part, text in enumerate(self.collection.texts)
                         for level in levels.read(bytes(text))]
-        for at, (_, level) in enumerate(self._levels):
-            for name in {key_of(level.title), key_of(level.title.strip(DRESS))} - {""}:
-                self._by_title.setdefault(name, []).append(at)
+        self._by_title = texts.grouped(
+            (name, at) for at, (_, level) in enumerate(self._levels)
+            for name in {key_of(level.title), key_of(level.title.strip(DRESS))} - {""})
         for answered in self._answers:
             self._place_answers(*answered)
         for listed in self._lists:
@@ -86,8 +86,7 @@ class Lists:
                     whys.setdefault(line, self._place_answer(file, line, places[number - 1],
                                                              answer))
         for record in records:
-            why = whys.get(record.line, "no level has the board of this record")
-            if why:
+            if why := whys.get(record.line, "no level has the board of this record"):
                 self._fault(file, record.line, why)
 
     def _place_answer(self, file: str, line: int, at: int, answer: answers.Answer) -> str:
