@@ -35,10 +35,8 @@ class Lost:
         """Returns the boxes and the player's cells of a pattern that covers the start, or None if
         these boxes aren't known to be lost."""
         player = self.room.player
-        for box in bits(boxes):
-            if self.known.is_lost_alone(box, player):
-                return self._pattern(box, player)
-        some = self.known.lost_pair(boxes, player)
+        alone = (box for box in bits(boxes) if self.known.is_lost_alone(box, player))
+        some = next(alone, 0) or self.known.lost_pair(boxes, player)
         return self._pattern(some, player) if some else self._of_several(boxes, player)
 
     def after_push(self, boxes: int, player: int, pushed: int) -> Pattern:

@@ -1,10 +1,10 @@
 """Plays some boxes of a room, with the others taken away: a best-first search of all positions that
-aren't known to be lost."""
-from typing import Dict, List, NamedTuple, Optional, Tuple
+aren't known to be lost. The pushes of a play become letters."""
+from typing import Dict, Iterable, List, NamedTuple, Optional, Tuple
 
 from .budget import Budget
 from .deadlocks import Direction, Known
-from .rooms import bits
+from .rooms import Room, bits
 
 SOLVED, LOST, STOPPED = "solved", "lost", "stopped"
 PENALTY = 8  # what a box on a cell of a box that isn't played adds to an estimate
@@ -127,3 +127,36 @@ class Play:
             plan.append((position.box.bit_length() - 1, position.to.bit_length() - 1))
             position = position.before
         return plan[::-1]
+
+
+def letters_of(room: Room, plan: Iterable[Tuple[int, int]]) -> bytes:
+    """Returns the letters of a plan that brings all boxes of a room to goals: its pushes with the
+    steps of the player between them."""
+    names = {step: name for name, step in room.board.steps.items()}
+    boxes = {box.bit_length() - 1 for box in bits(room.boxes)}
+    player, letters = room.player.bit_length() - 1, []
+    for box, to in plan:
+        letters.append(_walk(room, boxes, (player, 2 * box - to), names))
+        letters.append(names[to - box].upper())
+        boxes.remove(box)
+        boxes.add(to)
+        player = box
+    return "".join(letters).encode()
+
+
+def _walk(room: Room, boxes: Iterable[int], way: Tuple[int, int], names: Dict[int, str]) -> str:
+    """Returns the letters of a shortest walk from one place to another."""
+    start, end = way
+    before, work = {start: start}, [start]
+    for place in work:
+        if place == end:
+            break
+        for near in (place + step for step in names):
+            if near >= 0 and room.cells >> near & 1 and near not in boxes and near not in before:
+                before[near] = place
+                work.append(near)
+    found = []
+    while end != start:
+        found.append(names[end - before[end]])
+        end = before[end]
+    return "".join(reversed(found))

@@ -9,7 +9,7 @@ from .budget import Budget
 from .closed import MOST_PATTERNS, Lost, Patterns, list_of
 from .cores import Cores
 from .deadlocks import Known
-from .path import letters_of
+from .plays import letters_of
 from .rooms import Room, bits
 from .shorten import shorten
 
