@@ -4,6 +4,7 @@ import hashlib
 import os
 import re
 import sys
+from itertools import islice
 from typing import (Any, AnyStr, Callable, Dict, Iterable, List, Optional, Sequence, Tuple, TypeVar,
                     Union)
 
@@ -16,6 +17,8 @@ MARK = b"\xef\xbb\xbf"
 # the most lines that a cache keeps
 MOST_KEPT = 1 << 19
 _BLOCK = 1 << 16
+# whole lines of about so many bytes, so that not all lines of a text are in memory
+_BLOCKS = re.compile(rb"(?s:.{1,65536})[^\n]*\n?")
 # From the first CR on: a search from each of a million takes hours.
 _RETURNS = re.compile("(?<!\r)\r\r+\n")
 _INNER_MARK = re.compile("(?<!\n)\ufeff")
@@ -39,10 +42,9 @@ def read(name: str, most: int = MOST_BYTES) -> bytes:
             raise Stop("cannot read -: standard input is closed")
         else:
             data = sys.stdin.buffer.read(most + 1)
-    except OSError as error:
-        raise Stop(f"cannot read {shown(name)}: {error.strerror}") from None
-    except ValueError as error:
-        raise Stop(f"cannot read {shown(name)}: {error}") from None
+    except (OSError, ValueError) as error:
+        why = getattr(error, "strerror", error)
+        raise Stop(f"cannot read {shown(name)}: {why}") from None
     if len(data) > most:
         raise Stop(f"{shown(name)} is longer than {most} bytes")
     return data
@@ -71,18 +73,12 @@ def lines(data: bytes) -> List[bytes]:
 
     Equal short lines are one object, so that a text of many short lines takes little memory.
     """
-    found = _split(data, b"\n")
-    last = found.pop() if found else b""
-    if b"\r" in data:
-        seen: Dict[bytes, bytes] = {}
-        found = [line for at in range(0, len(found), _BLOCK) for line in _shared(
-            [it[:-1] if it.endswith(b"\r") else it for it in found[at:at + _BLOCK]], seen)]
-    return found + [last] if last else found
+    return _split(data.replace(b"\r\n", b"\n"), b"\n")
 
 
 def _split(data: AnyStr, end: AnyStr) -> List[AnyStr]:
-    """Returns the parts of a text between these ends of lines. Equal short parts are one object, up
-    to the limit of the cache."""
+    """Returns the lines of a text with these ends. Equal short lines are one object, up to the
+    limit of the cache."""
     found: List[AnyStr] = []
     last: List[AnyStr] = []
     seen: Dict[AnyStr, AnyStr] = {}
@@ -91,16 +87,11 @@ def _split(data: AnyStr, end: AnyStr) -> List[AnyStr]:
         last.append(parts[0])
         if len(parts) > 1:
             found.append(end[:0].join(last))
-            found += _shared(parts[1:-1], seen)
+            share = seen.setdefault if len(seen) < MOST_KEPT else seen.get
+            found += [share(part, part) for part in parts[1:-1]]
             last = parts[-1:]
-    return found + [end[:0].join(last)] if data else found
-
-
-def _shared(parts: List[AnyStr], seen: Dict[AnyStr, AnyStr]) -> List[AnyStr]:
-    """Returns parts, of which equal ones are one object, as far as there is room for more."""
-    if len(seen) < MOST_KEPT:
-        return [seen.setdefault(part, part) for part in parts]
-    return [seen.get(part, part) for part in parts]
+    rest = end[:0].join(last)
+    return found + [rest] if rest else found
 
 
 class Cache(Dict[Any, Any]):
@@ -166,20 +157,12 @@ def text_of(data: bytes, encoding: str = "") -> Tuple[Optional[str], str]:
 def _mixed(data: bytes) -> Tuple[str, str]:
     """Returns the text of bytes that are UTF-8 in part, decoded line by line, and the encoding of
     the other lines."""
-    blocks, others, at = [], b"", 0
-    while at < len(data):
-        end = data.find(b"\n", at + _BLOCK) + 1 or len(data)
-        block = data[at:end]
-        is_plain = _is_utf8(block)
-        if not is_plain and len(others) < encodings.MOST:
-            others += b"\n".join(line for line in block.split(b"\n") if not _is_utf8(line)) + b"\n"
-        blocks.append((block, is_plain))
-        at = end
-    name = encodings.guessed(others)
-    return "".join(
-        block.decode("utf-8") if is_plain else
-        "\n".join(_decoded_line(line, name) for line in block.split(b"\n"))
-        for block, is_plain in blocks), name
+    blocks = _BLOCKS.findall(data)
+    others = (line + b"\n" for block in blocks for line in block.split(b"\n")
+              if not _is_utf8(line))
+    name = encodings.guessed(b"".join(islice(others, encodings.MOST)))
+    return "".join("\n".join(_decoded_line(line, name) for line in block.split(b"\n"))
+                   for block in blocks), name
 
 
 def _is_utf8(line: bytes) -> bool:
@@ -199,8 +182,7 @@ def _decoded_line(line: bytes, name: str) -> str:
 
 def lines_of(text: str) -> List[str]:
     """Returns the lines of a text that `text_of` returned. Equal short lines are one object."""
-    found = _split(text, "\n")
-    return found[:-1] if found and not found[-1] else found
+    return _split(text, "\n")
 
 
 def same_file(first: str, second: str) -> bool:
