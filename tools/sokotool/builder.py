@@ -222,11 +222,11 @@ class Collection:
         the others. If both of the best are kept, that is the one by moves, and the other one by
         pushes is returned too if it has fewer."""
         if self.best:
-            by = PUSHES if self.best == PUSHES else MOVES
-            kept, other = (min(solving, key=lambda it: _cost(it.attempt, best))
-                           for best in (by, PUSHES))
-            is_other = self.best == BOTH and other.attempt.pushes < kept.attempt.pushes
-            return kept, other if is_other else None
+            by_moves = min(solving, key=lambda it: (it.attempt.moves, it.attempt.pushes))
+            by_pushes = min(solving, key=lambda it: (it.attempt.pushes, it.attempt.moves))
+            kept = by_pushes if self.best == PUSHES else by_moves
+            is_other = self.best == BOTH and by_pushes.attempt.pushes < kept.attempt.pushes
+            return kept, by_pushes if is_other else None
         kept, seen = solving[0], {solving[0].attempt.letters}
         for it in solving[1:]:
             if it.attempt.letters not in seen:
@@ -273,12 +273,6 @@ def _why(replay: Replay, text: str) -> Optional[str]:
     if first == "move":
         return f"cannot be played: move {rest[0]} ({text[int(rest[0]) - 1].lower()}) {rest[1]}"
     return f"leaves {texts.count(int(rest[0]), 'box')} off the goals"
-
-
-def _cost(attempt: Attempt, best: str) -> Tuple[int, int]:
-    """Returns the moves and pushes of a solution, those first that are to be few."""
-    counts = (attempt.moves, attempt.pushes)
-    return counts if best == MOVES else (counts[1], counts[0])
 
 
 def _size(attempt: Attempt) -> str:

@@ -1,8 +1,8 @@
 """A web page of what changed between two states of a collection, with the boards before and after.
 It needs no network, no script and no other file."""
 import html
-import itertools
-from typing import Iterator, Optional, Sequence
+import re
+from typing import Iterator, Sequence
 
 from . import changes, texts
 from .levels import Level
@@ -21,7 +21,7 @@ svg { max-width: 100%; height: auto; background: #efe8da }
 """
 # the pixels of a cell, and of a board at most
 _CELL, _MOST = 16, 480
-_KINDS = {"#": "wall", ".": "goal", "$": "box", "*": "box goal", "@": "player", "+": "player goal"}
+_KINDS = {".": "goal", "$": "box", "*": "box goal", "@": "player", "+": "player goal"}
 
 
 def text(old: changes.Snapshot, new: changes.Snapshot, found: Sequence[changes.Change],
@@ -63,15 +63,12 @@ def _figure(level: Level, name: str) -> str:
 
 def _shapes(row: int, cells: bytes) -> Iterator[str]:
     """Yields the shapes of a row; cells of walls beside each other are one."""
-    at = 0
-    for cell, several in itertools.groupby(cells.decode("latin-1")):
-        count = len(list(several))
-        kinds: Optional[str] = _KINDS.get(cell)
-        for column in () if cell == "#" or not kinds else range(at, at + count):
-            yield from _marks(column, row, kinds or "")
-        if cell == "#":
+    for match in re.finditer("#+|[^#]", cells.decode("latin-1")):
+        at, count = match.start(), len(match[0])
+        if match[0][0] == "#":
             yield f'<rect class="wall" x="{at}" y="{row}" width="{count}" height="1"/>'
-        at += count
+        else:
+            yield from _marks(at, row, _KINDS.get(match[0], ""))
 
 
 def _marks(column: int, row: int, kinds: str) -> Iterator[str]:

@@ -183,8 +183,8 @@ class Between:
                 self._report_no_level(first)
             return
         front = heading.front if heading else ""
-        is_near = heading is not None and self.kinds.count(BLANK, heading.at, first) < 2
-        if front and is_near and self._read_parts(first, stop, heading, front):
+        if heading and front and self.kinds.count(BLANK, heading.at, first) < 2 and (
+                self._read_parts(first, stop, heading, front)):
             return
         if heading and len(front) >= LONG:
             self._report_long(heading.at, [front], heading.kind)

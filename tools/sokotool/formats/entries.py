@@ -20,7 +20,7 @@ _NUMBERED = re.compile(r"[>;\s]*[#(\[]?[0-9]+(?:[.):\];,|=]+\s*|\s+)(?=[lurdLURD
 _TOKEN = re.compile(r"[^\s:;,=|\"'\[\]{}<>]+")
 _LETTERS = re.compile(r"[0-9()]*[lurdLURD][lurdLURD0-9()]*")
 # what may be before a number or a title
-_BEFORE = re.compile(r"(?:[0-9]+\W+|(?:(?:the|best|solution|answer|level|puzzle|of|to|for)\W+)+)",
+_BEFORE = re.compile(r"\A(?:[0-9]+\W+|(?:(?:the|best|solution|answer|level|puzzle|of|to|for)\W+)+)",
                      re.I)
 _HEADINGS = {headings.HEADING, headings.SOFT, headings.KEY, headings.KEY_WORDS, headings.SAVED}
 
@@ -125,8 +125,7 @@ def names(text: str) -> Iterator[str]:
     """Yields the titles that words may have, as keys."""
     bare = text.strip(DRESS)
     fields = re.split(r"[,;|]|\t|  +", bare)
-    before = _BEFORE.match(bare)
-    for name in (text, bare, bare.partition(":")[2], bare[before.end() if before else 0:], *fields):
+    for name in (text, bare, bare.partition(":")[2], _BEFORE.sub("", bare), *fields):
         for key in (key_of(name), key_of(name.strip(DRESS))):
             if key:
                 yield key

@@ -6,7 +6,7 @@ from . import letters, rows
 
 (TEXT, BLANK, LETTERS, HEADING, SOFT, SAVED, KEY, TITLE, TYPE, WALLS, WORDS, KEY_WORDS,
  SOLID) = range(13)
-# A shorter line is either letters alone or plain text.
+# A shorter line without a wall is either letters alone or plain text.
 SHORT = 4
 # the kinds of lines that may be between a heading and its letters
 PASSED = bytes((BLANK, KEY, KEY_WORDS))
@@ -30,19 +30,17 @@ _SAVED = re.compile(r"(?:snap\s?shot|save|saved|save\s?game|saved\s?game|session
 _TITLE = re.compile(r"\s*title\s*:", re.I)
 _TYPE = re.compile(r"\W*(?:type|variant)\s*[:=]\s*(\w.*)", re.I)
 _OTHER_GAMES = re.compile(r"(?:hex|tri|octo|multi|num|modo)\w*ban|sokomind|hexagon|triang", re.I)
-_LETTER = re.compile("[lurdLURD]")
 _DRESS = re.compile(r"[\W\d_]*")
 
 
 def kind_of(line: str) -> int:
     if not line or line.isspace():
         return BLANK
-    if len(line) < SHORT and "#" not in line:
-        return LETTERS if _LETTER.search(line) and letters.are_alone(line) else TEXT
     if letters.are_alone(line):
         return LETTERS
-    bare = letters.untagged(line) or line
-    bare = bare[_DRESS.match(bare).end():]  # type: ignore[union-attr]
+    if len(line) < SHORT and "#" not in line:
+        return TEXT
+    bare = _DRESS.sub("", letters.untagged(line) or line, 1)
     if _is_heading(bare):
         return HEADING
     if "#" in line and (rows.is_plain(line) or rows.why_no_row(line, False)):
