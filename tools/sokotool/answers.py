@@ -201,8 +201,7 @@ def read_file(name: str, levels: Optional[int] = None, rising: bool = True) -> A
 
 
 def _level_of(line: bytes, number: int) -> int:
-    match = _LEVEL.fullmatch(line)
-    if not match:
+    if not (match := _LEVEL.fullmatch(line)):
         raise Fault(number, "level")
     # Past nine digits a number is above every level, and is not converted.
     return int(match.group(1)) if len(match.group(1)) < 10 else 10 ** 10

@@ -69,8 +69,8 @@ class Collection:
         self.idle: Dict[str, List[str]] = {}
         # where each level is
         self.origins: List[Place] = []
-        self.level: Optional[levels.Level] = None
-        self._board: Optional[Board] = None
+        # the board of the level that solutions are for
+        self.board: Optional[Board] = None
         self._tries: List[Try] = []
         self._spares: List[Try] = []
         self._letters = self._played = 0
@@ -137,10 +137,9 @@ class Collection:
         self.total += 1
         self._after_row = True
         kept = [row.encode() for row in rows[:levels.LARGEST_SIDE + 1]]
-        self.level = levels.Level(self.count, kept, line)
         self.origins.append(self._place(line))
-        self._board = board_of(self.level)
-        if doubt := self._board.doubt:
+        self.board = board_of(levels.Level(self.count, kept, line))
+        if doubt := self.board.doubt:
             self.fault(line, f"level {self.count} {doubt}")
             self.torn += 1
         if title:
@@ -172,7 +171,7 @@ class Collection:
 
     def attempt(self, letters: str) -> Attempt:
         """Plays letters, run-length coded or not, on the last level."""
-        return self.attempt_on(self._board, letters)
+        return self.attempt_on(self.board, letters)
 
     def attempt_on(self, board: Optional[Board], letters: str) -> Attempt:
         """Plays letters, run-length coded or not, on the board of a level."""
@@ -214,7 +213,7 @@ class Collection:
         if other:
             self.others[self.total - 1] = other
         self._letters += sum(len(it.attempt.letters) for it in (kept, other) if it)
-        self.level = self._board = None
+        self.board = None
         self._tries, self._spares = [], []
 
     def choose(self, number: int, solving: Sequence[Try]) -> Tuple[Try, Optional[Try]]:

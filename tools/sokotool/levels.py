@@ -74,8 +74,7 @@ class OfRows(Generic[Made]):
 
     def __call__(self, level: Level) -> Made:
         rows = tuple(level.rows)
-        made = self._made.get(rows)
-        if made is None:
+        if (made := self._made.get(rows)) is None:
             made = self._make(level)
             self._cells += sum(map(len, rows))
             if self._cells > MOST_CELLS:

@@ -19,8 +19,7 @@ def put(data: bytes) -> None:
     left = memoryview(data)
     while left:
         # A stream without a buffer may write a part.
-        written = sys.stdout.buffer.write(left)
-        if not written:
+        if not (written := sys.stdout.buffer.write(left)):
             raise OSError(errno.EAGAIN, os.strerror(errno.EAGAIN))
         left = left[written:]
     sys.stdout.buffer.flush()

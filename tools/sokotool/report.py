@@ -88,8 +88,7 @@ def demanded(data: bytes, name: str, levels: str, count: int, status: int = 2) -
 
 def line_of(text: str) -> Optional[Line]:
     """Reads one line of a level, or returns None."""
-    match = _LEVEL.fullmatch(text)
-    if not match:
+    if not (match := _LEVEL.fullmatch(text)):
         return None
     return Line(int(match.group(1)), match.group(2), (match.group(3) or "").split(), text)
 

@@ -68,8 +68,7 @@ class Rounds:
         budget = Budget(self.limits.total)
         goes_on = True
         for seconds in self.seconds:
-            due = self.known.due(list(self.left.values()), self.name, seconds)
-            if not due:
+            if not (due := self.known.due(list(self.left.values()), self.name, seconds)):
                 continue
             search = self.begin([form.level for form in sorted(due, key=size)],
                                 self.limits._replace(seconds=seconds), budget)

@@ -52,8 +52,7 @@ def words_of(command: str) -> List[str]:
     if not words:
         raise texts.Stop("--solver: no command")
     # Windows finds a program by a part of its name, but starts it only by the whole.
-    found = shutil.which(words[0])
-    if found is None:
+    if (found := shutil.which(words[0])) is None:
         raise texts.Stop(f"--solver: there is no program {texts.shown(words[0])}")
     return [found, *words[1:]]
 
@@ -90,12 +89,9 @@ class Run(Job):
         if self.ended is None:
             if now - self.began > self.seconds:
                 self._end(LATE)
-            elif self._length() > MOST_PRINTED:
+            elif os.fstat(self.output.fileno()).st_size > MOST_PRINTED:
                 self._end(LONG)
         return self.ended is not None and now - self.ended > GRACE
-
-    def _length(self) -> int:
-        return os.fstat(self.output.fileno()).st_size
 
     def _end(self, what: str) -> None:
         self.what, self.ended = what, time.monotonic()
@@ -111,7 +107,7 @@ class Run(Job):
         if self.group:
             self.group.kill()
         heads = [self._beginning(self.output), *self._written()]
-        parts = [*self._printed(), *(head[:2 * KEPT] for head in heads[1:])]
+        parts = [*self._printed(heads[0]), *(head[:2 * KEPT] for head in heads[1:])]
         self.output.close()
         with contextlib.suppress(OSError, RecursionError):
             self.folder.cleanup()
@@ -141,21 +137,18 @@ class Run(Job):
         if found is not None:
             return SOLVED, answers.solution(self.level.number, found), said
         for lines in solver_output.certificates_in(heads):
-            why = self.solver.refusal(self.level, lines)
-            if not why:
+            if not (why := self.solver.refusal(self.level, lines)):
                 return REFUTED, answers.certificate(self.level.number, lines), said
             said.append(f"refused: {why}")
         return self.what, b"", said
 
-    def _printed(self) -> List[bytes]:
-        """Returns what the solver printed, or the beginning and the end of it."""
-        self.output.seek(0)
-        first = self.output.read(KEPT)
-        length = self._length()
-        if length <= 2 * KEPT:
-            return [first + self.output.read(KEPT)]
-        self.output.seek(length - KEPT)
-        return [first, self.output.read(KEPT)]
+    def _printed(self, head: bytes) -> List[bytes]:
+        """Returns what the solver printed, whose beginning is this, or the beginning and the end
+        of it."""
+        if len(head) <= 2 * KEPT:
+            return [head]
+        self.output.seek(-KEPT, os.SEEK_END)
+        return [head[:KEPT], self.output.read()]
 
     def _written(self) -> Iterator[bytes]:
         """Yields the beginnings of the files that the solver left beside the level."""

@@ -201,7 +201,7 @@ def _read_solution(collection: Collection, data: bytes, before: Tuple[str, int],
                    for line in lines)
     if not found:
         collection.fault(1, "no letters of a solution")
-    elif is_alone and before == (os.path.splitext(collection.file)[0], 1) and collection.level:
+    elif is_alone and before == (os.path.splitext(collection.file)[0], 1) and collection.board:
         packed = "".join(letters.packed(lines[at]) for at in found)
         collection.add_try(found[0] + 1, collection.attempt(packed))
     else:

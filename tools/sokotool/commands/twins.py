@@ -18,8 +18,7 @@ def run(options: argparse.Namespace) -> int:
     texts.check_names(options.levels)
     found = []
     for name in options.levels:
-        several = levels.read_file(name)
-        if not several:
+        if not (several := levels.read_file(name)):
             raise texts.Stop(f"{texts.shown(name)} has no level")
         found += [(texts.shown(name), level) for level in several]
     duplicates = forms.duplicates_of(forms.forms_of(level for _, level in found))

@@ -90,6 +90,5 @@ def _of_lines(lines: Sequence[bytes]) -> Iterator[Warning]:
         if why:
             yield at + 1, why
     for first, end in comments:
-        at = kinds.find(_ROW, first, end)
-        if at >= 0:
+        if (at := kinds.find(_ROW, first, end)) >= 0:
             yield at + 1, "a row in a comment, which an audit reads as a row of a level"

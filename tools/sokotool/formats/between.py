@@ -97,7 +97,7 @@ class Between:
             if not rows.is_plain(line):
                 self._report_row(at)
             self.collection.add_text(line)
-        elif kind == TITLE and self.collection.level is None:
+        elif kind == TITLE and self.collection.board is None:
             self._keep(at, at + 1)
             title = line.partition(":")[2]
             self.collection.add_text(f"; {line}" if self.is_skipping else "Collection:" + title)
@@ -114,14 +114,14 @@ class Between:
     def _read_words(self, at: int, kind: int, goes_on: bool) -> None:
         """Tries the letters of a line, and remembers a heading. Other letters may follow."""
         found = self.among_words[self.lines[at]]
-        is_solved = self.collection.level is not None and self._try_words(at, found, kind)
-        if (kind == HEADING and self.collection.level is not None
+        is_solved = self.collection.board is not None and self._try_words(at, found, kind)
+        if (kind == HEADING and self.collection.board is not None
                 and not headings.says_more(self.lines[at])):
             self._keep(at, at + 1)
         if not is_solved and (kind in (HEADING, SOFT, SAVED) or found and goes_on):
             front = found[-1] if found and kind != SAVED else ""
             self.heading = Heading(at, kind, front)
-        elif self.collection.level is not None and not is_solved:
+        elif self.collection.board is not None and not is_solved:
             self._report_long(at, found, kind)
 
     def _report_long(self, at: int, found: List[str], kind: int) -> None:
@@ -160,7 +160,7 @@ class Between:
         heading, self.heading = self.heading, None
         if heading is None:
             return
-        if self.collection.level is None:
+        if self.collection.board is None:
             if heading.front and heading.kind == HEADING:
                 self._report_no_level(heading.at)
         elif heading.front and (heading.kind == HEADING or len(heading.front) >= LONG
@@ -178,7 +178,7 @@ class Between:
             self._end_heading()
             heading = None
         self.heading = None
-        if self.collection.level is None:
+        if self.collection.board is None:
             if heading or sum(map(len, self.lines[first:stop])) >= LONG:
                 self._report_no_level(first)
             return

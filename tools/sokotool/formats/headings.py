@@ -70,8 +70,7 @@ def _kind_of_words(line: str, bare: str) -> int:
 def _is_heading(bare: str) -> bool:
     """Returns whether a line without tags, marks and numbers in front can only be the heading of a
     solution."""
-    match = _HEADING.match(bare)
-    if not match:
+    if not (match := _HEADING.match(bare)):
         return False
     before, rest = match.groups()
     rest = rest.strip(" \t*_`")

@@ -107,7 +107,7 @@ class _Reader:
 
     def _try(self, text: str) -> None:
         found = letters.packed("".join(text.split()))
-        if self.collection.level is None:
+        if self.collection.board is None:
             self.collection.fault(self.line, "a solution with no level above it")
         elif letters.are_alone(found):
             self.collection.add_try(self.line, self.collection.attempt(found))
@@ -128,7 +128,7 @@ class _Reader:
         for line in filter(None, self.said):
             self.collection.add_text(line)
             found = letters.among_words(line.partition(":")[2])
-            for text in found if self.collection.level else ():
+            for text in found if self.collection.board else ():
                 attempt = self.collection.attempt(text)
                 if attempt.why is None:
                     self.collection.add_try(self.first, attempt, True)

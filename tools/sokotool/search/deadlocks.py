@@ -82,9 +82,8 @@ class Known:
             box, block = todo.popleft()
             for shift in self.directions:
                 before, player = box - shift, box - 2 * shift
-                if before not in self.beside[box] or player not in self.beside[before]:
-                    continue
-                if self.side(box, before)[1] != block:
+                if (before not in self.beside[box] or player not in self.beside[before]
+                        or self.side(box, before)[1] != block):
                     continue
                 side = self.side(before, player)
                 if side not in live:
@@ -163,8 +162,7 @@ class Known:
     def push_axes(self, box: int) -> List[int]:
         """Returns the pairs of cells on opposite sides of a box between which it could be pushed,
         without being lost alone, if both were empty."""
-        pairs = self._push_axes.get(box.bit_length())
-        if pairs is None:
+        if (pairs := self._push_axes.get(box.bit_length())) is None:
             if len(self._push_axes) > self.room.most_masks // 8:
                 self._push_axes.clear()
             pairs = self._push_axes[box.bit_length()] = []

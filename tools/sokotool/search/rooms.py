@@ -78,8 +78,7 @@ class Room:
     def arcs(self, bit: int, free: int) -> List[int]:
         """Returns the free cells next to a cell, grouped by the free cells around it that connect
         them."""
-        corner = self.corners.get(bit.bit_length())
-        if corner is None:
+        if (corner := self.corners.get(bit.bit_length())) is None:
             row = bit | bit << 1 | bit >> 1
             ring = (row | row << self.width | row >> self.width) & self.cells & ~bit
             if len(self.corners) > self.most_masks // 8:
@@ -87,8 +86,7 @@ class Room:
             corner = self.corners[bit.bit_length()] = ring, self.near(bit), {}
         ring, near, known = corner
         ring &= free
-        arcs = known.get(ring)
-        if arcs is None:
+        if (arcs := known.get(ring)) is None:
             arcs = known[ring] = [part & near for part in self.parts(ring) if part & near]
         return arcs
 
