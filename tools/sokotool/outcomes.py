@@ -37,17 +37,12 @@ class Outcomes:
     def __init__(self, kept: Dict[str, Dict[str, Tuple[str, float]]]) -> None:
         self.kept = kept
 
-    def of(self, form: Form, way: str) -> Tuple[str, float]:
-        """Returns the outcome of a board and its seconds: "" and 0 if it was not searched so."""
-        what, seconds = self.kept.get(form.digest, {}).get(way, ("", 0))
-        return what, seconds
-
     def due(self, forms: Sequence[Form], way: str, seconds: float) -> List[Form]:
         """Returns the boards without an answer that were never searched in this way for so many
         seconds, those with the fewest seconds first."""
-        found = [form for form in forms for what, spent in [self.of(form, way)]
-                 if what in _ANSWERED or spent < seconds and what not in FINAL]
-        return sorted(found, key=lambda form: self.of(form, way)[1])
+        known = [(form, *self.kept.get(form.digest, {}).get(way, ("", 0.0))) for form in forms]
+        return [form for form, what, spent in sorted(known, key=lambda it: it[2])
+                if what in _ANSWERED or spent < seconds and what not in FINAL]
 
     def keep(self, digest: str, way: str, what: str, seconds: float) -> None:
         """Remembers an outcome of a board and the seconds that the search had. That a solver can't

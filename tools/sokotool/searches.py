@@ -103,12 +103,9 @@ def _work(pipe: Any) -> None:
     with contextlib.suppress(EOFError, OSError):
         pipe.send(("", b""))
         while True:
-            pipe.send(_found(*pipe.recv()))
+            try:
+                found = outcome(*pipe.recv())
+            except MemoryError:
+                found = MEMORY, b""
+            pipe.send(found)
             gc.collect()
-
-
-def _found(level: Level, seconds: float) -> Tuple[str, bytes]:
-    try:
-        return outcome(level, seconds)
-    except MemoryError:
-        return MEMORY, b""

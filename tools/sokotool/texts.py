@@ -135,23 +135,20 @@ def text_of(data: bytes, encoding: str = "") -> Tuple[Optional[str], str]:
         coding = "utf-16-le" if data[1:2] == b"\0" else "utf-16-be"
     else:
         coding = "utf-8"
-    other = ""
     try:
-        text = data.decode(coding)
+        if coding != "utf-8" or _is_utf8(data):
+            text, other = data.decode(coding), ""
+        else:
+            text, other = (data.decode(encoding), "") if encoding else _mixed(data)
     except UnicodeDecodeError:
-        if coding != "utf-8":
-            return None, ""
-        try:
-            text, other = (data.decode(encoding), encoding) if encoding else _mixed(data)
-        except UnicodeDecodeError:
-            return None, ""
+        return None, ""
     if "\0" in text:
         return None, ""
     if "\r" in text:
         text = _RETURNS.sub("\n", text).replace("\r\n", "\n").replace("\r", "\n")
     # A mark within the text shows where two files were joined.
     text = _INNER_MARK.sub("", text[1:] if text.startswith("\ufeff") else text)
-    return text, "" if encoding else other
+    return text, other
 
 
 def _mixed(data: bytes) -> Tuple[str, str]:

@@ -112,8 +112,7 @@ def _drop_others(found: Rows, first: int, end: int) -> None:
     kinds = {(row.kind, row.lead) for row in distinct(found[first:end])}
     if kinds == {("plain", "")}:
         return
-    if len({lead for _, lead in kinds}) > 1:
-        _drop_other_leads(found, first, end)
+    _drop_other_leads(found, first, end)
     _drop_headings(found, first, end)
     _drop_between(found, first, end)
     _drop_short(found, first, end)
@@ -254,9 +253,6 @@ def _split(run: Rows, first: int) -> Iterator[Tuple[List[Row], int]]:
 
     Rows joined by '|', in one line or several, are a level of their own.
     """
-    if all(row.kind == "plain" and not row.starts for row in distinct(run)):
-        yield [row for row in run if row], first
-        return
     level: List[Row] = []
     is_joined = goes_on = False
     start = first
