@@ -138,13 +138,10 @@ def changes(old: Snapshot, new: Snapshot) -> List[Change]:
         if index in by_new:
             found += _of_pair(old, new, by_new[index])
         else:
-            found.append(Change("inserted", level.number, 0, level.title,
-                                new.lines[index].said))
+            found.append(Change("inserted", level.number, 0, level.title, new.lines[index].said))
     kept = {match.old for match in by_new.values()}
-    for index, level in enumerate(old.levels):
-        if index not in kept:
-            found.append(Change("removed", 0, level.number, level.title, old.lines[index].said))
-    return found
+    return found + [Change("removed", 0, level.number, level.title, old.lines[index].said)
+                    for index, level in enumerate(old.levels) if index not in kept]
 
 
 def _of_pair(old: Snapshot, new: Snapshot, match: Match) -> Iterator[Change]:

@@ -113,38 +113,30 @@ class Between:
 
     def _read_words(self, at: int, kind: int, goes_on: bool) -> None:
         """Tries the letters of a line, and remembers a heading. Other letters may follow."""
-        found = self.among_words[self.lines[at]]
-        is_solved = self.collection.board is not None and self._try_words(at, found, kind)
-        if (kind == HEADING and self.collection.board is not None
-                and not headings.says_more(self.lines[at])):
+        found, has_level = self.among_words[self.lines[at]], self.collection.board is not None
+        solved = next((it for it in map(self._attempt, found if has_level else ())
+                       if it and it.why is None), None)
+        if solved:
+            self.collection.add_try(at + 1, solved, kind not in (HEADING, SOFT))
+        if kind == HEADING and has_level and not headings.says_more(self.lines[at]):
             self._keep(at, at + 1)
-        if not is_solved and (kind in (HEADING, SOFT, SAVED) or found and goes_on):
+        if not solved and (kind in (HEADING, SOFT, SAVED) or found and goes_on):
             front = found[-1] if found and kind != SAVED else ""
             self.heading = Heading(at, kind, front)
-        elif self.collection.board is not None and not is_solved:
+        elif has_level and not solved:
             self._report_long(at, found, kind)
 
     def _report_long(self, at: int, found: List[str], kind: int) -> None:
         """Reports letters among words that are too many to be words."""
         if kind in (headings.WORDS, headings.KEY_WORDS) and max(map(len, found), default=0) < LONG:
             self.idle.add(self.lines[at])
-        for text in found:
-            attempt = self._attempt(text) if len(text) >= LONG else None
+        for attempt in map(self._attempt, (text for text in found if len(text) >= LONG)):
             if attempt:
                 self._report_letters(at, attempt)
 
     def _report_letters(self, at: int, attempt: Attempt) -> None:
         self.collection.fault(at + 1, "letters that are no solution of level "
                                       f"{self.collection.count}: {attempt.why}")
-
-    def _try_words(self, at: int, found: List[str], kind: int) -> bool:
-        """Tries letters among words. Returns whether they solve the level."""
-        for text in found:
-            attempt = self._attempt(text)
-            if attempt and attempt.why is None:
-                self.collection.add_try(at + 1, attempt, kind not in (HEADING, SOFT))
-                return True
-        return False
 
     def _attempt(self, text: str) -> Optional[Attempt]:
         """Plays letters, each text once, or returns None after MOST_TRIED texts."""
@@ -173,11 +165,9 @@ class Between:
     # ---- letters
 
     def _read_letters(self, first: int, stop: int) -> None:
-        heading = self.heading
-        if heading and self.kinds[heading.at + 1:first].translate(None, PASSED):
+        if self.heading and self.kinds[self.heading.at + 1:first].translate(None, PASSED):
             self._end_heading()
-            heading = None
-        self.heading = None
+        heading, self.heading = self.heading, None
         if self.collection.board is None:
             if heading or sum(map(len, self.lines[first:stop])) >= LONG:
                 self._report_no_level(first)

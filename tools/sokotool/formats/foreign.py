@@ -13,8 +13,6 @@ _SOKOBAN = set(" #.@$")
 
 def game_of(text: str) -> str:
     """Returns the game that a file is for, or "" if its head names none."""
-    for name, parts in _HEADS.items():
-        if all(part.search(text) for part in parts):
-            return name
+    names = [name for name, parts in _HEADS.items() if all(part.search(text) for part in parts)]
     kinds = {line[0] for section in _XSOK.findall(text) for line in section.splitlines()}
-    return "xsok" if kinds - _SOKOBAN else ""
+    return names[0] if names else "xsok" if kinds - _SOKOBAN else ""

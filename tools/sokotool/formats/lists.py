@@ -157,13 +157,9 @@ class Lists:
         """Gives an entry to its level, or reports it."""
         failed: Optional[Tuple[int, Attempt]] = None
         for group in groups:
-            solved = []
-            for target in group:
-                attempt = self._attempt(target, entry)
-                if attempt and attempt.why is None:
-                    solved.append((target, attempt))
-                elif attempt:
-                    failed = failed or (target, attempt)
+            tried = [(at, it) for at in group for it in [self._attempt(at, entry)] if it]
+            solved = [it for it in tried if not it[1].why]
+            failed = failed or next((it for it in tried if it[1].why), None)
             if len(solved) > 1:
                 others = [it for other in groups for it in other if other is not group]
                 solved = [it for it in solved if it[0] in others] or solved

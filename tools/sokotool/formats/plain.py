@@ -45,9 +45,8 @@ def read(collection: Collection, lines: List[str]) -> None:
         at = next((at for at in range(first, end) if rows.is_plain(lines[at])), -1)
         if at >= 0:
             collection.note(at + 1, "rows in a comment, which stay text")
-    at = 0
-    for (first, end), head, game_of in zip(spans, _heads(kinds, gaps),
-                                           _other_games(lines, kinds, gaps)):
+    for (at, first), (_, end), head, game_of in zip(gaps, spans, _heads(kinds, gaps),
+                                                    _other_games(lines, kinds, gaps)):
         text.read(at, head)
         if game_of:
             collection.end_level()
@@ -58,8 +57,7 @@ def read(collection: Collection, lines: List[str]) -> None:
             _add_levels(collection, found[first:end], first)
         text.is_skipping = bool(game_of)
         text.read(head, first)
-        at = end
-    text.read(at, len(lines))
+    text.read(*gaps[-1])
     _report_codes(collection, lines)
 
 

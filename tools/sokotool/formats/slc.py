@@ -54,13 +54,10 @@ class _Reader:
                 self._add("; " + line.strip())
 
     def end(self, tag: str) -> None:
-        tag = tag.rpartition(":")[2]
-        text = "".join(self.text)
-        self.text = []
+        tag, text = tag.rpartition(":")[2], "".join(self.text)
         if tag.lower() == "l" and self.rows is not None:
             self._add_row(re.sub(r"[\r\n]+", "", text))
         elif tag.lower() == "level":
-            self.text = [text]
             self._stray()
             self.end_level()
         elif text.strip() and ("solution" in tag.lower() or tag.lower() == "lurd"):
@@ -68,9 +65,9 @@ class _Reader:
                 self._try(text)
             else:
                 self.solutions.append(text)
-                self.said.append("")
         elif text.strip():
             self._say(tag, text)
+        self.text = []
 
     def _say(self, key: str, text: str) -> None:
         key = _KEYS.get(key.lower(), key[:1].upper() + key[1:])
@@ -125,7 +122,7 @@ class _Reader:
             self.collection.add_level(part.split("\n"), self.first, title)
         if title and not drawn:
             self.collection.add_text("; " + title)
-        for line in filter(None, self.said):
+        for line in self.said:
             self.collection.add_text(line)
             found = letters.among_words(line.partition(":")[2])
             for text in found if self.collection.board else ():
