@@ -61,9 +61,7 @@ def solutions_of(name: str, found: List[levels.Level]
     records = answers.read_text(name, data, len(found), rising=False).records
     solutions: Dict[int, Solution] = {}
     faults = []
-    for record in records:
-        if record.kind != "solution":
-            continue
+    for record in (it for it in records if it.kind == "solution"):
         board = board_of(found[record.level - 1])
         why = board.replay(record.letters).fault if board.player is not None else "board player"
         if why:
