@@ -62,7 +62,7 @@ class Collection:
         self.others: Dict[int, Try] = {}
         self.count = self.total = 0
         self.solutions = self.faults = self.unsolved = self.torn = 0
-        self.file = self.published = ""
+        self.file = ""
         # the names of files as they are published, and of those that have nothing to read, by the
         # game that they are for
         self.names: Dict[str, str] = {}
@@ -93,7 +93,7 @@ class Collection:
 
     def source(self) -> str:
         """Returns the comment that names the file. With its key it is no title."""
-        return "; File: " + texts.shown(self.published)
+        return "; File: " + texts.shown(self._place(0).published)
 
     def report_idle(self) -> None:
         """Reports the files without a level, and those of each other game."""

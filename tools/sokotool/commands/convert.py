@@ -94,7 +94,7 @@ def read_files(collection: Collection, listed: Sequence[sources.Export]) -> None
     its levels and answers. A file that can't be read is reported, unless it is the only one."""
     before: Tuple[str, int] = ("", 0)
     waiting = lists.Lists(collection)
-    collection.names = names = sources.published([export.name for export in listed])
+    collection.names = sources.published([export.name for export in listed])
     for export in listed:
         try:
             data = export.read()
@@ -105,10 +105,9 @@ def read_files(collection: Collection, listed: Sequence[sources.Export]) -> None
             continue
         if own_files.is_made(export.name, data):
             continue
-        name = names[export.name]
         if export.end != ".sol":
             collection.end_level()
-        collection.file, collection.published = export.name, name
+        collection.file = export.name
         if answers.is_begun(data):
             _read_answers(collection, data, sources.levels_of(export, listed), waiting)
         elif export.end == ".sol":
@@ -140,13 +139,14 @@ def _read_answers(collection: Collection, data: bytes, its_levels: Optional[sour
 
 
 def _read_levels(collection: Collection, data: bytes, is_found: bool, waiting: lists.Lists) -> None:
+    name = collection.names[collection.file]
     text, coding = texts.text_of(data, collection.encoding)
     game = foreign.game_of(text) if text else ""
     lines = dress.lines_of(text) if text and not game else []
     is_slc = slc.is_slc(text or "")
     is_list = not is_slc and entries.is_list(lines)
     if is_found and (game or not is_slc and not is_list and _is_idle(data, text, lines)):
-        collection.idle.setdefault(game, []).append(collection.published)
+        collection.idle.setdefault(game, []).append(name)
         return
     if game:
         collection.fault(1, f"a file of {game}, which is not read")
@@ -155,7 +155,7 @@ def _read_levels(collection: Collection, data: bytes, is_found: bool, waiting: l
     if text is None:
         return
     if is_list:
-        waiting.add(collection.file, lines, collection.published if is_found else "")
+        waiting.add(collection.file, lines, name if is_found else "")
         return
     if collection.file != "-":
         collection.add_text(collection.source())
