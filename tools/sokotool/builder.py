@@ -83,9 +83,9 @@ class Collection:
         self._report(self._place(line, file), why, True)
         self.faults += 1
 
-    def note(self, line: int, why: str, file: Optional[str] = None) -> None:
+    def note(self, line: int, why: str) -> None:
         """Reports what was read with a change."""
-        self._report(self._place(line, file), why, False)
+        self._report(self._place(line), why, False)
 
     def _place(self, line: int, file: Optional[str] = None) -> Place:
         file = file or self.file

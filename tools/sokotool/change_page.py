@@ -62,21 +62,16 @@ def _figure(level: Level, name: str) -> str:
 
 
 def _shapes(row: int, cells: bytes) -> Iterator[str]:
-    """Yields the shapes of a row; cells of walls beside each other are one."""
+    """Yields the shapes of a row. Cells of walls beside each other are one. A goal comes last, so
+    that it is seen on a box."""
     for match in re.finditer("#+|[^#]", cells.decode("latin-1")):
         at, count = match.start(), len(match[0])
         if match[0][0] == "#":
             yield f'<rect class="wall" x="{at}" y="{row}" width="{count}" height="1"/>'
-        else:
-            yield from _marks(at, row, _KINDS.get(match[0], ""))
-
-
-def _marks(column: int, row: int, kinds: str) -> Iterator[str]:
-    """Yields what stands on a cell: a goal last, so that it is seen on a box."""
-    for kind in kinds.split():
-        x, y = column + .5, row + .5
-        if kind == "box":
-            yield f'<rect class="box" x="{x - .4}" y="{y - .4}" width=".8" height=".8"/>'
-        else:
-            radius = .35 if kind == "player" else .15
-            yield f'<circle class="{kind}" cx="{x}" cy="{y}" r="{radius}"/>'
+        for kind in _KINDS.get(match[0], "").split():
+            x, y = at + .5, row + .5
+            if kind == "box":
+                yield f'<rect class="box" x="{x - .4}" y="{y - .4}" width=".8" height=".8"/>'
+            else:
+                radius = .35 if kind == "player" else .15
+                yield f'<circle class="{kind}" cx="{x}" cy="{y}" r="{radius}"/>'

@@ -10,7 +10,7 @@ journal goes. So `finish` also ends what a power cut left.
 import contextlib
 import json
 import os
-from typing import List, NamedTuple, Optional, Sequence, Tuple
+from typing import NamedTuple, Optional, Sequence, Tuple
 
 from . import output, system, texts
 
@@ -74,7 +74,12 @@ def commit(files: Sequence[Tuple[str, Optional[bytes], Optional[bytes]]], journa
 def finish(journal: str) -> str:
     """Ends a write that was cut off: goes on with it, or takes it back if a file that it left as it
     was has been changed since. Returns the path of such a file, or ""."""
-    return _end(_listed(journal), journal, is_new=False)
+    try:
+        with open(journal, "rb") as file:
+            moves = [Move(*words) for words in json.load(file)]
+    except (FileNotFoundError, ValueError):
+        moves = []  # There is no journal, or it was cut off itself.
+    return _end(moves, journal, is_new=False)
 
 
 def _end(moves: Sequence[Move], journal: str, is_new: bool) -> str:
@@ -129,15 +134,6 @@ def _take_back(moves: Sequence[Move], journal: str) -> None:
                 f"{texts.shown(journal)}")
     for it in moves:
         it.take_back()
-
-
-def _listed(journal: str) -> List[Move]:
-    """Returns the moves of a journal: none if there is none, or if it was cut off itself."""
-    try:
-        with open(journal, "rb") as file:
-            return [Move(*words) for words in json.load(file)]
-    except (FileNotFoundError, ValueError):
-        return []
 
 
 def _swap(path: str, new: str, aside: str, contents: str) -> bool:
