@@ -227,8 +227,7 @@ def _turned(cells: bytes, stride: int) -> Tuple[int, bytes, Turn]:
 
 
 def _without_empty_rows(cells: bytes, width: int) -> Tuple[bytes, int]:
-    """Returns cells without the empty rows above and below, and the row from 1 that is then first.
-    """
+    """Returns cells without the empty rows above and below, and their first row, from 1."""
     above = (len(cells) - len(cells.lstrip(b"\0"))) // width
     below = (len(cells) - len(cells.rstrip(b"\0"))) // width
     return cells[above * width:len(cells) - below * width], above + 1

@@ -44,8 +44,7 @@ class Files:
         return {end: data for end, data in found.items() if data is not None}
 
     def levels(self) -> Optional[bytes]:
-        """Returns the text of NAME.xsb without the note of the reference, or None if there is none.
-        """
+        """Returns NAME.xsb without the note of the reference, or None if there is none."""
         data = self.before.get(XSB)
         if data is None or _NOTE not in data:
             return data

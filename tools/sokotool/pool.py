@@ -119,8 +119,7 @@ class Pool:
         return found
 
     def _rank(self, it: Candidate, order: int) -> None:
-        """Ranks a candidate, and notes why a replay refuses it. Certificates aren't checked here.
-        """
+        """Ranks a candidate, and notes why a replay refuses it. Certificates aren't checked."""
         if it.rank:
             return
         if it.answer.kind != "solution":

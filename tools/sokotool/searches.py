@@ -42,8 +42,7 @@ class _Worker(Job):
             self.pipe.send((level, seconds))
 
     def take(self) -> None:
-        """Takes what the process has sent. One that died before it sent anything ran out of memory.
-        """
+        """Takes what the process sent. One that died before it sent anything ran out of memory."""
         try:
             self._found = self.pipe.recv()
             self.is_ready = True

@@ -93,8 +93,7 @@ def words_of(command: str) -> List[str]:
 
 
 def memory_limit(megabytes: int) -> Optional[Callable[[], None]]:
-    """Returns what a new process calls to limit its memory, or None where there is no such limit.
-    """
+    """Returns what a new process calls to limit its memory, or None where there is no limit."""
     def bound() -> None:
         # macOS has the limit and may refuse to set it.
         with contextlib.suppress(ValueError, OSError):

@@ -26,8 +26,7 @@ _NEAR = re.compile(b"%b?%b" % (_BLANK, _LETTER))
 
 
 class Heading(NamedTuple):
-    """A heading whose letters have not been read yet: its line, its kind, and letters on the line.
-    """
+    """A heading whose letters aren't read yet: its line, its kind, and letters on the line."""
 
     at: int
     kind: int
@@ -147,8 +146,7 @@ class Between:
         return self.tried[text]
 
     def _end_heading(self) -> None:
-        """Reports letters of a heading that don't solve the level, and a heading without letters.
-        """
+        """Reports a heading whose letters don't solve the level, and one without letters."""
         heading, self.heading = self.heading, None
         if heading is None:
             return

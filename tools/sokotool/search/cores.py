@@ -126,8 +126,7 @@ class Cores:
         return layers
 
     def _on_path(self, target: int, layers: Sequence[int], boxes: int) -> int:
-        """Returns a box of the first layer on a path to the target through one box of each layer.
-        """
+        """Returns a box of the first layer on a path to the target through a box of each."""
         free = self.room.cells & ~boxes
         for layer in reversed(layers):
             if not target & layer:
