@@ -19,11 +19,11 @@ class Attempt(NamedTuple):
     pairs of numbers of moves: from the first to the second, all boxes are on goals.
     """
 
-    letters: bytes
-    moves: int
-    pushes: int
-    plays: bool
     why: Optional[str]
+    plays: bool = False
+    letters: bytes = b""
+    moves: int = 0
+    pushes: int = 0
     solved: Sequence[Tuple[int, int]] = ()
 
 
@@ -169,28 +169,24 @@ class Collection:
 
     # ---- solutions
 
-    def attempt(self, letters: str) -> Attempt:
-        """Plays letters, run-length coded or not, on the last level."""
-        return self.attempt_on(self.board, letters)
-
-    def attempt_on(self, board: Optional[Board], letters: str) -> Attempt:
-        """Plays letters, run-length coded or not, on the board of a level."""
-        if board is None or board.player is None:
-            too_large = board is not None and board.fault == "size"
-            return _failed("cannot be played: " + ("the level is too large" if too_large
-                                                   else "not exactly one player"))
+    def attempt(self, letters: str, board: Optional[Board] = None) -> Attempt:
+        """Plays letters, run-length coded or not, on the board of a level, by default the last."""
+        board = board or self.board
+        assert board
+        if board.player is None:
+            return Attempt("cannot be played: " + (
+                "the level is too large" if board.fault == "size" else "not exactly one player"))
         try:
             most = texts.MOST_BYTES - self._letters
             text = coding.expand(letters, most)
         except coding.Wrong as wrong:
-            return _failed(str(wrong))
+            return Attempt(str(wrong))
         self._played += len(text)
         if len(text) > most or self._played > 3 * texts.MOST_BYTES:
-            return _failed("is longer than an answers file may be, with those before it")
+            return Attempt("is longer than an answers file may be, with those before it")
         replay = board.replay(text.encode("ascii", "replace"), any_case=True)
-        return Attempt(replay.letters, replay.moves, replay.pushes,
-                       not (replay.fault or "").startswith("move"), _why(replay, text),
-                       replay.solved)
+        return Attempt(_why(replay, text), not (replay.fault or "").startswith("move"),
+                       replay.letters, replay.moves, replay.pushes, replay.solved)
 
     def add_try(self, line: int, attempt: Attempt, is_spare: bool = False) -> None:
         """Adds an attempt to solve the last level; a level may have several. A spare one solves it,
@@ -258,10 +254,6 @@ class Collection:
             stem = f"{name}-{number}" if self.split else name
             found += [(stem + ".xsb", text), (stem + ".answers", written)]
         return found
-
-
-def _failed(why: str) -> Attempt:
-    return Attempt(b"", 0, 0, False, why)
 
 
 def _why(replay: Replay, text: str) -> Optional[str]:

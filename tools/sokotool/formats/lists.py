@@ -95,7 +95,7 @@ class Lists:
         if answer.kind != "solution":
             self._certificates.setdefault(at, answer)
             return ""
-        attempt = self.collection.attempt_on(board_of(level), answer.letters.decode("latin-1"))
+        attempt = self.collection.attempt(answer.letters.decode("latin-1"), board_of(level))
         if attempt.why:
             return f"the solution of level {level.number} {attempt.why}"
         notes = [texts.decoded(it) for it in answer.comments]
@@ -185,7 +185,7 @@ class Lists:
     def _attempt(self, at: int, entry: Entry) -> Optional[Attempt]:
         """Plays the letters of an entry on a level, as they solve it or as they were written."""
         board = board_of(self._levels[at][1])
-        tried = [self.collection.attempt_on(board, text) for text in entry.readings]
+        tried = [self.collection.attempt(text, board) for text in entry.readings]
         return next((it for it in tried if it.why is None), tried[0] if tried else None)
 
     def _notes(self, entry: Entry) -> List[str]:
