@@ -210,10 +210,9 @@ class Group:
 
 def _linux(name: str) -> Any:
     """Returns a function of Linux, or None."""
-    try:
+    with contextlib.suppress(AttributeError, OSError, TypeError):
         return getattr(ctypes.CDLL(None), name)
-    except (AttributeError, OSError, TypeError):
-        return None
+    return None
 
 
 _PRCTL, _RENAME = _linux("prctl"), _linux("renameat2")

@@ -150,12 +150,11 @@ def _swap(path: str, new: str, aside: str, contents: str) -> bool:
 
 def _put(made: str, path: str) -> bool:
     """Moves a file, if there is one, to a path. Returns false if a file is there."""
-    try:
+    with contextlib.suppress(FileExistsError):
         if made and os.path.exists(made):
             system.rename_new(made, path)
-    except FileExistsError:
-        return False
-    return True
+        return True
+    return False
 
 
 def _refused(journal: str, error: OSError) -> texts.Stop:
@@ -164,11 +163,9 @@ def _refused(journal: str, error: OSError) -> texts.Stop:
 
 def _digest(path: str) -> str:
     """Returns a name for the contents of a file: "" if there is none."""
-    try:
-        with open(path, "rb") as file:
-            return _name_of(file.read())
-    except FileNotFoundError:
-        return ""
+    with contextlib.suppress(FileNotFoundError), open(path, "rb") as file:
+        return _name_of(file.read())
+    return ""
 
 
 def _name_of(data: Optional[bytes]) -> str:
