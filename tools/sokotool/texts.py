@@ -154,12 +154,14 @@ def text_of(data: bytes, encoding: str = "") -> Tuple[Optional[str], str]:
 def _mixed(data: bytes) -> Tuple[str, str]:
     """Returns the text of bytes that are UTF-8 in part, decoded line by line, and the encoding of
     the other lines."""
-    blocks = _BLOCKS.findall(data)
-    others = (line + b"\n" for block in blocks for line in block.split(b"\n")
-              if not _is_utf8(line))
+    blocks = [(block, _is_utf8(block)) for block in _BLOCKS.findall(data)]
+    others = (line + b"\n" for block, is_plain in blocks if not is_plain
+              for line in block.split(b"\n") if not _is_utf8(line))
     name = encodings.guessed(b"".join(islice(others, encodings.MOST)))
-    return "".join("\n".join(_decoded_line(line, name) for line in block.split(b"\n"))
-                   for block in blocks), name
+    return "".join(
+        block.decode("utf-8") if is_plain else
+        "\n".join(_decoded_line(line, name) for line in block.split(b"\n"))
+        for block, is_plain in blocks), name
 
 
 def _is_utf8(line: bytes) -> bool:

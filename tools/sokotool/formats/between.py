@@ -18,9 +18,11 @@ LONG = 8
 MOST_ADDED = 1 << 20
 MOST_TRIED, MOST_PARTS, MOST_LINES = 1000, 100, 5000
 _LETTER, _BLANK = bytes([LETTERS]), bytes([BLANK])
-# lines of letters with at most one blank line between two, or another line that counts
-_EVENT = re.compile(b"(%b+(?:%b%b+)*)|[^%b]" % (
-    _LETTER, _BLANK, _LETTER, bytes((headings.TEXT, BLANK, headings.KEY))))
+# Lines of letters with at most one blank line between two, or another line that counts. No group is
+# repeated, which would take much memory.
+_EVENT = re.compile(
+    b"(%(L)b[%(L)b%(B)b]*?(?=%(B)b%(B)b|%(B)b?(?:[^%(L)b%(B)b]|\\Z)))|[^%(idle)b]" % {
+        b"L": _LETTER, b"B": _BLANK, b"idle": bytes((headings.TEXT, BLANK, headings.KEY))})
 # letters, perhaps after a blank line
 _NEAR = re.compile(b"%b?%b" % (_BLANK, _LETTER))
 

@@ -30,7 +30,8 @@ NOTES = {"spaced": "no-break spaces were read as floor",
 def read(collection: Collection, lines: List[str]) -> None:
     """Reads the lines of a text into the collection."""
     found, comments, reasons = rows_of(lines)
-    lines = [line.lstrip(rows.MARK) for line in lines]
+    if rows.MARK in "".join(lines):
+        lines = [line.lstrip(rows.MARK) for line in lines]
     kinds = bytearray(map(texts.Cache(headings.kind_of).__getitem__, lines))
     for first, end in comments:
         kinds[first:end] = kinds[first:end].translate(_IN_COMMENT)
@@ -69,15 +70,18 @@ def rows_of(lines: Sequence[str]) -> Tuple[Rows, List[Span], Reasons]:
     read_row = texts.Cache(rows.read)
     found = [read_row[line] if "#" in line else None for line in lines]
     # Most texts have neither mazes nor comments.
-    keys = {line for line in lines if ":" in line and "#" not in line}
+    keys = [line for line in lines if ":" in line and "#" not in line]
+    has_mazes, has_comments = (any(map(texts.Cache(test).__getitem__, keys))
+                               for test in (rows.is_maze_head, rows.is_comment_end))
     is_maze = False
-    for at, line in enumerate(lines if any(map(rows.is_maze_head, keys)) else ()):
+    for at, line in enumerate(lines if has_mazes else ()):
         is_maze = is_maze or rows.is_maze_head(line)
         found[at] = is_maze and rows.read_maze(line) or found[at]
-    comments = list(_comments(lines)) if any(map(rows.is_comment_end, keys)) else []
+    comments = list(_comments(lines)) if has_comments else []
     for first, end in comments:
         found[first:end] = [None] * (end - first)
-    mazes = [at for at, row in enumerate(found) if row and row.kind == "maze"]
+    mazes = [at for at, row in enumerate(found) if row and row.kind == "maze"
+             ] if has_mazes else []
     for first, end in list(runs(found)):
         _drop_others(found, first, end)
     return found, comments, {
@@ -251,6 +255,9 @@ def _split(run: Rows, first: int) -> Iterator[Tuple[List[Row], int]]:
 
     Rows joined by '|', in one line or several, are a level of their own.
     """
+    if all(row.kind == "plain" and not row.starts for row in distinct(run)):
+        yield [row for row in run if row], first
+        return
     level: List[Row] = []
     is_joined = goes_on = False
     start = first
