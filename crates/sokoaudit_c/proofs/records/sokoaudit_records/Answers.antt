@@ -1,7 +1,9 @@
 use Rattle.std.proofs.Common.{sym, ap, ◌∙◌, inl, inr, ⊎_elim}
 use Rattle.report.specs.Audit.{error_of}
+use Rattle.report.specs.declared.fault.AuditError.{AuditError}
 use Rattle.report.specs.declared.fault.DeadError.TheVariants.{Audit}
 use Rattle.sokoaudit_c.specs.Outcome.{outcome_of_answers, outcome_of_error}
+use Rattle.sokoaudit_c.specs.declared.outcome.Outcome.{Outcome}
 use Rattle.sokoaudit_c.proofs.Walks.{as_many}
 use Rattle.sokoaudit_c.proofs.records.sokoaudit_records.Goals as goal
 
@@ -24,7 +26,7 @@ returns-in-Ok-clause-first c = λ fault first. absurd (c.in-Ok.ensures.refused f
 
 pub returns-in-Err-clause-first : goal.returns-in-Err-clause-first
 returns-in-Err-clause-first c = λ fault first.
-    let outcome = λ e. outcome_of_error (Audit e) in
+    let outcome : AuditError → Outcome = λ e. outcome_of_error (Audit e) in
     ⊎_elim (λ none. inl (c.of_error.ensures ∙ ap outcome (c.from.ensures ∙ ap error_of none)))
     (λ same. inr (c.of_error.ensures ∙ ap outcome (c.from.ensures ∙ ap error_of same)))
     (c.in-Err.ensures.refused fault first)
