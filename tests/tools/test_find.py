@@ -233,6 +233,7 @@ class Signs(Case):
 
     def find(self, *words: str, **streams: Any) -> "subprocess.Popen[bytes]":
         running = subprocess.Popen([os.path.join(TOP, "sokotool"), "find", *words],
+                                   env={**os.environ, "TERM": "xterm"},  # it may be dumb here
                                    start_new_session=True, **streams)
         self.addCleanup(end_group, running.pid)
         return running
