@@ -20,3 +20,11 @@ loop-line-preserved g c =
       entries = entries_more c.args.board.now (list_in c.args.arena.now) c.loop-line.line c.loop-line.entries.items _ c.in_ok-enter.field-0 old.entries
           c.push_reserved.ensures.items (rw c.pattern.ensures.pattern at c.in_ok-enter.ensures.ok);
     }
+
+pub push_reserved-requires : goal.push_reserved-requires
+push_reserved-requires g c =
+    let roomy = c.loop-line.invariant.roomy in
+    let count = c.loop-line.invariant.entries.long in
+    let test = c.loop-line-test.true in
+    let len = c.len-line-end.ensures in
+    omega arith

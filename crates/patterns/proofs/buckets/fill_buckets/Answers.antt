@@ -31,3 +31,11 @@ chain-requires g c = λ j lt.
     let within = key_within c.args.board.now c.args.groups.now c.requires.lawful c.requires.groups j (omega arith) c.loop-group.keys.items (inv.each j low) in
     let key = ap (λ l. slice_index l j) keys in
     grind arith
+
+pub push_reserved-requires : goal.push_reserved-requires
+push_reserved-requires g c =
+    let roomy = c.loop-group.invariant.roomy in
+    let long = c.loop-group.invariant.long in
+    let test = c.loop-group-test.true in
+    let count = c.len-group-end.ensures in
+    omega arith

@@ -34,6 +34,12 @@ one_line g c covers =
     one_more (λ (j : ℕ). CoversPushesOf level (list_of groups) (pattern_at (list_of groups) j)) c.loop-line.line c.loop-line.invariant.covered
     (pattern_of_group level groups c.requires.tables.grouped c.loop-line.line (is_line g c) (rw (of_line g c) at covers))
 
+pub boxes-requires-clause-group : goal.boxes-requires-clause-group
+boxes-requires-clause-group g c = is_group g (goal.at.boxes-requires-clause-group g c).After-index
+
+pub settle-requires-clause-group : goal.settle-requires-clause-group
+settle-requires-clause-group g c = is_group g (goal.at.settle-requires-clause-group g c).After-index
+
 pub index_mut-requires : goal.index_mut-requires
 index_mut-requires g c =
     let low = is_group g (goal.at.index_mut-requires g c).After-index in

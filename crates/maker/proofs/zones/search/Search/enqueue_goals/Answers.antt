@@ -1,6 +1,6 @@
 -- The invariant says that the search stays one, and that the goals of the reach that were seen so far are visited.
 use Rattle.std.proofs.Common.{inr}
-use Rattle.std.proofs.lemmas.List.Elements.{Contains-push_cases}
+use Rattle.std.proofs.lemmas.{Bool.false≢true, List.Elements.Contains-push_cases}
 use Rattle.cellset.proofs.MemberLists.{next_has, next_came}
 use Rattle.cellset.proofs.Truth.{either}
 use Rattle.maker.proofs.Searches.{queued_further, queued_here, queued_cases}
@@ -40,4 +40,19 @@ loop-goal-preserved-then-reaches g c =
       within = λ q h. either (queued_cases _ _ _ _ _ q queued h) (λ is. inr (rw is here)) (inv.within q);
       goals = λ q came has. either (Contains-push_cases c.loop-goal.yielded goal q came)
           (λ old. (queued_further c.args.board.now _ _ _ _ _ queued).kept q (inv.goals q old has)) (λ is. rw (← is) (queued_here _ _ _ _ _ queued));
+    }
+
+pub loop-goal-preserved : goal.loop-goal-preserved
+loop-goal-preserved g c =
+    let inv = c.loop-goal.invariant in
+    let goal = c.in-Some.goal in
+    record {
+      can_next = tt;
+      is_finite = tt;
+      all = next_came c.loop-goal.yielded c.next.new.self goal (rw c.in-Some.ensures.steps at inv.all);
+      ready = inv.ready;
+      search = inv.search;
+      within = inv.within;
+      goals = λ q came has. either (Contains-push_cases c.loop-goal.yielded goal q came) (λ old. inv.goals q old has)
+          (λ is. absurd (false≢true (c.if-reaches.ensures.1 (rw (← is) at has))));
     }
