@@ -43,12 +43,37 @@ class Archives(Case):
 
     def test_broken(self) -> None:
         """Neither the bytes of a file nor its packed form are as they were."""
-        for form in (zipfile.ZIP_STORED, zipfile.ZIP_DEFLATED):
+        for form in (zipfile.ZIP_STORED, zipfile.ZIP_DEFLATED, zipfile.ZIP_LZMA):
             data = bytearray(self.archive("1.txt", form=form))
             at = data.index(b"1.txt") + 5
             data[at:at + 4] = b"\xff" * 4
             self.write("a.zip", bytes(data))
             self.assertIn("cannot read a.zip/1.txt: ", self.complaints()[0])
+
+    def test_broken_lists_of_files(self) -> None:
+        """A name isn't in the encoding that it names, and a version is none that there is."""
+        named = self.archive("\u00e4.txt")
+        self.write("a.zip", named.replace(b"\xc3\xa4", b"\xc3\xc3"))
+        self.assertIn("cannot read a.zip: 'utf-8' codec ", self.complaints()[0])
+        data = bytearray(self.archive("1.txt"))
+        data[data.index(b"PK\1\2") + 6] = 99
+        self.write("a.zip", bytes(data))
+        self.assertIn("cannot read a.zip: zip file version 9.9", self.complaints()[0])
+
+    def test_long_numbers_in_names(self) -> None:
+        names = ["2.txt", "010.txt", "10.txt", "9" * 5000 + ".txt"]
+        self.write("a.zip", self.archive(*names[::-1]))
+        self.assertEqual([it.name for it in sources.listed(["a.zip"])],
+                         ["a.zip/" + name for name in names])
+
+    def test_encodings_of_ignored_names(self) -> None:
+        """Windows may write a byte order mark, or UTF-16."""
+        for name in ("\u00e4.txt", "2.txt"):
+            self.write(name, ONE)
+        for encoding in ("utf-8", "utf-8-sig", "utf-16", "cp1252"):
+            self.write(".sokoignore", "\u00e4.txt\r\n".encode(encoding))
+            names = [os.path.basename(it.name) for it in sources.listed(["."])]
+            self.assertEqual(names, ["2.txt"], encoding)
 
     def test_comments_of_ignored_names(self) -> None:
         for name in ("#1.txt", "2.txt", "3.txt"):
@@ -65,3 +90,14 @@ class Reports(Case):
         self.assertIsNone(report.read(one + b"; note\n").fault(1))
         for more in (b"level 2 missing\n", b"total 1 solved 1 unsolvable 0 refused 0 missing 0\n"):
             self.assertEqual(report.read(one + more).fault(1), "line 3 isn't a line of a report")
+
+    def test_lines_of_other_forms(self) -> None:
+        """What was typed into a report is no line of it."""
+        total = b"total 1 solved 1 unsolvable 0 refused 0 missing 0\n"
+        for line in ("solved by Bob", "solved", "solved moves 4 pushes 2", "missing title",
+                     "solved moves 4 pushes 2 changes 1 !", "refused line", "refused board 5",
+                     "unsolvable patterns " + "9" * 5000):
+            self.assertEqual(report.read(b"level 1 %b\n%b" % (line.encode(), total)).fault(1),
+                             "line 1 isn't a line of a report", line)
+        long = total.replace(b"1", b"1" * 5000)
+        self.assertEqual(report.read(long).fault(1), "it isn't a report")

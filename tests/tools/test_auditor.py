@@ -86,6 +86,26 @@ class Auditor(Case):
         self.assertEqual(self.tool("named", "mine.xsb", "mine.report").status, 0)
         self.assertEqual(self.tool("page", "mine.xsb", "mine.answers", "mine.report").status, 0)
 
+    def test_the_note_goes_when_the_program_checks(self) -> None:
+        """Also if a record was typed below it."""
+        self.write("a.txt", LEVELS + "\nOpen\n#####\n#@$.#\n#####\n")
+        note, record = auditor.REFERENCE_NOTE.encode(), b"level 2\nsolution\nR\nend\n"
+        for between in (b"", b"; mine\n", b"\n"):
+            self.check("mine", "a.txt", SOKOAUDIT=REFERENCE)
+            self.write("mine.answers", self.read("mine.answers") + between + record)
+            for program, count in ((REFERENCE, 1), (helping.PROGRAM, 0)):
+                self.check("mine", "a.txt", SOKOAUDIT=program)
+                self.assertEqual(self.read("mine.answers").count(note), count)
+            self.assertIn(between.strip(), self.read("mine.answers"))
+            os.remove("mine.answers")
+
+    def test_comparing_needs_no_permission(self) -> None:
+        self.write("a.txt", LEVELS)
+        self.check("mine", "a.txt", SOKOAUDIT=helping.PROGRAM)
+        os.chmod("mine.xsb", 0o444)
+        result = self.check("mine", "a.txt", "--compare", SOKOAUDIT=helping.PROGRAM)
+        self.assertEqual(result, (0, b"mine: no file would change\n", ""))
+
     def test_comparing_what_the_program_wrote(self) -> None:
         """The reference writes the same files but for its note, and --compare tells where files
         are other than a check would write them, and writes none."""

@@ -121,6 +121,32 @@ class Beside(Check):
         self.assertEqual(self.report()[-1], "total 2 solved 2 unsolvable 0 refused 0 missing 0")
         self.assertNotIn(b'"found"', self.read("mine.memory"))
 
+    def test_an_empty_file_takes_nothing_away(self) -> None:
+        """An editor that saves empties the file first: what was typed comes a moment later."""
+        self.write("a.txt", CORNER)
+        self.check("mine", "a.txt")
+        self.write("mine.xsb", self.read("mine.xsb") + b"; typed\n")
+        self.check("mine", "a.txt")
+        self.write("mine.xsb", b"")
+        files = {name: self.read(name) for name in os.listdir()}
+        result = self.check("mine", "a.txt")
+        self.assertEqual(result.status, 2)
+        self.assertTrue(result.err.startswith("check: mine.answers is there, but not its levels"))
+        self.assertEqual({name: self.read(name) for name in os.listdir()}, files)
+
+    def test_slip_during_the_search_has_no_find_lost(self) -> None:
+        """What the search found is kept, although the answers can't be read any more."""
+        self.write("a.txt", CORNER + "\n" + LONG.replace("Solution", "No solution"))
+        self.check("mine", "a.txt")
+        with Meanwhile("search", 1, self.typed("mine.answers", "level 2\nsolution\n")):
+            result = self.tool("check", "mine", "a.txt")
+        self.assertEqual((result.status, result.err.splitlines()[-1]), (
+            2, "check: mine.answers line 8: the last record lacks its last line, 'end', and the "
+            "next run has what was found"))
+        self.write("mine.answers", "sokoban-answers 1\n")
+        self.check("mine", "a.txt")
+        self.assertEqual(self.report()[-1], "total 2 solved 2 unsolvable 0 refused 0 missing 0")
+
     def type_and_audit(self, audit: Callable[..., bytes]) -> Callable[..., bytes]:
         """Returns an audit that types first."""
         def typing(*words: str) -> bytes:

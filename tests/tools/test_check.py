@@ -368,6 +368,34 @@ class Typed(Check):
                          (0, "level 2 solved moves 4 pushes 2 changes 1"))
         self.assertFalse(os.path.exists("mine.kept.xsb"))
 
+    def test_answer_that_was_computed_for_a_level_that_is_away(self) -> None:
+        """It is kept, also if another level has the number now, and comes back."""
+        self.write("a.txt", CORNER)
+        self.check("mine", "a.txt")
+        before = self.read("mine.xsb")
+        other = "\nOther\n#######\n#@ $  #\n#  . .#\n#######\n"
+        self.write("mine.xsb", before + b"\n" + LONG.partition("Sol")[0].encode())
+        self.tool("check", "mine", "a.txt")
+        typed, solved = self.read("mine.xsb"), self.report()[1]
+        self.assertIn("level 2 solved", solved)
+        self.write("mine.xsb", before + other.encode())
+        self.check("mine", "a.txt")
+        self.assertIn(b"#@ $  .#", self.read("mine.kept.xsb"))
+        self.assertEqual(self.read("mine.kept.answers").count(b"solution"), 1)
+        self.write("mine.xsb", typed)
+        self.check("mine", "a.txt")
+        self.assertEqual(self.report()[1], solved)
+
+    def test_words_that_are_typed_into_the_report(self) -> None:
+        """It is made anew, from the answers as they were."""
+        self.write("a.txt", LONG)
+        self.check("mine", "a.txt")
+        written = self.read("mine.report")
+        self.write("mine.report", written.replace(b"moves 4", b"by Bob, moves 4"))
+        result = self.check("mine", "a.txt")
+        self.assertEqual(self.lines(result)[1:], ["nothing changed since the last time"])
+        self.assertEqual(self.read("mine.report"), written)
+
     def test_report_names_the_line_of_a_refused_certificate(self) -> None:
         """The line is the one in NAME.answers as it is after the check, with its comments."""
         self.write("a.txt", LOST)
@@ -500,6 +528,14 @@ class Files(Check):
                              (2, b"", f"check: would write over {name}: choose another NAME, "
                               "such as checked\n"))
 
+    def test_exports_that_are_named_like_the_collection(self) -> None:
+        """They are read: check writes no numbered parts."""
+        self.write("mine-1.xsb", CORNER)
+        self.write("mine-2.xsb", LOST)
+        for words in (["mine-1.xsb", "mine-2.xsb"], ["."]):
+            self.assertEqual(self.lines(self.check("mine", *words))[0],
+                             "mine: 2 levels, 0 solved, 1 unsolvable, 0 refused, 1 missing")
+
     def test_first_words_that_are_natural(self) -> None:
         """They name no collection, or not its exports, and the message says what to type."""
         self.write("first.xsb", CORNER)
@@ -512,6 +548,8 @@ class Files(Check):
                 (("first", "first.xsb"),
                  "check: would write over first.xsb: choose another NAME, such as checked\n"),
                 (("first.xsb", "first.answers"), is_name + "first.xsb is a file that is there\n"),
+                (("Mein Ordner/a.txt", "first.xsb"),
+                 is_name + "Mein Ordner/a.txt is a file that is there\n"),
                 (("neu.xsb", "Mein Ordner"),
                  is_name + "neu.xsb has an end: type it without .xsb\n"),
                 (("Mein Ordner",), "check: no EXPORT is named: first comes a new NAME for the "
@@ -577,8 +615,8 @@ class Screen(Check):
             self.skipTest("there is no command script here")
         self.write("a.txt", CORNER)
         subprocess.run(["script", "-qec", f"{TOP}/sokotool check mine a.txt", "said"],
-                       stdout=subprocess.DEVNULL, check=False,
-                       stdin=subprocess.DEVNULL)
+                       stdout=subprocess.DEVNULL, check=False, stdin=subprocess.DEVNULL,
+                       env={**os.environ, "TERM": "xterm"})
         said = self.read("said").decode()
         self.assertIn(" \rcheck: auditing", said)
         self.assertIn(" \rcheck: level 1: found a solution (1 of 1 done, 1 found)\r\n", said)

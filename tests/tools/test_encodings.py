@@ -65,6 +65,17 @@ class Encodings(Case):
                 os.remove("out.xsb")
                 os.remove("out.answers")
 
+    def test_answers(self) -> None:
+        """Windows may write a byte order mark, or UTF-16: no certificate is lost."""
+        self.write("a.xsb", ALPHA)
+        text = "sokoban-answers 1\nlevel 1\nunsolvable\npattern 2,2 @ *\nend\n"
+        for encoding in ("utf-8", "utf-8-sig", "utf-16"):
+            self.write("a.answers", text.encode(encoding))
+            result = self.tool("convert", "out", "a.xsb", "a.answers", "--replace")
+            self.assertEqual(result.err, "convert: 1 levels, 0 solutions, 0 left out\n", encoding)
+            self.assertEqual(self.read("out.answers").decode(), text)
+            self.assertEqual(self.tool("merge", "a.answers").out.decode(), text)
+
     def test_order_of_names(self) -> None:
         """Numbers in names count as numbers, in folders and archives."""
         names = ["a.2", "level1.txt", "level2.txt", "level10.txt", "level010.txt", "screen.9",

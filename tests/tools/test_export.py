@@ -184,6 +184,14 @@ class Export(Case):
         self.assertIn(b"<!-- so - - - - it is  -->",
                       self.tool("export", "mine", "--to", "slc").out)
 
+    def test_a_byte_order_mark_is_no_text(self) -> None:
+        text = "Title: One\n\n" + ONE
+        for name, encoding in (("plain", "utf-8"), ("marked", "utf-8-sig")):
+            self.write(name + ".xsb", text.encode(encoding))
+        for to in ("sok", "slc", "xsb", "rle"):
+            self.assertEqual(self.tool("export", "plain", "--to", to),
+                             self.tool("export", "marked", "--to", to))
+
     def test_certificates_stay(self) -> None:
         self.write("mine.xsb", "#####\n#$ .#\n# @ #\n#####\n")
         self.write("mine.answers",

@@ -1,4 +1,5 @@
 """The files that commands read and write: no file is replaced unasked, and outputs are whole."""
+import errno
 import glob
 import os
 import re
@@ -6,6 +7,7 @@ import signal
 import subprocess
 import sys
 import time
+import unittest.mock
 import zipfile
 
 from sokotool import answers, levels, main
@@ -134,6 +136,17 @@ class Whole(Case):
         self.assertEqual((ran.returncode, ran.stderr),
                          (2, b"merge: cannot write out: File too large\n"))
         self.assertEqual((self.read("out"), ".sok" in "".join(os.listdir("."))), (b"kept", False))
+
+    def test_the_file_that_cannot_be_replaced_is_named(self) -> None:
+        """On Windows that is one which another program has opened."""
+        def refused(made: str, path: str) -> None:
+            raise OSError(errno.EBUSY, "Device or resource busy", made, None, path)
+
+        before = os.listdir()
+        with unittest.mock.patch("os.replace", refused):
+            result = self.tool("convert", "new", "many.xsb")
+        self.assertRegex(result.err, "convert: cannot write .*new.xsb: Device or resource busy\n$")
+        self.assertEqual((result.status, {*os.listdir()}), (2, {*before}))
 
     def test_output_to_a_device(self) -> None:
         self.assertEqual(self.tool("merge", "many.answers", "-o", "/dev/null").status, 0)

@@ -204,6 +204,20 @@ class Levels(Case):
         self.assertEqual(result.err.count("gave up: out of memory"), 2)
         self.assertEqual((result.status, summary(result)), (1, total(4, found=2, gave_up=2)))
 
+    @needs_copies
+    def test_searches_that_cannot_be_started(self) -> None:
+        """They end the command, and not one after the other for ever."""
+        self.write("a.xsb", CORRAL)
+        for target, act, why in (
+                ("sokotool.system.end_with_parent", lambda: os._exit(1),
+                 "a search ended when it was started"),
+                ("multiprocessing.process.BaseProcess.start",
+                 unittest.mock.Mock(side_effect=OSError(11, "Try again")),
+                 "a search cannot be started: Try again")):
+            with unittest.mock.patch(target, act):
+                result = self.tool("find", "a.xsb")
+            self.assertEqual((result.status, result.err), (2, f"find: {why}\n"))
+
     def test_jobs_print_the_same(self) -> None:
         rng = random.Random(5)
         self.write("levels", "\n".join([CORRAL] + [random_level(rng) for _ in range(30)]))

@@ -129,6 +129,24 @@ class Rounds(Case):
                                 "without that", "handed on",
                                 "4 levels left: the next run goes on with them"])
 
+    def test_an_interrupt_while_lines_are_printed_loses_no_result(self) -> None:
+        told: List[str] = []
+        handed: List[Any] = []
+
+        def keep(_: Progress, line: str) -> None:
+            told.append(line)
+            if len(told) == 1:
+                raise KeyboardInterrupt
+
+        found = Found({2: "found", 3: "found"}, takes=.1)
+        with unittest.mock.patch.object(Progress, "keep", keep), \
+                unittest.mock.patch("sokotool.rounds.EVERY", .25), \
+                unittest.mock.patch("time.monotonic", lambda: found.now):
+            it = rounds.Rounds(Progress("check"), Outcomes({}), "find", Limits(.1, 60, 1), found)
+            self.assertFalse(it.run(FORMS, handed.extend))
+        self.assertEqual([result.level.number for _, result in handed], [3, 4, 2])
+        self.assertEqual(told[-1], "1 level left: the next run goes on with them")
+
     def test_results_are_handed_on_while_others_are_searched(self) -> None:
         with unittest.mock.patch("sokotool.rounds.EVERY", .25):
             handed = self.run_rounds(Found({}, takes=.1), Outcomes({}), seconds=.1)

@@ -181,6 +181,19 @@ class Transactions(Case):
             self.assertIn(found, [{it: data for it, data in state.items()
                                    if it != name or not there} for state in (OLD, NEW)], said)
 
+    def test_ended_before_the_journal(self) -> None:
+        """The next run removes the new files, and none of other writes."""
+        with unittest.mock.patch.object(transaction, "_begin", side_effect=Killed), \
+                at_calls(kill_at(1, goes_on=False)):
+            self.assertRaises(Killed, self.commit)
+        left = self.files()
+        self.assertEqual(len(left), len(OLD) + 3)
+        self.write(".sokotool-1f", b"of another program\n")
+        transaction.finish("other")
+        self.assertEqual(self.files(), {**left, ".sokotool-1f": b"of another program\n"})
+        transaction.finish("journal")
+        self.assertEqual(self.files(), {**OLD, ".sokotool-1f": b"of another program\n"})
+
     def test_taking_back_is_ended_too(self) -> None:
         """A run is killed while it takes files back, and the next one goes on."""
         for moment in range(1, 40):

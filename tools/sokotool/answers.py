@@ -161,13 +161,14 @@ def _is_skipped(line: bytes) -> bool:
 
 
 def is_begun(data: bytes) -> bool:
-    """Returns whether a file begins as an answers file does."""
-    return data.startswith(b"sokoban-answers ")
+    """Returns whether a file begins as an answers file does, perhaps after a byte order mark."""
+    return texts.in_utf8(data).startswith(b"sokoban-answers ")
 
 
 def read_text(name: str, data: bytes, levels: Optional[int] = None, rising: bool = True
               ) -> Answers:
     """Reads an answers text of this name; its first fault ends the command."""
+    data = texts.in_utf8(data)
     try:
         found = read(data, levels, rising)
         # Where a record seems to go on in the next one, the auditor reads both as one, and refuses

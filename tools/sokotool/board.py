@@ -5,13 +5,14 @@ adds a number to a place and never leaves the board.
 """
 import re
 from functools import cached_property
-from typing import FrozenSet, List, Optional, Sequence, Set, Tuple
+from typing import FrozenSet, List, Optional, Sequence, Tuple
 
 from . import levels, texts
 from .forms import OPEN, form_of
 from .levels import LARGEST_SIDE, Level, OfRows
 
 _BLANKS = b" \t\r\n"
+_LETTERS = b"lurdLURD"
 
 
 class Board:
@@ -123,38 +124,33 @@ class Replay:
     are on goals.
     """
 
-    def __init__(self, board: Board, letters: bytes, any_case: bool = False):
-        self.moves = self.pushes = self.changes = 0
-        self.boxes: Set[int] = set(board.boxes)
-        self.player = board.player
-        self.fault: Optional[str] = None
-        self.letters: bytes = b""
-        self.solved: List[Tuple[int, int]] = []
-        self._play(board, letters.translate(None, _BLANKS), any_case)
-        if self.fault is None:
-            off = len(self.boxes - board.goals)
-            self.fault = f"unsolved {off}" if off else None
+    letters: bytes
+    fault: Optional[str]
 
-    def _play(self, board: Board, letters: bytes, any_case: bool) -> None:
-        walls, boxes, player = board.walls, self.boxes, board.player or 0
-        steps = {ord(d): step for d, step in board.steps.items()}
-        goals, off, since = board.goals, len(boxes - board.goals), 0
-        last, why, played = None, None, bytearray()
-        for letter in letters:
-            small = letter | 32
-            step = steps.get(small, 0)
+    def __init__(self, board: Board, letters: bytes, any_case: bool = False):
+        letters = letters.translate(None, _BLANKS)
+        self._play(board, letters)
+        if not any_case and not letters.startswith(self.letters):
+            wrong = next(at for at, both in enumerate(zip(letters, self.letters))
+                         if both[0] != both[1])
+            self._play(board, letters[:wrong])
+            self.fault = f"move {wrong + 1} case"
+
+    def _play(self, board: Board, letters: bytes) -> None:
+        """Plays letters in any case up to the first that is no legal step."""
+        walls, goals, boxes, player = board.walls, board.goals, {*board.boxes}, board.player or 0
+        steps = {ord(name): step for name, step in board.steps.items()}
+        known = letters[:len(letters) - len(letters.lstrip(_LETTERS))].lower()
+        played = bytearray(known)
+        off, since, last = len(boxes - goals), 0, 0
+        self.solved: List[Tuple[int, int]] = []
+        self.pushes = self.changes = 0
+        for at, step in enumerate(map(steps.__getitem__, known)):
             near = player + step
-            if near not in boxes:
-                why = ("letter" if not step else "wall" if walls[near]
-                       else "case" if letter != small and not any_case else None)
-                if why:
-                    break
-                played.append(small)
-            else:
+            if near in boxes:
                 far = near + step
-                why = ("blocked" if walls[far] or far in boxes
-                       else "case" if letter == small and not any_case else None)
-                if why:
+                if walls[far] or far in boxes:
+                    self.moves, why = at, "blocked"
                     break
                 boxes.remove(near)
                 boxes.add(far)
@@ -163,16 +159,20 @@ class Replay:
                 last = far
                 if (near in goals) != (far in goals):
                     if not off:
-                        self.solved.append((since, len(played)))
+                        self.solved.append((since, at))
                     off += 1 if near in goals else -1
-                    since = len(played) + 1
-                played.append(small ^ 32)
+                    since = at + 1
+                played[at] ^= 32
+            elif walls[near]:
+                self.moves, why = at, "wall"
+                break
             player = near
-        self.player, self.moves, self.letters = player, len(played), bytes(played)
+        else:
+            self.moves, why = len(known), "letter" * (len(known) < len(letters))
+        self.player, self.boxes, self.letters = player, boxes, bytes(played[:self.moves])
         if not off:
             self.solved.append((since, self.moves))
-        if why:
-            self.fault = f"move {self.moves + 1} {why}"
+        self.fault = f"move {self.moves + 1} {why}" if why else f"unsolved {off}" if off else None
 
 
 _WALLS = bytes(cell == ord(levels.WALL) for cell in range(256))

@@ -11,6 +11,7 @@ from typing import Iterator, List, Optional, Sequence, Tuple
 from . import system, texts
 
 File = Tuple[str, bytes]  # its name and its contents
+TEMPORARY = ".sokotool-"
 
 
 def put(data: bytes) -> None:
@@ -48,9 +49,11 @@ def into(name: Optional[str]) -> Iterator[None]:
 
 
 @contextlib.contextmanager
-def made(files: Sequence[Tuple[str, Optional[bytes]]]) -> Iterator[List[Tuple[str, str]]]:
+def made(files: Sequence[Tuple[str, Optional[bytes]]], mark: str = ""
+         ) -> Iterator[List[Tuple[str, str]]]:
     """Writes new files beside those that they replace, given by name and bytes, and yields pairs of
-    both paths; "" is no new file, for None. What is left in the list at the end is removed."""
+    both paths; "" is no new file, for None. What is left in the list at the end is removed. The
+    names of new files begin with TEMPORARY and the mark."""
     found: List[Tuple[str, str]] = []
     name = ""
     try:
@@ -62,12 +65,13 @@ def made(files: Sequence[Tuple[str, Optional[bytes]]]) -> Iterator[List[Tuple[st
                     device.write(data)
                 continue
             # The name is kept first, so an interrupt leaves no file behind.
-            found.append((name_beside(path) if data is not None else "", path))
+            found.append((name_beside(path, mark) if data is not None else "", path))
             if data is not None:
                 _write(found[-1][0], data, path)
         yield found
     except OSError as error:
-        raise texts.Stop(f"cannot write {texts.shown(name)}: {error.strerror}") from None
+        where = error.filename2 or name  # The error of a rename has both names.
+        raise texts.Stop(f"cannot write {texts.shown(where)}: {error.strerror}") from None
     finally:
         for new, _ in found:
             with contextlib.suppress(OSError):
@@ -89,9 +93,9 @@ def remove(path: str) -> None:
             system.patiently(os.unlink, path)
 
 
-def name_beside(path: str) -> str:
+def name_beside(path: str, mark: str = "") -> str:
     """Returns a new name for a file that may replace the one at this path."""
-    return os.path.join(os.path.dirname(path), ".sokotool-" + secrets.token_hex(8))
+    return os.path.join(os.path.dirname(path), TEMPORARY + mark + secrets.token_hex(8))
 
 
 def _write(made: str, data: bytes, path: str) -> None:

@@ -5,7 +5,7 @@ import glob
 import os
 import time
 from itertools import zip_longest
-from typing import IO, Callable, Dict, Iterator, List, Optional
+from typing import IO, Callable, Dict, Iterator, List, Optional, Sequence
 
 from . import answers, auditor, memory, report, sheet, system, texts, transaction
 from .progress import Progress
@@ -46,18 +46,18 @@ class Files:
     def levels(self) -> Optional[bytes]:
         """Returns NAME.xsb without the note of the reference, or None if there is none."""
         data = self.before.get(XSB)
-        if data is None or _NOTE not in data:
-            return data
-        return b"\n".join(line for line in data.split(b"\n") if line.rstrip(b"\r") != _NOTE)
+        return b"\n".join(_unnoted(data.split(b"\n"))) if data and _NOTE in data else data
 
     def answers(self, end: str, most: int) -> answers.Answers:
         """Returns the records of an answers file for so many levels, in any order."""
         data = self.before.get(end, answers.text([]))
         found = answers.read_text(self.name + end, data, most, rising=False)
-        for lines in (found.rest, *(record.apart for record in found.records)):
-            while _NOTE in lines:
-                lines.remove(_NOTE)
-        return found
+        # A record may be typed below the note, and another one below that.
+        for at, record in enumerate(found.records if _NOTE in data else ()):
+            above = tuple(_unnoted(record.answer.above))
+            found.records[at] = record._replace(apart=_unnoted(record.apart),
+                                                answer=record.answer._replace(above=above))
+        return found._replace(rest=_unnoted(found.rest))
 
     def memory(self) -> memory.Memory:
         return memory.read(self.before.get(MEMORY), self.name + MEMORY)
@@ -100,17 +100,24 @@ class Files:
         self.now[MEMORY] = data
 
 
+def _unnoted(lines: Sequence[bytes]) -> List[bytes]:
+    """Returns lines without the note of the reference."""
+    return [line for line in lines if line.rstrip(b"\r") != _NOTE]
+
+
 def bytes_of(name: str) -> Optional[bytes]:
     """Returns the contents of a file, or None if there is none."""
     return texts.read(name, MOST_BYTES) if os.path.exists(name) else None
 
 
-def own(name: str) -> Callable[[str], bool]:
-    """Returns a function that tells the files that convert and check write or keep for NAME, also
-    if they are numbered parts."""
+def own(name: str, has_parts: bool = False) -> Callable[[str], bool]:
+    """Returns a function that tells the files that check writes or keeps for NAME, and perhaps the
+    numbered parts that convert writes."""
     written = [name + end + more for end in EVERY for more in ("", "~")]
-    written += [part for end in EVERY for part in glob.glob(f"{glob.escape(name)}-[0-9]*{end}*")]
-    return lambda file: any(texts.same_file(file, it) for it in written)
+    for end in EVERY if has_parts else ():
+        written += glob.glob(f"{glob.escape(name)}-[0-9]*{end}*")
+    known = {it for file in written for it in texts.identities(file)}
+    return lambda file: not known.isdisjoint(texts.identities(file))
 
 
 def is_made(name: str, data: bytes) -> bool:
@@ -128,9 +135,9 @@ def check_name(name: str) -> None:
     if not os.path.basename(name):
         raise texts.Stop(f"the name {texts.shown(name)!r} has nothing before .xsb")
     end = os.path.splitext(name)[1]
-    if end in ENDS:
-        why = ("is a file that is there" if os.path.isfile(name) else
-               f"has an end: type it without {end}")
+    is_file = bool(end) and os.path.isfile(name) and not os.path.exists(name + XSB)
+    if is_file or end in ENDS:
+        why = "is a file that is there" if is_file else f"has an end: type it without {end}"
         raise texts.Stop("the first word is the NAME of a collection, and "
                          f"{texts.shown(name)} {why}")
     if system.is_device(os.path.basename(name)):

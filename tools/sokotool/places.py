@@ -5,8 +5,9 @@ from typing import Dict, List, NamedTuple, Optional, Sequence, Tuple
 
 from . import texts
 
-# a level by its number in the exports; in quotes it is a line of a file
-_LEVEL = re.compile(r"(?<!')\blevel (\d+)")
+# Levels by their numbers in the exports, where problems name them. Files may have such names too.
+_LEVELS = re.compile(r"(?:\A|(?<=solution of ))level(?: \d+|s \d+(?:, \d+)*)")
+_NUMBER = re.compile(r"\d+")
 
 
 class Place(NamedTuple):
@@ -57,17 +58,19 @@ class Origins(NamedTuple):
 
 
 def _numbered(why: str, numbers: Dict[int, int]) -> str:
-    """Returns a problem with these numbers of levels, by their indices in the exports. Another
-    number is part of the name of a file."""
-    return _LEVEL.sub(lambda it: f"level {numbers.get(int(it[1]) - 1, it[1])}", why)
+    """Returns a problem with these numbers of levels, by their indices in the exports."""
+    return _LEVELS.sub(lambda levels: _NUMBER.sub(
+        lambda it: str(numbers.get(int(it[0]) - 1, it[0])), levels[0]), why)
 
 
 def _level_of(problem: Problem, lines: Sequence[Tuple[int, int]]) -> int:
-    """Returns the index of the level that a problem names, or of the last level of its file that
-    begins above it, or -1. `lines` has the lines of the levels in the file with their indices."""
+    """Returns the index of the one level that a problem names, or of the last level of its file
+    that begins above it, or -1. `lines` has the lines of the levels in the file with their
+    indices."""
     place, why = problem
-    if named := _LEVEL.search(why):
-        return int(named[1]) - 1
+    numbers = _NUMBER.findall("".join(_LEVELS.findall(why)))
+    if len(numbers) == 1:
+        return int(numbers[0]) - 1
     above = bisect_right(lines, (place.line + 1, -1))
     return lines[above - 1][1] if above else -1
 

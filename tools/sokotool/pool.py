@@ -9,6 +9,7 @@ from .answers import Answer, Record
 from .level_texts import Block
 from .builder import BOTH, PUSHES
 from .board import board_of
+from .forms import form_of
 from .levels import Level
 
 _SOLVES, _CERTIFICATE, _FAILS = range(3)
@@ -267,11 +268,12 @@ class Pool:
                 entries.append(entry)
             elif entry.stays(titles):
                 entries.append(entry._replace(record=None))
+        known = {(it.record.answer, it.block.rows) for it in entries if it.record}
         for own in self._own:
             block = Block((), tuple(own.level.rows), ())
-            if not self._has_place(own) and not self._is_spare(own) and not any(
-                    it.record and it.record.answer == own.record.answer
-                    and it.block.rows == block.rows for it in entries):
+            key = own.record.answer, block.rows
+            if not (self._has_place(own) or self._is_spare(own) or key in known):
+                known.add(key)
                 head = kept.head_of(own.level.number, own.level.title)
                 entries.append(kept.Entry(head, block, own.record))
         return entries
@@ -282,9 +284,11 @@ class Pool:
                    for one in [self.chosen.get(it.number), self.others.get(it.number)] if one)
 
     def _is_spare(self, given: Given) -> bool:
-        """Returns whether a record was computed, or is in the exports."""
-        return any(it.is_computed or any(one.covers(it.answer)
-                                         for one in self._exported.get(it.number, ()))
+        """Returns whether a record was computed for a level that is still there, or is in the
+        exports."""
+        key = form_of(given.level).key
+        return any(it.is_computed and self.now.forms[it.number - 1].key == key
+                   or any(one.covers(it.answer) for one in self._exported.get(it.number, ()))
                    for it in given.targets)
 
 

@@ -4,20 +4,23 @@ from typing import Any, Dict, List, NamedTuple, Optional, Tuple
 
 from . import texts
 
-_TOTAL = re.compile(r"total (\d+) solved (\d+) unsolvable (\d+) refused (\d+) missing (\d+)")
-_LEVEL = re.compile(r"level ([1-9]\d{0,5}) (solved|unsolvable|refused|missing)(?: (.*))?")
-# The forms of report lines, and the names of the words and numbers in them.
-_FIELDS = [(re.compile(form), names.split()) for form, names in (
-    (r"solved moves (\d+) pushes (\d+) changes (\d+)", "moves pushes changes"),
-    (r"unsolvable patterns (\d+)", "patterns"),
-    (r"unsolvable zone (\d+)", "zone"),
-    (r"refused (board) (\w+)", "refused why"),
-    (r"refused (line) (\d+) (push|leak) (\d+),(\d+) ([lurd])",
+# A number in a line. None is longer, and Python reads none of thousands of digits.
+_NUMBER = r"(\d{1,9})"
+_TOTAL = re.compile("total N solved N unsolvable N refused N missing N".replace("N", _NUMBER), re.A)
+_LEVEL = re.compile(r"level ([1-9]\d{0,5}) (.+)", re.A)
+# What a line says of its level, with N for numbers, and the names of the words and numbers in it.
+_FORMS = [(re.compile(form.replace("N", _NUMBER), re.A), names.split()) for form, names in (
+    ("solved moves N pushes N changes N", "moves pushes changes"),
+    ("unsolvable patterns N", "patterns"),
+    ("unsolvable zone N", "zone"),
+    ("missing", ""),
+    ("refused (board) ([a-z]+)", "refused why"),
+    ("refused (line) N (push|leak) N,N ([lurd])",
      "refused answers_line why column row direction"),
-    (r"refused (line) (\d+) (\w+)", "refused answers_line why"),
-    (r"refused (move) (\d+) (\w+)", "refused move why"),
-    (r"refused (unsolved) (\d+)", "refused boxes"),
-    (r"refused (start)", "refused"))]
+    ("refused (line) N ([a-z]+)", "refused answers_line why"),
+    ("refused (move) N ([a-z]+)", "refused move why"),
+    ("refused (unsolved) N", "refused boxes"),
+    ("refused (start)", "refused"))]
 
 
 class Line(NamedTuple):
@@ -46,7 +49,7 @@ class Line(NamedTuple):
     def fields(self) -> Dict[str, Any]:
         """Returns the words and numbers of the line by their names."""
         found: Dict[str, Any] = {"level": self.level, "status": self.status}
-        for form, names in _FIELDS:
+        for form, names in _FORMS:
             if match := form.fullmatch(self.said):
                 found.update((name, int(word) if word.isdigit() else word)
                              for name, word in zip(names, match.groups()))
@@ -88,9 +91,11 @@ def demanded(data: bytes, name: str, levels: str, count: int, status: int = 2) -
 
 def line_of(text: str) -> Optional[Line]:
     """Reads one line of a level, or returns None."""
-    if not (match := _LEVEL.fullmatch(text)):
+    match = _LEVEL.fullmatch(text)
+    if not match or not any(form.fullmatch(match[2]) for form, _ in _FORMS):
         return None
-    return Line(int(match.group(1)), match.group(2), (match.group(3) or "").split(), text)
+    status, *words = match[2].split()
+    return Line(int(match[1]), status, words, text)
 
 
 def read(data: bytes) -> Report:

@@ -86,8 +86,9 @@ class Rounds:
         self._hand_on(hand_on)
         if not goes_on:
             hand_on([])  # The interrupt may have come while results were handed on.
-        if left := self.count - sum(self._done.values()):
-            self.shown.keep(f"{texts.count(left, 'level')} left: the next run goes on with them")
+        if self.left:
+            self.shown.keep(f"{texts.count(len(self.left), 'level')} left: the next run goes on "
+                            "with them")
         return goes_on
 
     def _add(self, result: Result) -> None:
@@ -111,14 +112,17 @@ class Rounds:
         """Prints a line for each level that is done, in the order of the levels, and hands on all
         results."""
         results, self._results = self._results, []
-        for _, result in sorted(results, key=lambda it: it[1].level.number):
-            for line in result.said:
-                self.shown.keep(f"level {result.level.number}: | {line}")
-            if self._is_done(result):
-                self._done[bool(result.record)] += 1
-                self.shown.keep(f"level {result.level.number}: {result.words} ({self._words()})")
-        if results:
-            hand_on(results)
+        try:
+            for _, result in sorted(results, key=lambda it: it[1].level.number):
+                for line in result.said:
+                    self.shown.keep(f"level {result.level.number}: | {line}")
+                if self._is_done(result):
+                    self._done[bool(result.record)] += 1
+                    self.shown.keep(f"level {result.level.number}: {result.words} "
+                                    f"({self._words()})")
+        finally:  # also if an interrupt comes while lines are printed
+            if results:
+                hand_on(results)
         self._handed = time.monotonic()
 
     def _words(self) -> str:

@@ -7,7 +7,7 @@ import signal
 import time
 from typing import Any, Optional, Sequence, Tuple
 
-from . import system
+from . import system, texts
 from .jobs import Job, Jobs
 from .levels import Level
 from .outcomes import FOUND, FULL, ILLEGAL, LATE, LONG, MEMORY, SOLVABLE, Result
@@ -42,13 +42,16 @@ class _Worker(Job):
             self.pipe.send((level, seconds))
 
     def take(self) -> None:
-        """Takes what the process sent. One that died before it sent anything ran out of memory."""
+        """Takes what the process sent. One that died before it sent anything ran out of memory. If
+        that was before its first level, the next one would die too."""
         try:
             self._found = self.pipe.recv()
             self.is_ready = True
         except (EOFError, OSError):
             self._found = MEMORY, b""
             self.stop()
+            if not self.seconds:
+                raise texts.Stop("a search ended when it was started") from None
 
     def is_over(self) -> bool:
         if self._found is None and time.monotonic() - self.began > self.seconds + GRACE:
@@ -80,7 +83,10 @@ class Searches(Jobs):
             worker.search(level, seconds)
             return worker
         most = min(self.limits.jobs, len(self.levels), system.MOST_PROCESSES)
-        self._workers = there + [_Worker() for _ in range(len(there), most)]
+        try:
+            self._workers = there + [_Worker() for _ in range(len(there), most)]
+        except OSError as error:
+            raise texts.Stop(f"a search cannot be started: {error.strerror}") from None
         return None
 
     def _wait(self) -> None:

@@ -6,8 +6,8 @@ import re
 import stat
 import unicodedata
 import zipfile
-import zlib
-from typing import Any, Callable, Dict, Iterator, List, NamedTuple, Optional, Sequence, Set, Tuple
+from collections import Counter
+from typing import Callable, Dict, Iterator, List, NamedTuple, Optional, Sequence, Set, Tuple
 
 from . import texts
 
@@ -16,6 +16,8 @@ MOST_UNPACKED = 8 * texts.MOST_BYTES
 _ZIP = b"PK\3\4"
 IGNORE = ".sokoignore"
 _NUMBER = re.compile("([0-9]+)")
+# Longer numbers in names have any order.
+_MOST_DIGITS = 99
 IsOut = Callable[[str], bool]
 
 
@@ -48,28 +50,31 @@ def listed(names: Sequence[str], is_own: IsOut = lambda _: False) -> List[Export
     """
     seen: Set[Tuple[int, int]] = set()
     found = [export for name in names for export in _of(name, seen, is_own)]
-    stems = [export.stem for export in found if export.end != ".answers"]
-    for solution in [export for export in found if export.end == ".sol"]:
-        if stems.count(solution.stem) == 2:
-            found.remove(solution)
-            at = next((at for at, it in enumerate(found)
-                       if it.stem == solution.stem and it.end != ".answers"), len(found) - 1)
-            found.insert(at + 1, solution)
-    return found
+    stems = Counter(it.stem for it in found if it.end != ".answers")
+    solutions = {it.stem: it for it in found if it.end == ".sol" and stems[it.stem] == 2}
+    ordered: List[Export] = []
+    for export in found:
+        solution = solutions.get(export.stem)
+        if solution is None or export.end == ".answers":
+            ordered.append(export)
+        elif export is not solution:
+            ordered += [export, solution]
+    return ordered
 
 
 def levels_of(export: Export, every: Sequence[Export]) -> Optional[Export]:
     """Returns the levels that a file of answers is for: those of its name, or the only ones that
     lie beside it."""
-    beside = [it for it in every if it.end == ".xsb"
-              and os.path.dirname(it.name) == os.path.dirname(export.name)]
     is_other = export.stem.lower().endswith(".other")
     name = (export.stem[:-6] if is_other else export.stem) + ".xsb"
-    same = [it for it in beside if it.name == name] or [
-        it for it in beside if it.name.lower() == name.lower()]
-    if not same and os.path.isfile(name):
-        same = [Export(name, lambda: texts.read(name))]
-    found = same or beside
+    found = [it for it in every if it.name == name]
+    if not found:
+        beside = [it for it in every if it.end == ".xsb"
+                  and os.path.dirname(it.name) == os.path.dirname(export.name)]
+        found = [it for it in beside if it.name.lower() == name.lower()]
+        if not found and os.path.isfile(name):
+            return Export(name, lambda: texts.read(name))
+        found = found or beside
     return found[0] if len(found) == 1 else None
 
 
@@ -91,10 +96,11 @@ def _plain(path: str) -> str:
     return unicodedata.normalize("NFC", path.replace(os.sep, "/"))
 
 
-def _order(path: str) -> Tuple[List[Any], str]:
+def _order(path: str) -> Tuple[List[str], str]:
     """Returns what orders names as people count: level2 comes before level10."""
     parts = _NUMBER.split(_plain(path))
-    return [int(part) if at % 2 else part for at, part in enumerate(parts)], path
+    return [part.lstrip("0").rjust(_MOST_DIGITS) if at % 2 else part
+            for at, part in enumerate(parts)], path
 
 
 def _drive(path: str) -> str:
@@ -121,8 +127,9 @@ def _ignored(folder: str) -> IsOut:
     """Returns a function that tells what the keeper leaves out of a folder. A pattern with a slash
     is for paths from this folder on, and any other one for names in it and below."""
     path = os.path.join(folder, IGNORE)
-    lines = texts.decoded(texts.read(path)).splitlines() if os.path.isfile(path) else []
-    patterns = [_plain(line.strip().rstrip("/")) for line in lines if not line.startswith("#")]
+    text = texts.text_of(texts.read(path))[0] if os.path.isfile(path) else ""
+    patterns = [_plain(line.strip().rstrip("/")) for line in (text or "").split("\n")
+                if not line.startswith("#")]
 
     def is_ignored(file: str) -> bool:
         inner = _plain(os.path.relpath(file, folder or "."))
@@ -177,7 +184,9 @@ def _in_file(path: str) -> Iterator[Export]:
         with zipfile.ZipFile(path) as archive:
             members = [it for it in archive.infolist() if not it.is_dir() and not any(
                 part.startswith((".", "__MACOSX")) for part in it.filename.split("/"))]
-    except (OSError, zipfile.BadZipFile) as error:
+    except MemoryError:
+        raise
+    except Exception as error:  # Each form of a damaged archive has errors of its own.
         yield _unreadable(path, getattr(error, "strerror", None) or str(error))
         return
     if len(members) > MOST_IN_ARCHIVE or sum(it.file_size for it in members) > MOST_UNPACKED:
@@ -194,7 +203,9 @@ def _packed(path: str, member: zipfile.ZipInfo) -> Export:
         try:
             with zipfile.ZipFile(path) as archive, archive.open(member) as file:
                 data = file.read(texts.MOST_BYTES + 1)
-        except (OSError, RuntimeError, EOFError, zipfile.BadZipFile, zlib.error) as error:
+        except MemoryError:
+            raise
+        except Exception as error:
             raise texts.Stop(f"cannot read {texts.shown(name)}: {error}") from None
         if len(data) > texts.MOST_BYTES:
             raise texts.Stop(f"{texts.shown(name)} is longer than {texts.MOST_BYTES} bytes")

@@ -178,11 +178,12 @@ class State:
 
 def _own_blocks(files: own_files.Files) -> List[level_texts.Block]:
     """Returns the levels of NAME.xsb as they are now."""
-    text, name = files.levels(), texts.shown(files.name)
-    if text is None and ANSWERS in files.before:
+    text, name = files.levels() or b"", texts.shown(files.name)
+    # While an editor saves, the file may be empty for a moment.
+    if not text.strip() and ANSWERS in files.before:
         raise texts.Stop(f"{name}.answers is there, but not its levels in {name}.xsb: name it "
                          "by --answers, under another name")
-    found = level_texts.read(text or b"")
-    if text and text.strip() and not found:
+    found = level_texts.read(text)
+    if text.strip() and not found:
         raise texts.Stop(f"{name}.xsb has no level: move it away")
     return found

@@ -1,12 +1,13 @@
 """Reads files within the auditor's limits, decodes them, and splits them into lines."""
+import contextlib
 import glob
 import hashlib
 import os
 import re
 import sys
 from itertools import islice
-from typing import (Any, AnyStr, Callable, Dict, Iterable, List, Optional, Sequence, Tuple, TypeVar,
-                    Union)
+from typing import (Any, AnyStr, Callable, Dict, Iterable, List, Optional, Sequence, Set, Tuple,
+                    TypeVar, Union)
 
 from . import encodings
 
@@ -151,6 +152,14 @@ def text_of(data: bytes, encoding: str = "") -> Tuple[Optional[str], str]:
     return text, other
 
 
+def in_utf8(data: bytes) -> bytes:
+    """Returns a text that begins with a byte order mark in UTF-8 and without it, as Windows may
+    have written it, and other bytes as they are."""
+    is_marked = data.startswith((MARK, b"\xff\xfe", b"\xfe\xff"))
+    text = text_of(data)[0] if is_marked else None
+    return data if text is None else text.encode()
+
+
 def _mixed(data: bytes) -> Tuple[str, str]:
     """Returns the text of bytes that are UTF-8 in part, decoded line by line, and the encoding of
     the other lines."""
@@ -186,16 +195,17 @@ def lines_of(text: str) -> List[str]:
 
 def same_file(first: str, second: str) -> bool:
     """Returns whether two names are of one file, also through links; `-` is standard input."""
-    if "-" not in (first, second):
-        try:
-            return os.path.samefile(first, second)
-        except OSError:
-            return os.path.realpath(first) == os.path.realpath(second)
-    try:
-        name = second if first == "-" else first
-        return os.path.samestat(os.fstat(sys.stdin.fileno()), os.stat(name))
-    except (OSError, ValueError, AttributeError):
-        return False
+    return not identities(first).isdisjoint(identities(second))
+
+
+def identities(name: str) -> Set[Any]:
+    """Returns what all names of a file have in common, and no other file has: the path without
+    links, and the number of the file if it is there."""
+    found: Set[Any] = set() if name == "-" else {os.path.realpath(name)}
+    with contextlib.suppress(OSError, ValueError, AttributeError):
+        known = os.fstat(sys.stdin.fileno()) if name == "-" else os.stat(name)
+        found.add((known.st_dev, known.st_ino))
+    return found
 
 
 def grouped(pairs: Iterable[Tuple[Name, Item]]) -> Dict[Name, List[Item]]:

@@ -8,6 +8,7 @@ The new files and the journal are on the disk before the first move, and the mov
 journal goes. So `finish` also ends what a power cut left.
 """
 import contextlib
+import glob
 import json
 import os
 from typing import NamedTuple, Optional, Sequence, Tuple
@@ -60,7 +61,7 @@ class Move(NamedTuple):
 def commit(files: Sequence[Tuple[str, Optional[bytes], Optional[bytes]]], journal: str) -> None:
     """Replaces files, given by name with their bytes before and after; None is no file. Raises
     `Changed` if somebody has changed one of them, and replaces none then."""
-    with output.made([(name, after) for name, _, after in files]) as made:
+    with output.made([(name, after) for name, _, after in files], _mark(journal)) as made:
         names = {os.path.realpath(name): (_name_of(before), _name_of(after))
                  for name, before, after in files}
         moves = [Move(path, new, output.name_beside(path), *names[path]) for new, path in made]
@@ -73,13 +74,24 @@ def commit(files: Sequence[Tuple[str, Optional[bytes], Optional[bytes]]], journa
 
 def finish(journal: str) -> str:
     """Ends a write that was cut off: goes on with it, or takes it back if a file that it left as it
-    was has been changed since. Returns the path of such a file, or ""."""
+    was has been changed since. Returns the path of such a file, or "". New files of a write that
+    had no journal yet are removed."""
     try:
         with open(journal, "rb") as file:
             moves = [Move(*words) for words in json.load(file)]
     except (FileNotFoundError, ValueError):
         moves = []  # There is no journal, or it was cut off itself.
-    return _end(moves, journal, is_new=False)
+    changed = _end(moves, journal, is_new=False)
+    folder = glob.escape(os.path.dirname(journal))
+    for left in glob.glob(os.path.join(folder, f"{output.TEMPORARY}{_mark(journal)}*")):
+        output.remove(left)
+    return changed
+
+
+def _mark(journal: str) -> str:
+    """Returns a mark of the new files of all writes with this journal, of which there is one at a
+    time."""
+    return texts.digest(os.fsencode(os.path.basename(journal)))[:8] + "-"
 
 
 def _end(moves: Sequence[Move], journal: str, is_new: bool) -> str:

@@ -13,6 +13,7 @@ sokoaudit checks every answer. The variable SOKOAUDIT names it, or it is found i
 the installation. The status is 1 if a level has no accepted answer, or something was left out or is
 wrong."""
 import argparse
+import contextlib
 import math
 import os
 from typing import Dict, List, Optional, Sequence, Tuple
@@ -89,7 +90,7 @@ def gathered(options: argparse.Namespace) -> Run:
     given = Run(options, Progress("check"), auditor.find())
     if options.solver and not system.ENDS_CHILDREN:
         given.shown.keep("this system ends the solver alone: what it starts may go on")
-    for end in (*own_files.ENDS, *[SHEET] * options.csv, MEMORY):
+    for end in () if options.compare else (*own_files.ENDS, *[SHEET] * options.csv, MEMORY):
         output.check_writable(options.name + end)
     given.more = [(name, answers.read_file(name, rising=False)) for name in options.answers]
     read_exports(given)
@@ -167,9 +168,18 @@ def settled(given: Run, state: Optional[State] = None) -> State:
                                     for number in state.merged.edited)
             why, state = changed, None
             given.shown.keep(f"{changed}: reading again")
-    with own_files.alone(given.name, given.shown):
-        more = ", and the next run has what was found" if given.keep() else ""
-    raise texts.Stop(f"{why}, again and again: the files are as they were{more}")
+        except texts.Stop as stop:
+            raise texts.Stop(f"{stop}{kept(given)}") from None
+    raise texts.Stop(f"{why}, again and again: the files are as they were{kept(given)}")
+
+
+def kept(given: Run) -> str:
+    """Keeps what was found in NAME.memory alone, if that can be written. Returns words that say
+    so."""
+    with contextlib.suppress(texts.Stop), own_files.alone(given.name, given.shown):
+        if given.keep():
+            return ", and the next run has what was found"
+    return ""
 
 
 def compared(given: Run) -> int:

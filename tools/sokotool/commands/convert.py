@@ -44,7 +44,7 @@ def arguments(parser: argparse.ArgumentParser) -> None:
 def run(options: argparse.Namespace) -> int:
     """Converts the files, and reports how much was read."""
     own_files.check_name(options.name)
-    listed = sources.listed(options.files, own_files.own(options.name))
+    listed = sources.listed(options.files, own_files.own(options.name, has_parts=True))
     files = [export.name for export in listed]
     _check_inputs(files, [options.name + end for end in (own_files.XSB, own_files.ANSWERS)])
     said = 0
@@ -82,8 +82,9 @@ def _replaced(written: Sequence[output.File], may_replace: bool) -> List[output.
 
 
 def _check_inputs(files: Sequence[str], written: Sequence[str]) -> None:
+    known = {it for name in written for it in texts.identities(name)}
     for file in files:
-        if any(texts.same_file(file, name) for name in written):
+        if not known.isdisjoint(texts.identities(file)):
             raise texts.Stop(f"would write over {texts.shown(file)}")
 
 
@@ -109,7 +110,8 @@ def read_files(collection: Collection, listed: Sequence[sources.Export]) -> None
             collection.end_level()
         collection.file = export.name
         if answers.is_begun(data):
-            _read_answers(collection, data, sources.levels_of(export, listed), waiting)
+            its_levels = sources.levels_of(export, listed)
+            _read_answers(collection, texts.in_utf8(data), its_levels, waiting)
         elif export.end == ".sol":
             _read_solution(collection, data, before, waiting)
         else:

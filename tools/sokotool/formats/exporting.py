@@ -53,7 +53,7 @@ def content_of(data: bytes, found: Sequence[levels.Level], solutions: Mapping[in
     Lines with titles are left out of the texts, since each level has its title, and comments on a
     solution become text of its level.
     """
-    lines = texts.lines(data)
+    lines = texts.lines(texts.unmarked(data))
     titles = {level.title for level in found}
     gaps, at = [], 0
     for level in found:

@@ -36,6 +36,8 @@ _DRESS = re.compile(r"[\W\d_]*")
 def kind_of(line: str) -> int:
     if not line or line.isspace():
         return BLANK
+    if rows.is_plain(line):
+        return WALLS
     if letters.are_alone(line):
         return LETTERS
     if len(line) < SHORT and "#" not in line:
@@ -43,7 +45,7 @@ def kind_of(line: str) -> int:
     bare = _DRESS.sub("", letters.untagged(line) or line, 1)
     if _is_heading(bare):
         return HEADING
-    if "#" in line and (rows.is_plain(line) or rows.why_no_row(line, False)):
+    if "#" in line and rows.why_no_row(line, False):
         return WALLS
     if "#" in line and not letters.among_words(line):
         return TEXT

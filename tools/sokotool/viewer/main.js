@@ -10,6 +10,9 @@ const KEYS = [["Arrows", "choose a level; in a level: the next or previous lette
 const SLIDER_KEYS = /^(Arrow|Page|Home|End)/;
 // the pause after which a step counts as the last one
 const PAUSE = 250;
+// the address after '#': how it is read, and how it changes by a link and by a step
+const address = { read: () => location.hash, go: to => location.hash = to,
+    step: to => history.replaceState(null, "", to) };
 // what is shown, and the address that it was shown for
 let shownLevel = null, view = STILL, routed = null;
 let settling = 0, drawnWidth = innerWidth;
@@ -23,15 +26,15 @@ function settle(at, words) {
     clearTimeout(settling);
     settling = setTimeout(() => {
         routed = `#${shownLevel.number}:${at}`;
-        history.replaceState(null, "", routed);
+        address.step(routed);
         say(words);
     }, PAUSE);
 }
 
 // shows what the address names
 function route() {
-    if (routed === location.hash) return;
-    routed = location.hash;
+    if (routed === address.read()) return;
+    routed = address.read();
     const [number, at] = routed.slice(1).split(":"), before = shownLevel;
     clearTimeout(settling);
     view.stop();
@@ -57,7 +60,7 @@ function route() {
 // goes to a level, or to the overview for 0
 function go(number) {
     if (number && !LEVELS[number - 1]) return;
-    location.hash = number ? `#${number}` : "";
+    address.go(number ? `#${number}` : "");
     route();
 }
 
@@ -68,7 +71,7 @@ function seen() {
 
 function showKeys() {
     const [top] = inView();
-    $("keys").style.marginTop = top > 0 ? `${top + 30}px` : "";
+    $("keys").style.marginTop = top ? `${Math.max(top, 0) + 30}px` : "";
     $("keys").showModal();
 }
 
