@@ -16,6 +16,12 @@ BYTES = """(async () => {
     await new Promise(done => { reader.onload = done; reader.readAsDataURL(file); });
     return reader.result.slice(reader.result.indexOf(",") + 1);
 })()"""
+# a place within an element, near its corner
+PLACE = """(element => {
+    element.scrollIntoView();
+    const box = element.getBoundingClientRect();
+    return [box.x + 9, box.y + 9];
+})(document.querySelector(%s))"""
 # what the viewer reads, with all that it makes when it is asked for
 DATA = "JSON.parse(JSON.stringify(shownData))"
 
@@ -49,6 +55,15 @@ class Tab(Browser):
         found = self.call("Runtime.evaluate", expression="$('files')")["result"]["objectId"]
         self.call("DOM.setFileInputFiles", objectId=found,
                   files=[os.path.abspath(it) for it in names])
+
+    def drop(self, selector: str, *names: str) -> None:
+        """Drops files at the corner of an element, and waits for the result."""
+        x, y = self.ask(PLACE % json.dumps(selector))
+        data = {"items": [], "files": [os.path.abspath(it) for it in names],
+                "dragOperationsMask": 1}
+        for kind in ("dragEnter", "dragOver", "drop"):
+            self.call("Input.dispatchDragEvent", type=kind, x=x, y=y, data=data)
+        self.wait(IDLE)
 
     def paste(self, field: str, text: str) -> str:
         """Pastes a text into a field, and waits for the result. Returns the page's message."""

@@ -74,16 +74,29 @@ def forms(check: Comparison, tab: Tab) -> None:
     tab.give("one.xsb", "mark.answers")
     check.same("a mark before the answers", LINE, tab.text("lines")[:len(LINE)])
     check.same("nothing is left out", "", tab.text("notes"))
+    remark = "\n; " + 200 * "\u0436" + "\n"
+    write("mark.answers", "\ufeff" + ANSWERS.replace("\n", remark, 1))
+    check.same("answers whose first bytes end within a character", ["", LINE], [
+        tab.give("one.xsb", "mark.answers"), tab.text("lines")[:len(LINE)]])
     left_out = "The solutions beside the levels are left out, since there are answers: "
     write("both.xsb", f"{LEVEL}Title: dull\n\n{LEVEL}\nSolution\n{LETTERS}\n\n{LETTERS}\n")
     tab.give("both.xsb", "mark.answers")
     check.same("solutions beside answers", f"{left_out}lines 18, 21.", tab.text("notes"))
+    tab.give("one.xsb", "sol.txt", "mark.answers")
+    check.same("a list beside answers", f"{left_out}sol.txt.", tab.text("notes"))
     for name, data in (("both.zip", zipped({"both.xsb": f"{LEVEL}{LETTERS}\n".encode()})),
                        ("both.gz", gzip.compress(f"{LEVEL}{LETTERS}\n".encode()))):
         with open(name, "wb") as file:
             file.write(data)
         tab.give(name, "mark.answers")
         check.same(f"{name} beside answers", f"{left_out}of 1 level.", tab.text("notes"))
+    with open("whole.zip", "wb") as file:
+        file.write(zipped({"a.xsb": CORNER.encode(),
+                           "a.answers": HEADER + b"level 1\nunsolvable\npattern 2,2 @ *\nend\n"}))
+    tab.ask("clear(); 0")
+    tab.give("whole.zip")
+    check.same("certificates in an archive", ["a.answers: its certificates aren't read from here"],
+               [it[:49] for it in tab.told()])
     tab.ask("clear(); 0")
     tab.paste("levels", f"{LEVEL}Solution\n{LETTERS[:-2]}lrUU\n\nSolution\n{LETTERS}\n")
     check.same("the best of two", [LINE, 1], [tab.text("lines")[:len(LINE)], sum(
@@ -91,6 +104,10 @@ def forms(check: Comparison, tab: Tab) -> None:
     tab.paste("levels", f"{LEVEL}\n{LEVEL.replace('*', '=')}\nSolution: up\n")
     check.same("what isn't read is named", ["line 12: l", "line 17: a"], [
         it[:10] for it in tab.told()])
+    with open("zeros.txt", "wb") as file:
+        file.write(LEVEL.encode() * 300 + bytes(400000) + b"x")
+    check.same("many zero bytes", ["", True], [
+        tab.give("zeros.txt"), "a zero byte" in tab.told()[0]])
     with open("picture.png", "wb") as file:
         file.write(b"\x89PNG\r\n\x1a\n\0\0\0")
     check.same("a picture", ["No level is found.", "is a picture, no text"], [
@@ -128,7 +145,20 @@ def others(check: Comparison, tab: Tab) -> None:
             file.write(data)
         check.same(f"{name}: message", "No level is found.", tab.give(name))
         check.same(f"{name}: told", True, "it has more than 33554432 bytes" in " ".join(tab.told()))
+    whole = zipped({"a.txt": f"{LEVEL}{LETTERS}\n".encode(), ".DS_Store": b"\0\0\0\1Bud1\0",
+                    "__MACOSX/._a.txt": b"\0\5\26\7\0\2\0\0Mac OS X"})
+    for name, data, said in (
+            ("whole.zip", whole, []), ("cut.zip", whole[:-30], ["the archive has no end"]),
+            ("folder.zip", zipped({"x/": b""}), ["it has no files"])):
+        with open(name, "wb") as file:
+            file.write(data)
+        check.same(f"{name}: message", "No level is found." if said else "", tab.give(name))
+        check.same(f"{name}: told", said, [it.split(": ")[-1] for it in tab.told()])
     tab.ask("clear(); 0")
+    lasting = f"{CORNER}Solution: 200000(rl)\n\n" * 18
+    tab.paste("levels", f"{LEVEL}Solution: 9000(ud)\n\n{lasting}{LETTERS}\n")
+    check.same("letters that weren't tried on all levels",
+               "letters that solve no level of those tried", tab.told()[-1].split(": ")[1])
     tab.paste("levels", f"{LEVEL}Solution: 16000000(ud)\n\n{LEVEL}{LETTERS}\n")
     check.same("one line doesn't spoil all", ["level 1 missing", "level 2 solved"], [
         line[:15].strip() for line in tab.text("lines").splitlines()[:2]])

@@ -121,13 +121,32 @@ def stopped(check: Comparison, tab: Tab) -> None:
     tab.wait("!document.querySelector('#each button:disabled')")
     check.same("after Cancel a file that is done can be clicked", [1, "Cancelled."], tab.ask(
         "[document.querySelectorAll('#each button').length, $('why').textContent]"))
+    tab.ask("new MutationObserver((_, it) => $('each').children.length === 1 && (it.disconnect(), "
+            "document.querySelector('#levels-file button').click())).observe($('each'), "
+            "{ childList: true }); 0")
+    tab.choose("a.xsb", "b.xsb", "c.xsb")
+    tab.wait("$('levels-file').hidden")
+    tab.ask("new Promise(done => setTimeout(done, 400))")
+    check.same("files that are removed aren't audited", [1, True], tab.ask(
+        "[document.querySelectorAll('#each button').length, $('busy').hidden]"))
     tab.click("#clear")
     check.same("nothing is said after Clear", ["", True], tab.ask(
         "[$('why').textContent, $('message').hidden]"))
 
 
+# whether the keys are within the window
+KEYS_IN_VIEW = """(frame => {
+    const dialog = frame.contentDocument.querySelector("dialog");
+    frame.contentWindow.showKeys();
+    const { top, bottom } = dialog.getBoundingClientRect(), at = frame.getBoundingClientRect().top;
+    dialog.close();
+    return at + top >= 0 && at + bottom <= innerHeight;
+})($('page'))"""
+
+
 def around(check: Comparison, tab: Tab) -> None:
     """The frame, the cards, paper, and a window of its own."""
+    tab.call("Page.resetNavigationHistory")  # A browser keeps 50 steps.
     corpus = "".join(f"{CORNER}Title: Level gypq {i}\n\n" for i in range(300))
     write("many.xsb", f"{CORRIDOR}{'lr' * 200}{'R' * 100}\n\n{corpus}")
     tab.give("many.xsb")
@@ -137,9 +156,19 @@ def around(check: Comparison, tab: Tab) -> None:
         ".every(it => it.scrollHeight <= it.clientHeight)"))
     check.same("the frame has no scroll bar", True, tab.ask(
         "$('page').contentDocument.documentElement.scrollHeight <= $('page').clientHeight"))
+    check.same("the keys are in view", True, tab.ask(KEYS_IN_VIEW))
     check.same("few cards", True, len(tab.frame(".card")) < 150)
-    tab.ask("scrollTo(0, document.body.scrollHeight); 0")
-    tab.wait("$('page').contentDocument.querySelector('[data-level=\"301\"]')")
+    for link in (".card", "nav a + a"):
+        tab.ask(f"$('page').contentDocument.querySelector('{link}').click(); 0")
+        tab.opened()
+    for where, state in (("back", "#1"), ("back", ""), ("forward", "#1")):
+        tab.ask(f"history.{where}(); 0")
+        tab.wait(f"history.state === '{state}' && $('page').contentDocument")
+        check.same(f"{where} to '{state}'", bool(state), tab.ask(
+            "$('page').contentDocument.querySelector('#overview').hidden"))
+    tab.ask("$('page').contentWindow.go(0); 0")
+    tab.wait("(scrollTo(0, document.body.scrollHeight), "
+             "$('page').contentDocument.querySelector('[data-level=\"301\"]'))")
     tab.ask("dispatchEvent(new Event('beforeprint')); 0")
     check.same("all levels on paper", 301, tab.ask("$('printed').children.length"))
     tab.ask("dispatchEvent(new Event('afterprint')); 0")
@@ -148,11 +177,23 @@ def around(check: Comparison, tab: Tab) -> None:
         return opened.contentWindow; }; 0""")
     tab.ask("$('page').contentDocument.querySelector('[data-level=\"301\"]').dispatchEvent("
             "new MouseEvent('click', { ctrlKey: true, bubbles: true, cancelable: true })); 0")
-    check.same("Ctrl and a click", [[], "Level 301"], [tab.frame("#heading"), tab.ask(
-        "opened?.contentDocument.querySelector('#heading').firstChild.textContent")])
-    tab.ask("opened.contentWindow.location.hash = ''; 0")
+    check.same("Ctrl and a click", [[], "Level 301"], [
+        tab.frame("#level:not([hidden]) #heading"),
+        tab.ask("opened?.contentDocument.querySelector('#heading').firstChild.textContent")])
+    tab.ask("opened.contentWindow.go(0); 0")
     tab.wait("opened.contentDocument.querySelector('.card')")
     check.same("each window has cards of its own", 1, len(tab.frame("[data-level='301']")))
+    write("one.xsb", LEVEL)
+    tab.give("one.xsb")
+    check.same("a window keeps its own levels", [True, "Level gypq 0"], tab.ask(
+        "opened.contentWindow.deadSquares(1).then(({ map }) => {"
+        " const { openLevel } = opened.contentWindow; openLevel(2); return ["
+        "map.split('\\n')[1].length > 100, opened.contentDocument.querySelector('#heading .title')"
+        ".textContent.trim()]; })"))
+    tab.ask("dispatchEvent(new Event('pagehide')); opened.contentWindow.go(3); 0")
+    tab.wait("opened.contentDocument.querySelector('#level:not([hidden]) .two')")
+    check.same("a window without its page", "could not be judged by themselves.", tab.ask(
+        "opened.contentDocument.querySelector('.judged').textContent.slice(-34)"))
     check.same("a sentence for old browsers", True, tab.ask(
         "$('old').hidden && $('old').textContent.length > 20"))
 

@@ -1,5 +1,6 @@
 """What a user does with the page, and what it says then."""
 import base64
+import html
 import os
 import re
 from typing import Tuple
@@ -35,6 +36,17 @@ UNREAD = [f"line {at}: letters that solve no level: letter {why}" for at, why in
 HOSTILE = ("<img src=x onerror=\"document.title='run'\"></script>"
            "<script>document.title='run'</script>")
 NAMES = ["levels", "the solutions in it"]
+# whether the page or its frame scrolls sideways
+IS_WIDE = ("[document, $('page').contentDocument].some(it => "
+           "it.documentElement.scrollWidth > it.defaultView.innerWidth)")
+# whether the button of the keys is in the first line of an element in the frame, and how many
+# others it covers
+BESIDE = """(parent => {
+    const boxOf = it => it.getBoundingClientRect(), keys = boxOf(parent.querySelector(".help"));
+    const others = [...parent.querySelectorAll("a, button:not(.help), input")].map(boxOf);
+    return [keys.top < boxOf(parent).top + 20, others.filter(it => keys.left < it.right
+        && it.left < keys.right && keys.top < it.bottom && it.top < keys.bottom).length];
+})($('page').contentDocument.querySelector('%s'))"""
 # what a browser does that has no vectors, or no WebAssembly
 LACKS = "WebAssembly.validate = () => false", "delete globalThis.WebAssembly"
 
@@ -58,7 +70,7 @@ def viewing(check: Comparison, tab: Tab) -> None:
     tab.opened()
     tab.ask("$('page').focus(); 0")
     tab.press("ArrowRight", "ArrowRight")
-    tab.wait("$('page').contentWindow.location.hash === '#1:2'")
+    tab.wait("history.state === '#1:2'")
     tab.press("d")
     tab.wait("$('page').contentDocument.querySelector('.dead')")
     check.same("dead squares", "2,2 3,2 2,6 3,6".split()[:1],
@@ -91,6 +103,12 @@ def making(check: Comparison, tab: Tab) -> None:
     tab.ask("DATA.levels[0].rows = DATA.levels[1].rows; go(1)")
     tab.wait("document.querySelector('.misjudged')")
     check.same("no error of the saved page", [], tab.errors)
+    with open("saved.html", encoding="utf-8") as file:
+        write("around.html", f'<iframe srcdoc="{html.escape(file.read())}">')
+    tab.open("file://" + os.path.abspath("around.html"))
+    tab.ask("globalThis.frame = document.querySelector('iframe'); frame.contentWindow.go(2)")
+    tab.wait("frame.contentDocument.querySelector('.judged')")
+    check.same("nor of one in a frame", [], tab.errors)
 
 
 def keeping(check: Comparison, tab: Tab) -> None:
@@ -136,6 +154,7 @@ def several(check: Comparison, tab: Tab) -> None:
     tab.ask("document.querySelectorAll('#each button')[1].click()")
     tab.wait(f"{IDLE} && kept.names?.[0] === 'first.xsb'")
     check.same("one of several", open(f"{samples}/first.report").read(), tab.text("lines"))
+    check.same("its name", totals[1].replace(" ", ": ", 1), tab.text("total"))
 
 
 def hostile(check: Comparison, tab: Tab) -> None:
@@ -263,14 +282,39 @@ def reaching(check: Comparison, tab: Tab) -> None:
         tab.size(360, 740, dark)
         check.same("no scrolling sideways", True,
                    tab.ask("document.documentElement.scrollWidth <= innerWidth"))
+    write("one.xsb", LEVEL + LETTERS)
+    name = "n" * 200
+    write(f"{name}.xsb", f"{LEVEL}Title: {'t' * 900}\n\n{LEVEL}")
+    write(f"{name}.answers", ANSWERS)
+    for width in (360, 390, 800):
+        tab.size(width, 740)
+        tab.give(f"{name}.xsb")
+        check.same(f"the button of the keys in {width}", [True, 0],
+                   tab.ask(BESIDE % "header"))
+        tab.opened(1)
+        check.same(f"the same in a level in {width}", [True, 0], tab.ask(BESIDE % "nav"))
+        found = [tab.ask(IS_WIDE)]
+        tab.give("one.xsb", f"{name}.xsb")
+        tab.wait("document.querySelectorAll('#each li').length === 2")
+        found += [tab.ask(IS_WIDE)]
+        tab.give("one.xsb", "one.xsb", f"{name}.answers")
+        check.same(f"long words in {width}", 3 * [False], [*found, tab.ask(IS_WIDE)])
     tab.size(1280, 900)
     tab.ask("clear(); 0")
-    write("one.xsb", LEVEL + LETTERS)
-    data = {"items": [], "files": [os.path.abspath("one.xsb")], "dragOperationsMask": 1}
-    for kind in ("dragEnter", "dragOver", "drop"):
-        tab.call("Input.dispatchDragEvent", type=kind, x=200, y=200, data=data)
-    tab.wait(IDLE)
+    tab.drop("#levels", "one.xsb")
     check.same("a dropped file", LINE, tab.text("lines")[:len(LINE)])
+    write("two.xsb", CORNER)
+    tab.drop("#page", "two.xsb")
+    check.same("a file dropped on the boards", "level 1 missing",
+               tab.text("lines").splitlines()[0])
+    os.utime("two.xsb", (1e9, 1e9))
+    tab.click("#audit")
+    tab.wait(IDLE)
+    check.same("a file that has changed", "cannot read two.xsb: if it was changed",
+               tab.message()[:38])
+    os.mkdir("folder")
+    tab.drop("h1", "one.xsb", "folder")
+    check.same("a folder", "cannot read folder: ", tab.message()[:20])
 
 
 def fields(check: Comparison, tab: Tab) -> None:
@@ -287,6 +331,20 @@ def fields(check: Comparison, tab: Tab) -> None:
     check.same("new levels drop the former answers", "level 1 missing",
                tab.text("lines").splitlines()[0])
     check.same("something is open", "open", tab.ask("$('total').className"))
+    tab.click("#levels-file button")
+    check.same("a removed file leaves its result pale", True,
+               tab.ask("$('result').classList.contains('stale')"))
+    tab.ask("clear(); 0")
+    check.same("answers alone", "There is nothing to audit yet: paste or drop levels.",
+               tab.give("one.answers"))
+    tab.give("one.xsb")
+    check.same("answers before their levels", LINE, tab.text("lines")[:len(LINE)])
+    tab.ask("clear(); 0")
+    tab.paste("levels", LEVEL)
+    write("list.txt", LETTERS)
+    tab.give("list.txt")
+    check.same("a list for typed levels", LINE, tab.text("lines")[:len(LINE)])
+    tab.ask("clear(); 0")
     tab.give("one.xsb", "plain answers.txt")
     check.same("a file that is named answers", "answers line 1 header", tab.message())
     tab.give("one.xsb", "two.xsb", "one.answers", "three.answers")
@@ -301,6 +359,12 @@ def fields(check: Comparison, tab: Tab) -> None:
     tab.paste("levels", f"{LEVEL}\nsokoban-answers 1\n")
     check.same("typed answers stay", ANSWERS, tab.ask("$('answers').value"))
     check.same("they count", LINE, tab.text("lines")[:len(LINE)])
+    tab.fresh()
+    for row, letters in ("#@ $ .#", "rRR"), ("#. $ @#", "lLL"):
+        tab.paste("levels", f"#######\n{row}\n#######\n\nsokoban-answers 1\nlevel 1\nsolution\n"
+                            f"{letters}\nend\n")
+        check.same(f"pasted levels and answers with {letters}", "level 1 solved",
+                   tab.text("lines")[:14])
     tab.fresh()
     tab.ask("$('levels').focus(); 0")
     tab.paste("levels", LEVEL + "Solution\n" + LETTERS)
@@ -328,6 +392,9 @@ def fields(check: Comparison, tab: Tab) -> None:
     for what in ("report", "answers"):
         tab.click(f"#save-{what}")
         check.same(f"the name of saved {what}", f"levels.{what}", tab.ask("to"))
+    check.same("the name of a page that is saved while another result comes", "levels.html",
+               tab.ask("globalThis.saving = savePage(); kept.names = ['next']; "
+                       "saving.then(() => to)"))
 
 
 PARTS = (below, fields, viewing, making, keeping, several, hostile, stopping, growth, browsers,

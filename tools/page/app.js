@@ -55,28 +55,29 @@ function clear() {
     inputs.levels.field.focus();
 }
 
+const hasLevels = () => Boolean(inputs.levels.file ?? inputs.levels.field.value.trim());
 const baseOf = ({ name }) => name.replace(/\.[^.]*$/, "");
 
 // Takes files: levels, answers and lists of solutions, which the thread tells apart.
 async function take(files) {
     files = [...files];
     if (!files.length) return;
-    const said = await ask("Reading the files", "sort", { files, hasLevels: Boolean(inputs.levels.file) });
+    const said = await ask("Reading the files", "sort", { files, hasLevels: hasLevels() });
     if (!said) return;
     if (said.trouble) return complain(said.trouble);
     let [levels, answers, lists] = ["levels", "answers", "list"].map(kind => files.filter((_, i) => said.kinds[i] === kind));
-    if (!levels.length && lists.length && !inputs.levels.file) [levels, lists] = [lists.slice(0, 1), lists.slice(1)];
+    if (!levels.length && lists.length && !hasLevels()) [levels, lists] = [lists.slice(0, 1), lists.slice(1)];
     if (levels.length < 2 && answers.length < 2) takePair(levels[0], answers[0], lists);
     else if (!takePairs(levels, answers, lists)) return;
     await audit();
 }
 
-// takes one file of levels and one of answers, or either
+// Takes one file of levels and one of answers, or either. New levels drop the answers of others.
 function takePair(levels, answers, lists) {
-    if (pairs.length || levels && !answers) remove();
+    if (pairs.length || levels && !answers && hasLevels()) remove();
     if (levels) put("levels", levels);
     if (lists.length) {
-        const { file } = inputs.levels;
+        const file = inputs.levels.file ?? new File([inputs.levels.field.value], "levels");
         put("levels", file, [file, ...lists].map(({ name }) => name).join(", "));
         inputs.levels.lists = lists;
     }
@@ -96,14 +97,16 @@ function takePairs(levels, answers, lists) {
     return true;
 }
 
-// moves pasted answers from the field of the levels to their own
+// moves pasted answers from the field of the levels to their own, also in place of those that were moved before
+let moved = "";
 function moveAnswers() {
-    const { levels, answers } = inputs, text = levels.field.value;
-    if (levels.file || answers.file || answers.field.value.trim()) return;
+    const { levels, answers } = inputs, text = levels.field.value, before = answers.field.value;
+    if (levels.file || answers.file || before.trim() && before !== moved) return;
     const near = text.indexOf("\nsokoban-answers "), inner = near < 0 ? null : INNER_HEADER.exec(text);
     const at = HEADER.test(text) ? 0 : inner ? inner.index + 1 : -1;
     if (at < 0) return;
     answers.field.value = text.slice(at);
+    moved = answers.field.value;
     $("more").open = true;
     levels.field.value = text.slice(0, at);
 }
@@ -208,7 +211,7 @@ async function run(words, task, values) {
 async function auditPair(pair, words) {
     const sources = sourcesOf(pair);
     hide();
-    if (sources.levels || sources.answers) return run(words, "audit", sources);
+    if (sources.levels) return run(words, "audit", sources);
     begin("");
     complain("There is nothing to audit yet: paste or drop levels.");
     return null;
@@ -248,8 +251,10 @@ function listen() {
         field.addEventListener("paste", () => setTimeout(audit, 0));
         field.addEventListener("input", () => $("result").classList.add("stale"));
         box.querySelector("button").addEventListener("click", () => {
+            begin("");
             if (pairs.length) remove();
             else put(kind, null);
+            $("result").classList.add("stale");
             field.focus();
         });
     }
@@ -285,12 +290,18 @@ function listen() {
     for (const name of ["scroll", "resize"]) addEventListener(name, () => $("page").contentWindow.seen?.(), { passive: true });
     addEventListener("beforeprint", () => $("printed").replaceChildren(...$("page").contentWindow.allCards?.() ?? []));
     addEventListener("afterprint", () => $("printed").replaceChildren());
-    addEventListener("dragover", event => {
+    addEventListener("popstate", ({ state }) => $("page").contentWindow.visit?.(state ?? ""));
+    takeDrops(window);
+}
+
+// takes the files that are dropped on a window: this one, or the frame
+function takeDrops(view) {
+    view.addEventListener("dragover", event => {
         event.preventDefault();
         document.body.classList.add("dropping");
     });
-    for (const name of ["dragleave", "drop"]) addEventListener(name, () => document.body.classList.remove("dropping"));
-    addEventListener("drop", event => {
+    for (const name of ["dragleave", "drop"]) view.addEventListener(name, () => document.body.classList.remove("dropping"));
+    view.addEventListener("drop", event => {
         if (!event.dataTransfer.files.length) return;
         event.preventDefault();
         take(event.dataTransfer.files);

@@ -1,6 +1,7 @@
 // Turns the bytes of files into texts: archives, encodings, and SLC as plain lines. All of it runs in the program's thread.
 
 const MOST_UNPACKED = MOST_BYTES, MOST_NESTED = 2, LONGEST_HEAD = 1 << 20;
+const IS_HIDDEN = /(?:^|\/)(?:\.|__MACOSX)/;
 const ENTITIES = { nbsp: " ", lt: "<", gt: ">", quot: "\"", amp: "&", apos: "'" };
 
 // ---- archives
@@ -22,7 +23,7 @@ const natural = new Intl.Collator("en", { numeric: true });
 async function unzipped(bytes, room) {
     const view = new DataView(bytes.buffer, bytes.byteOffset, bytes.length), files = [];
     let end = bytes.length - 22;
-    while (end > 0 && view.getUint32(end, true) !== 0x06054b50) end--;
+    while (end >= 0 && view.getUint32(end, true) !== 0x06054b50) end--;
     if (end < 0) throw new Error("the archive has no end");
     let at = view.getUint32(end + 16, true);
     for (let left = view.getUint16(end + 10, true); left; left--) {
@@ -30,11 +31,12 @@ async function unzipped(bytes, room) {
         const [size, local] = [20, 42].map(offset => view.getUint32(at + offset, true));
         const { text: name } = readBytes(bytes.subarray(at + 46, at + 46 + length));
         const first = local + 30 + view.getUint16(local + 26, true) + view.getUint16(local + 28, true);
-        if (form && form !== 8 || flags & 1) throw new Error(`${name} is encrypted, or packed in an unknown way`);
-        const packed = bytes.subarray(first, first + size);
-        if (!name.endsWith("/")) files.push({ name, bytes: form ? await unpacked(packed, "deflate-raw", room) : packed });
+        const packed = bytes.subarray(first, first + size), isFile = !name.endsWith("/") && !IS_HIDDEN.test(name);
+        if (isFile && (form && form !== 8 || flags & 1)) throw new Error(`${name} is encrypted, or packed in an unknown way`);
+        if (isFile) files.push({ name, bytes: form ? await unpacked(packed, "deflate-raw", room) : packed });
         at += 46 + length + view.getUint16(at + 30, true) + view.getUint16(at + 32, true);
     }
+    if (!files.length) throw new Error("it has no files");
     return files.sort((a, b) => natural.compare(a.name, b.name));
 }
 
@@ -201,14 +203,24 @@ async function partsOf(name, bytes, depth = 0, room = { left: MOST_UNPACKED }) {
     return [partOf(name, bytes, head, !depth)];
 }
 
+// a text without the zero bytes and the old mark of an end that fill it up; a regular expression would take too long over many zeros
+function unfilled(text) {
+    let end = text.length;
+    while (end && "\0\x1a".includes(text[end - 1])) end--;
+    return text.slice(0, end);
+}
+
 // one text as a part; the head is its first bytes
 function partOf(name, bytes, head, isAlone) {
     const form = FORMS.find(([, begins]) => begins.test(head))?.[0], faults = [];
-    const { text, encoding } = readBytes(bytes), zero = form ? 0 : text.replace(/\0+$|\x1a$/, "").indexOf("\0");
+    const { text, encoding } = readBytes(bytes), zero = form ? 0 : unfilled(text).indexOf("\0");
     if (form) faults.push({ number: 0, words: `is ${form}, no text` });
     else if (zero >= 0) faults.push({ number: text.slice(0, zero).split("\n").length, words: "a zero byte: what comes from here on isn't read" });
     if (!form && /^(?:windows|gb|utf-32)/.test(encoding)) faults.push(note(`isn't UTF-8: read as ${encoding}`));
-    const game = form ? "" : gameOf(text.slice(0, LONGEST_HEAD)), whole = game ? "" : zero < 0 ? text.replace(/[\0\x1a]+$/, "") : text.slice(0, zero);
+    if (!isAlone && HEADER.test(text) && /^unsolvable\r?$/m.test(text)) {
+        faults.push({ number: 0, words: "its certificates aren't read from here: drop this answers file itself beside the levels" });
+    }
+    const game = form ? "" : gameOf(text.slice(0, LONGEST_HEAD)), whole = game ? "" : zero < 0 ? unfilled(text) : text.slice(0, zero);
     if (game) faults.push({ number: 0, words: `is a file of ${game}, which is not read`, isNote: !isAlone });
     return { name, faults, encoding, text: whole, isAlone, lines: isXml(whole) ? slcLines(whole, faults) : null };
 }

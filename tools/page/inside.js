@@ -3,7 +3,7 @@
 // levels that open in a window of their own.
 
 {
-    const drawPlain = draw, pagePlain = levelPage, dead = new WeakMap(), isFrame = parent !== window;
+    const drawPlain = draw, pagePlain = levelPage, dead = new WeakMap(), isFrame = parent !== window && Boolean(globalThis.shownData);
     // of each level that was judged, what was judged, and what is said of that
     const known = new WeakMap();
     draw = (board, position) => {
@@ -75,12 +75,24 @@
         toggle();
     });
     if (globalThis.deadSquares) KEYS.push(["d", "in a level: show its dead squares"]);
+    // A window that the page wrote has no address, and going back in its own history would load the page into it. So the history of the page
+    // has what the frame shows.
+    let now = "";
+    const noted = does => to => {
+        now = to;
+        if (isFrame) parent.history[does](to, "");
+    };
+    if (globalThis.shownData) Object.assign(address, { read: () => now, go: noted("pushState"), step: noted("replaceState") });
+    globalThis.visit = to => {
+        now = to;
+        route();
+    };
     // a level that is opened with Ctrl gets a window of its own, since the page's address doesn't name it
     const open = event => {
-        const number = Number(event.target.closest?.("a[href^='#']")?.hash.slice(1));
-        if (!number || !globalThis.openLevel || !(event.ctrlKey || event.metaKey || event.shiftKey || event.button === 1)) return;
+        const link = event.target.closest?.("a[href^='#']"), isOther = event.ctrlKey || event.metaKey || event.shiftKey || event.button === 1;
+        if (!link || !globalThis.openLevel || event.button > 1) return;
         event.preventDefault();
-        openLevel(number);
+        (isOther ? openLevel : go)(Number(link.hash.slice(1)));
     };
     addEventListener("click", open);
     addEventListener("auxclick", open);

@@ -126,7 +126,7 @@ class Reading {
         }
         if (!it.isSure || isPlaced) return;
         if (above && !above.length && it.solution.letters) above.push(it);
-        this.say(it.part, it.number, `letters that solve no level: ${it.solution.why}`);
+        this.say(it.part, it.number, `letters that solve no level${steps < MOST_STEPS ? "" : " of those tried"}: ${it.solution.why}`);
     }
     // The levels without a solution that a piece solves: the one below first, and the one above only if it wasn't tried yet.
     solvedBy(piece, above, isTried) {

@@ -18,9 +18,9 @@ function tellAll(said) {
     }), ...more ? [`and ${more} more`] : []);
 }
 
-function show({ totals, notes, report, status, took, data }) {
+function show({ names, totals, notes, report, status, took, data }) {
     globalThis.shownData = data;
-    $("total").textContent = totalIn(report);
+    $("total").textContent = (pairs.length ? `${names[0]}: ` : "") + totalIn(report);
     $("total").className = status ? "open" : totals.count ? "fine" : "";
     $("notes").textContent = [...notes, ...took > 1000 ? [`The program took ${(took / 1000).toFixed(1)} seconds.`] : []].join(" ");
     $("lines").textContent = report;
@@ -36,11 +36,11 @@ const viewerText = JSON.parse($("viewer").textContent);
 const viewerParts = more => viewerText.replace(START, () => more + START).split("@DATA@");
 const scriptOf = (id, type = "") => `<script${type}>${$(id).textContent}<\/script>`;
 
-// Writes the viewer into a window, with levels of its own, since it notes on them what it shows. It isn't loaded from an address, since a
-// browser lets a page from a file follow no link within such a one.
-function fill(view) {
-    const own = { ...shownData, levels: shownData.levels.map(level => level.copy()) };
-    Object.assign(view, { shownData: own, judged, deadSquares, openLevel });
+// Writes the viewer into a window, with levels of its own, since it notes on them what it shows. They stay those of the window when another
+// result is shown here. It isn't loaded from an address, since a browser lets a page from a file follow no link within such a one.
+function fill(view, data = shownData, text = kept.levels) {
+    const own = { ...data, levels: data.levels.map(level => level.copy()) };
+    Object.assign(view, { shownData: own, judged, deadSquares: number => deadSquares(number, text), openLevel: number => openLevel(number, own, text) });
     const inside = view.document;
     inside.open();
     inside.write(viewerParts(scriptOf("inside")).join("null"));
@@ -64,18 +64,21 @@ function draw(isSingle) {
         frame.style.height = `${Math.ceil(inside.body.getBoundingClientRect().height) + 2}px`;
         inside.documentElement.style.setProperty("--tall", `${innerHeight}px`);
     };
+    takeDrops(frame.contentWindow);
     new ResizeObserver(grow).observe(inside.body);
     grow();
+    history.replaceState("", "");
     // A level's page takes the focus, which stays with the user here.
-    if (isSingle) frame.contentWindow.go(1);
+    if (isSingle) frame.contentWindow.visit("#1");
     before.focus({ preventScroll: true });
 }
 
-// opens a level in a window of its own, as a click with Ctrl wants
-function openLevel(number) {
+// Opens a level in a window of its own, as a click with Ctrl wants. Without this page nothing can be judged there.
+function openLevel(number, ...shown) {
     const view = window.open("");
-    fill(view);
+    fill(view, ...shown);
     view.go(number);
+    addEventListener("pagehide", () => Object.assign(view, { judged: async () => ({ line: "" }), deadSquares: null }));
 }
 
 // shows the top of the frame after it has become shorter
@@ -84,17 +87,17 @@ function showTop() {
 }
 
 // the frame asks for the dead squares of a level
-async function deadSquares(number) {
-    const said = await judge.ask("dead", { levels: kept.levels, number });
+async function deadSquares(number, levels = kept.levels) {
+    const said = await judge.ask("dead", { levels, number });
     return { map: said.map ?? "", fault: said.isStopped ? "stopped" : troubleIn(said, judge) };
 }
 
 // ---- what is saved
 
-function save(what, blob) {
+function save(what, blob, name = kept.names[0]) {
     const link = document.createElement("a");
     link.href = URL.createObjectURL(blob);
-    link.download = `${kept.names[0].replace(/\.[^.]*$/, "")}.${what}`;
+    link.download = `${name.replace(/\.[^.]*$/, "")}.${what}`;
     link.click();
     setTimeout(() => URL.revokeObjectURL(link.href), 60000);
 }
@@ -102,7 +105,7 @@ function save(what, blob) {
 async function savePage() {
     const plain = ' type="text/plain"', more = ["wasm", "texts", "thread"].map(id => scriptOf(id, `${plain} id="${id}"`));
     const parts = viewerParts([...more, scriptOf("threads"), scriptOf("inside")].join("\n"));
-    const said = await judge.ask("page", { parts, result: textsOf(kept) });
-    if (said.page) save("html", kept.page = said.page);
+    const result = textsOf(kept), said = await judge.ask("page", { parts, result });
+    if (said.page) save("html", kept.page = said.page, result.names[0]);
     else if (!said.isStopped) complain(troubleIn(said, judge));
 }

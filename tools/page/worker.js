@@ -2,7 +2,7 @@
 
 const FAULT = 2, REPORT_ROOM = 1 << 20, MADE_ROOM = 1 << 22, MAP_ROOM = 1 << 17, SAID_EVERY = 200, MOST_LINES = 1 << 21;
 const NO_MEMORY = 1, KINDS = ["", "solution", "unsolvable"], OUTCOME = 9, LINE = 13, RECORD = 7, MOST_LEVELS = 10000;
-const HEADER = /^sokoban-answers/, HAS_ROW = /^(?:\xef\xbb\xbf)?[-#@+$*._ ]*#[-#@+$*._ ]*\r?$/m;
+const HEADER = /^(?:\xef\xbb\xbf)?sokoban-answers/, HAS_ROW = /^(?:\xef\xbb\xbf)?[-#@+$*._ ]*#[-#@+$*._ ]*\r?$/m;
 const LEFT_OUT = "The solutions beside the levels are left out, since there are answers", NO_ANSWERS = "sokoban-answers 1\n", ROW = "A row has a wall # and no other characters than @ + $ * . - _ and blanks.";
 // the words of a verdict in numbers: why a level, a letter or a line is refused
 const WHYS = " size player box goals open letter wall blocked case syntax count board seed goals".split(" ");
@@ -88,12 +88,13 @@ class Machine {
 // ---- reading
 
 // The bytes of a file, or of what is typed, up to one more than the limit, since the program itself refuses longer texts.
-async function bytesIn(source) {
+async function bytesIn(source, most = MOST_BYTES + 1) {
     if (typeof source === "string") return new TextEncoder().encode(source);
     try {
-        return new Uint8Array(await source.slice(0, MOST_BYTES + 1).arrayBuffer());
+        return new Uint8Array(await source.slice(0, most).arrayBuffer());
     } catch (error) {
-        throw new Fault(`cannot read the file: ${error.message}`);
+        throw new Fault(`cannot read ${source.name}: if it was changed, drop it again; if it is a folder, drop its files `
+            + `(${error.message})`);
     }
 }
 
@@ -121,6 +122,7 @@ async function textsOf({ levels: source, lists, answers: given, names }, tell) {
     if (answers && HAS_ROW.test(textOf(levels))) {
         const lines = solutionLines(textOf(levels));
         if (lines.length) notes.push(`${LEFT_OUT}: line${lines.length > 1 ? "s" : ""} ${few(lines)}.`);
+        if (lists.length) notes.push(`${LEFT_OUT}: ${lists.map(({ name }) => name).join(", ")}.`);
         return asTheyAre;
     }
     if (linesIn(levels) > MOST_LINES) {
@@ -161,7 +163,7 @@ const tasks = {
     // Tells files apart: answers by their first line or else by their names, and lists of letters if there are levels too.
     async sort({ files, hasLevels }) {
         const kinds = [];
-        for (const file of files) kinds.push(HEADER.test(readBytes((await bytesIn(file.slice(0, 256)))).text) ? "answers" : "levels");
+        for (const file of files) kinds.push(HEADER.test(readBytes(await bytesIn(file, 256)).text) ? "answers" : "levels");
         const named = files.findIndex(({ name }) => /answers/i.test(name));
         if (files.length === 2 && !kinds.includes("answers") && named >= 0) kinds[named] = "answers";
         const isMore = hasLevels && !kinds.includes("answers");
