@@ -113,7 +113,8 @@ def at_once(cases: Cases) -> None:
 
 
 def whole(cases: Cases) -> None:
-    """Cases: the gate runs each part, and each share of one; the shares are all tests and edits."""
+    """Cases: the gate runs each part, each share of one, and what is timed; these are all tests
+    and edits."""
     for name in (".ci/run", "tests/bare"):
         os.makedirs(os.path.dirname(name), exist_ok=True)
         write(name, read(f"{TOP}/{name}"))
@@ -131,10 +132,10 @@ def whole(cases: Cases) -> None:
     cases.same("and no part twice", "[]", str([it for it, n in Counter(said).items() if n > 1]))
     shares: Dict[str, List[str]] = defaultdict(list)
     for part, *words in begun:
-        shares[part] += [it for it in words if re.fullmatch(r"\d/\d", it)]
+        shares[part] += [it for it in words if re.fullmatch(r"\d/\d|timed", it)]
     for part in ("tools", "mutants", "page"):
-        count = len(shares[part])
-        wanted = [f"{it}/{count}" for it in range(1, count + 1)]
+        count = len(shares[part]) - 1
+        wanted = [*(f"{it}/{count}" for it in range(1, count + 1)), "timed"]
         cases.same(f"and each share of {part}", str(wanted), str(shares[part]))
     found = {f"{module}.{method}" for word in shares["tools"]
              for it in dealing.names_of(dealing.tests_of([word]))
@@ -142,7 +143,7 @@ def whole(cases: Cases) -> None:
     wanted = [f"{os.path.basename(it)[:-3]}.{method}" for it in glob.glob(f"{TOP}/tests/tools/*.py")
               for method in re.findall(r"(?m)^    def (test_\w+)", read(it))]
     cases.same("the shares have all tests", str(sorted({*wanted})), str(sorted(found)))
-    edits = [it for word in [*shares["mutants"], "timed"] for it in mutants.picked([word])]
+    edits = [it for word in shares["mutants"] for it in mutants.picked([word])]
     cases.same("the shares have all edits", str(mutants.picked([])), str(sorted(edits)))
 
 

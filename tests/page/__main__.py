@@ -1,6 +1,7 @@
-"""tests/run page PROGRAM [SHARE|PAGE [PART..]]: gives sokoaudit.html, or PAGE, to a browser, and
-compares what it says with what PROGRAM prints. Only the named parts run, or a share such as 2/3;
-the first share also makes the page anew. Ends in 'N passed, M failed'."""
+"""tests/run page PROGRAM [SHARE|timed|PAGE [PART..]]: gives sokoaudit.html, or PAGE, to a browser,
+and compares what it says with what PROGRAM prints. Only the named parts run, or a share such as
+2/3; the first share also makes the page anew. No share has what measures time: 'timed' runs that.
+Ends in 'N passed, M failed'."""
 import os
 import random
 import re
@@ -119,8 +120,8 @@ USED: Sequence[Callable[[Comparison, Tab], None]] = (
     *using.PARTS, *forms.PARTS, *late.PARTS, *answering.PARTS)
 
 
-def test(page: str, wanted: Sequence[str], share: str = "1/1") -> None:
-    """Tests a page in the browser: the parts with these names, or a share of all."""
+def test(page: str, wanted: Sequence[str], share: str = "") -> None:
+    """Tests a page in the browser: the parts with these names, a share, what is timed, or all."""
     tab = Tab()
     tab.page = page
     tab.start()
@@ -129,7 +130,12 @@ def test(page: str, wanted: Sequence[str], share: str = "1/1") -> None:
     parts: Dict[str, Callable[[], None]] = {
         **{part.__name__: partial(part, check) for part in COMPARED},
         **{part.__name__: partial(part, check, tab) for part in USED}}
-    for name in share_of([*parts], share):
+    timed = [part.__name__ for part in answering.PARTS]
+    if share == "timed":
+        wanted = timed
+    elif share:
+        wanted = share_of([it for it in parts if it not in timed], share)
+    for name in parts:
         if not wanted or name in wanted:
             tab.fresh()
             try:
@@ -140,8 +146,8 @@ def test(page: str, wanted: Sequence[str], share: str = "1/1") -> None:
     tab.close()
 
 
-program, *named = arguments("page PROGRAM [SHARE|PAGE [PART..]]")
-share = named.pop(0) if is_share(named) else "1/1"
+program, *named = arguments("page PROGRAM [SHARE|timed|PAGE [PART..]]")
+share = named.pop(0) if is_share(named) or named == ["timed"] else ""
 cases, _room = Cases("page"), enter_folder()
 given = [os.path.abspath(it) for it in named[:1]]
 if not given and not cases.holds("sokoaudit.html is there", os.path.exists(KEPT)):
@@ -151,7 +157,7 @@ if not browser.PROGRAM:
 else:
     # a part may have the name of a folder
     test((given or [KEPT])[0], [os.path.basename(word) for word in named[1:]], share)
-for it in made_anew() if not given and share.startswith("1/") else ():
+for it in made_anew() if not given and share[:2] in ("", "1/") else ():
     if browser.PROGRAM:
         test(it, [])
 cases.finish()

@@ -1,6 +1,6 @@
 """tests/run tools PROGRAM [TEST..]: the tests of sokotool, all or some by their names, such as
-test_find, or a share of their classes, such as 2/3. PROGRAM is the sokoaudit that they run. Ends in
-'N passed, M failed'."""
+test_find, or a share of their classes, such as 2/3. No share has what measures a browser's time:
+'timed' runs that. PROGRAM is the sokoaudit that they run. Ends in 'N passed, M failed'."""
 import sys
 import unittest
 

@@ -7,12 +7,17 @@ from tests.runner import TOP, is_share, share_of
 
 def tests_of(names: Sequence[str]) -> unittest.TestSuite:
     """The tests of these names, such as test_find or test_find.Search, or all if there are none; of
-    a share such as 2/3, each third class from the second on."""
+    a share such as 2/3, each third class from the second on, without what has to run alone; or, as
+    'timed', that."""
     loader = unittest.defaultTestLoader
-    if names and not is_share(names):
+    is_timed = list(names) == ["timed"]
+    if names and not is_timed and not is_share(names):
         return loader.loadTestsFromNames([f"tests.tools.{it}" for it in names])
     found = classes(loader.discover(f"{TOP}/tests/tools", top_level_dir=TOP))
-    return unittest.TestSuite(share_of(found, names[0]) if names else found)
+    if names:
+        found = [it for it in found
+                 if any(getattr(test, "is_timed", False) for test in it) == is_timed]
+    return unittest.TestSuite(share_of(found, names[0]) if is_share(names) else found)
 
 
 def classes(tests: unittest.TestSuite) -> List[unittest.TestSuite]:
