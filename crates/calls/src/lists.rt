@@ -2,7 +2,7 @@
 ghost use Rattle.std.specs.Prelude.{◌≡◌, IfSome, IsTrue, map};
 ghost use Rattle.answers.specs.Grammar.{said_pattern};
 ghost use Rattle.cellset.specs.Cell.{IsOn};
-ghost use Rattle.patterns.specs.Pattern.{AreLawful, patterns_of};
+ghost use Rattle.certificates.specs.Pattern.{AreLawful, patterns_of};
 
 use crate::shown;
 use answers::Pattern;

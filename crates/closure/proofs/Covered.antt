@@ -8,8 +8,8 @@ use Rattle.cellset.proofs.Members.{not_both}
 use Rattle.reach.specs.{Region.beside, Pushes.push_by}
 use Rattle.board.specs.Game.{Level, State, start, Steps, Walks, Pushes, Plays, IsSolved, Solvable}
 use Rattle.board.specs.Board.{IsWellFormed}
-use Rattle.patterns.specs.Pattern.{Pattern, IsCovered}
-use Rattle.closure.specs.Closed.{Closed}
+use Rattle.certificates.specs.Pattern.{Pattern, IsCovered}
+use Rattle.certificates.specs.Closed.{Closed}
 use Rattle.patterns.proofs.{Moves.AreOnFloor, Moves.lacks_within, Moves.moved_on_floor, Settled.subsumed_push}
 
 module _ (level : Level) (patterns : List Pattern) (closed : Closed level patterns) where

@@ -5,7 +5,8 @@ use Rattle.std.proofs.Common.{◌≡◌, ℕ, ◌+◌, ◌<◌, List, [], ◌∷
 use Rattle.std.specs.Prelude.{◌↔◌}
 use Rattle.std.proofs.lemmas.List.{get_or_default}
 use Rattle.board.specs.Game.{Level, State}
-use Rattle.patterns.{specs.Arena.pattern_at, specs.Pattern.Pattern, specs.Pattern.Covers, specs.Pattern.IsCovered}
+use Rattle.certificates.specs.Pattern.{Pattern, Covers, IsCovered}
+use Rattle.patterns.specs.Arena.{pattern_at}
 use Rattle.patterns.proofs.Lists.{each_more, length_more}
 use Rattle.closure.specs.Scan.{AreEntries, EntryCells, EntryCovers, EntriesCover, IsEntryOf}
 

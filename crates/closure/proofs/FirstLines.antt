@@ -9,8 +9,8 @@ use Rattle.board.specs.{Game.Level}
 use Rattle.answers.specs.Body.{PatternLine}
 use Rattle.closure.specs.declared.fault.LineWhy.{LineWhy, TheVariants.Board, TheVariants.Wall, TheVariants.Seed, TheVariants.Goals}
 use Rattle.closure.specs.declared.fault.CheckFault.{CheckFault, TheVariants.Line, TheVariants.Start, TheVariants.Push, TheVariants.Memory}
-use Rattle.patterns.specs.Pattern.{Pattern, pattern_of, patterns_of, IsLawful}
-use Rattle.closure.specs.Closed.{Closed}
+use Rattle.certificates.specs.Pattern.{Pattern, pattern_of, patterns_of, IsLawful}
+use Rattle.certificates.specs.Closed.{Closed}
 use Rattle.closure.specs.FirstFault.{IsUnlawful, IsFirstFaultyLine, IsFirstPatternFault}
 use Rattle.patterns.proofs.Lists.{mapped, middle}
 

@@ -12,11 +12,13 @@ use Rattle.answers.specs.Body.{PatternLine, ZoneLine}
 use Rattle.cell_lists.specs.CellLists.{cells_of}
 use Rattle.closure.specs.declared.fault.LineWhy.{LineWhy, TheVariants.Board, TheVariants.Wall, TheVariants.Seed, TheVariants.Goals}
 use Rattle.closure.specs.declared.fault.CheckFault.{CheckFault, TheVariants.Line, TheVariants.Start, TheVariants.Push, TheVariants.Memory}
-use Rattle.closure.specs.{declared.fault.ZoneLineWhy.ZoneLineWhy, declared.fault.ZoneFault.ZoneFault, Zone.IsZoneOnBoard, Zone.IsZoneOffWalls, Zone.IsRefuting}
+use Rattle.certificates.specs.Zone.{IsZoneOnBoard, IsZoneOffWalls, IsRefuting}
+use Rattle.closure.specs.{declared.fault.ZoneLineWhy.ZoneLineWhy, declared.fault.ZoneFault.ZoneFault}
 use Rattle.closure.specs.declared.fault.ZoneLineWhy.TheVariants as zone_why
 use Rattle.closure.specs.declared.fault.ZoneFault.TheVariants as zone_fault
-use Rattle.patterns.{specs.Pattern.Pattern, specs.Pattern.pattern_of, specs.Pattern.patterns_of, proofs.Lists.middle}
-use Rattle.patterns.specs.Pattern.{IsOnBoard, IsOffWalls, HasFairSeeds, IsLawful, AreLawful, CoversPushesOf}
+use Rattle.certificates.specs.Pattern.{Pattern, pattern_of, patterns_of}
+use Rattle.patterns.proofs.Lists.{middle}
+use Rattle.certificates.specs.Pattern.{IsOnBoard, IsOffWalls, HasFairSeeds, IsLawful, AreLawful, CoversPushesOf}
 use Rattle.closure.specs.FirstFault.{IsUnlawful, IsFirstFaultyLine, HasFirstUncovered, IsFirstPatternFault, IsUnlawfulZone, IsFirstLeak, IsFirstZoneFault}
 use Rattle.closure.proofs.FirstLines.{unlawful_not, line_listed}
 

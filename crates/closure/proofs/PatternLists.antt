@@ -5,7 +5,7 @@ use Rattle.std.{specs.Prelude.MatchOption, specs.Prelude.Option, specs.Prelude.N
 use Rattle.std.proofs.lemmas.List.{map_push, Elements.Contains-push_cases}
 use Rattle.board.specs.Game.{Level}
 use Rattle.answers.specs.Body.{PatternLine}
-use Rattle.patterns.specs.Pattern.{pattern_of, patterns_of, AreLawful, IsLawful}
+use Rattle.certificates.specs.Pattern.{pattern_of, patterns_of, AreLawful, IsLawful}
 use Rattle.closure.specs.FirstFault.{IsFirstPatternFault, IsUnlawful}
 use Rattle.patterns.proofs.Lists.{mapped}
 use Rattle.closure.specs.declared.fault.{LineWhy.LineWhy, CheckFault.TheVariants.Line}

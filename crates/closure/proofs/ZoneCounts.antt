@@ -10,7 +10,7 @@ use Rattle.cellset.proofs.Neighbors.{neighbor_back}
 use Rattle.board.specs.{Game.Level, Game.State, Game.IsFloor, Game.moved, Game.start, Game.Walks, Game.Pushes, Game.Plays, Game.Solvable, Board.IsWellFormed}
 use Rattle.cell_lists.proofs.Counts.{common_more, len-within}
 use Rattle.cell_lists.proofs.Sets.{has_intersection, in_intersection, put_back, removed_lacks}
-use Rattle.closure.specs.Zone.{count_in, IsClosedZone, IsRefuting}
+use Rattle.certificates.specs.Zone.{count_in, IsClosedZone, IsRefuting}
 use Rattle.patterns.proofs.Moves.{AreOnFloor, moved_on_floor}
 
 -- a box that moves within the zone doesn't change the number of boxes in it

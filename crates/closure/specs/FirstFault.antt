@@ -17,10 +17,10 @@ use Rattle.closure.specs.declared.fault.CheckFault.{CheckFault, TheVariants.Line
 use Rattle.closure.specs.declared.fault.{ZoneLineWhy.ZoneLineWhy, ZoneFault.ZoneFault}
 use Rattle.closure.specs.declared.fault.ZoneLineWhy.TheVariants as zone_why
 use Rattle.closure.specs.declared.fault.ZoneFault.TheVariants as zone_fault
-use Rattle.patterns.specs.Pattern.{Pattern, pattern_of, patterns_of, IsCovered, IsFirstUncovered}
-use Rattle.closure.specs.Zone.{count_in, Leaks, IsClosedZone, IsZoneOnBoard, IsZoneOffWalls, IsRefuting}
-use Rattle.patterns.specs.Pattern.{IsListedSeed, IsOnBoard, IsOffWalls, HasFairSeeds, IsLawful, AreLawful, CoversPushesOf}
-use Rattle.closure.specs.Closed.{Closed}
+use Rattle.certificates.specs.Pattern.{Pattern, pattern_of, patterns_of, IsCovered, IsFirstUncovered}
+use Rattle.certificates.specs.Zone.{count_in, Leaks, IsClosedZone, IsZoneOnBoard, IsZoneOffWalls, IsRefuting}
+use Rattle.certificates.specs.Pattern.{IsListedSeed, IsOnBoard, IsOffWalls, HasFairSeeds, IsLawful, AreLawful, CoversPushesOf}
+use Rattle.certificates.specs.Closed.{Closed}
 
 -- the pattern isn't lawful, and this is the first reason
 abbrev pub IsUnlawful : Level → Pattern → LineWhy → Type 0

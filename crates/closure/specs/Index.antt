@@ -3,7 +3,7 @@ use Rattle.std.specs.Prelude.{ℕ, List, Option, refl}
 use Rattle.std.specs.Coded.{Coded, code_by, coded×, coded_ℕ, coded_list, coded_option}
 use Rattle.board.specs.{Board.coded_level, Game.Level, Game.State}
 use Rattle.answers.specs.{declared.pattern.Coord.Coord, Body.PatternLine}
-use Rattle.patterns.specs.Pattern.{patterns_of, IsCovered}
+use Rattle.certificates.specs.Pattern.{patterns_of, IsCovered}
 
 pub record Listed : Type 0 where
   pub level : Level

@@ -1,11 +1,9 @@
 pub mod Checking
-pub mod Closed
 pub mod FirstFault
 pub mod Index
 pub mod PatternList
 pub mod Scan
 pub mod Words
-pub mod Zone
 pub use Rattle.cellset.specs.Shape
 pub use Rattle.cellset.specs.Cell
 pub use Rattle.cellset.specs.CellSet
@@ -15,4 +13,6 @@ pub use Rattle.board.specs.Board
 pub use Rattle.answers.specs.Body
 pub use Rattle.answers.specs.Grammar
 pub use Rattle.cell_lists.specs.CellLists
-pub use Rattle.patterns.specs.Pattern
+pub use Rattle.certificates.specs.Pattern
+pub use Rattle.certificates.specs.Closed
+pub use Rattle.certificates.specs.Zone

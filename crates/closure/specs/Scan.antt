@@ -5,7 +5,8 @@ use Rattle.std.specs.Coded.{Coded, code_by, coded×, coded_ℕ, coded_list, code
 use Rattle.cellset.specs.{Shape.Extent, Coding.coded_cell, Coding.coded_cells, CellSet.Cells, CellSet.Has, CellSet.Lacks, declared.cell.Cell.Cell}
 use Rattle.board.specs.Game.{Level, State}
 use Rattle.cell_lists.specs.CellLists.{cells_in}
-use Rattle.patterns.specs.{Arena.pattern_at, Pattern.Pattern, Pattern.InPatternRegion}
+use Rattle.certificates.specs.Pattern.{Pattern, InPatternRegion}
+use Rattle.patterns.specs.Arena.{pattern_at}
 
 -- an entry with its grid
 pub record EntryCells : Type 0 where

@@ -1,9 +1,10 @@
 //! The check of lawful patterns: whether the list covers the start and what each push out of its patterns leads to.
 ghost use Rattle.std.specs.Prelude.{◌≡◌, ◌≢◌, ◌<◌, ◌↔◌, ℕ, Bool, IsTrue, IfErr, IfSome, OnOk, Some, length, slice_index_or};
 ghost use Rattle.board.specs.{Board.IsWellFormed, Game.start};
-ghost use Rattle.patterns.specs.Pattern.{IsCovered, AreLawful};
+ghost use Rattle.certificates.specs.Pattern.{IsCovered, AreLawful};
 ghost use Rattle.patterns.specs.{GroupPushes.AreNoted, Tables.AreTables, Trap.AreOff};
-ghost use Rattle.closure.specs.{Checking.IsChecker, Closed.Closed};
+ghost use Rattle.certificates.specs.Closed.{Closed};
+ghost use Rattle.closure.specs.Checking.{IsChecker};
 ghost use Rattle.patterns.specs.{Arena.lines_in, Arena.list_in, Groups.boxes_of, Groups.list_of};
 ghost use Rattle.closure.specs.FirstFault.{IsFirstPatternFault};
 

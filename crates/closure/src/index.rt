@@ -2,7 +2,7 @@
 ghost use Rattle.std.specs.Prelude.{◌≡◌, ◌<◌, ◌↔◌, IfOk, length, map};
 ghost use Rattle.board.specs.Game.{State};
 ghost use Rattle.answers.specs.Grammar.{said_pattern};
-ghost use Rattle.patterns.specs.Pattern.{patterns_of, IsCovered, AreLawful};
+ghost use Rattle.certificates.specs.Pattern.{patterns_of, IsCovered, AreLawful};
 ghost use Rattle.patterns.specs.{Lookups.AreLookups, Tables.AreTables};
 
 use crate::coverage::Coverage;

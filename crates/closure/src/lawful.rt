@@ -2,7 +2,8 @@
 ghost use Rattle.std.specs.Prelude.{IfOk, MatchBool, MatchOption};
 ghost use Rattle.cellset.specs.{Cell.IsOn, CellSet.Has, CellSet.Lacks, declared.cell.Cell.Cell as GridCell};
 ghost use Rattle.cell_lists.specs.CellLists.{cells_in};
-ghost use Rattle.patterns.specs.{Pattern.IsLawful, Arena.IsOnGrid, Arena.IsStored, Arena.stored_pattern};
+ghost use Rattle.certificates.specs.Pattern.{IsLawful};
+ghost use Rattle.patterns.specs.Arena.{IsOnGrid, IsStored, stored_pattern};
 ghost use Rattle.closure.specs.FirstFault.{IsUnlawful};
 
 use crate::fault::LineWhy;

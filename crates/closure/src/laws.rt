@@ -3,9 +3,10 @@
 ghost use Rattle.std.specs.Prelude.{◌≡◌, List};
 ghost use Rattle.board.specs.Game.{Level};
 ghost use Rattle.answers.specs.Body.{PatternLine, ZoneLine};
-ghost use Rattle.closure.specs.{Closed.ClosedMeansUnsolvable, declared.fault.CheckFault.CheckFault, declared.fault.ZoneFault.ZoneFault};
+ghost use Rattle.certificates.specs.Closed.{ClosedMeansUnsolvable};
+ghost use Rattle.closure.specs.{declared.fault.CheckFault.CheckFault, declared.fault.ZoneFault.ZoneFault};
 ghost use Rattle.closure.specs.FirstFault.{ClosedHasNoFault, RefutingHasNoFault, IsFirstPatternFault, IsFirstZoneFault};
-ghost use Rattle.closure.specs.Zone.{RefutingMeansUnsolvable};
+ghost use Rattle.certificates.specs.Zone.{RefutingMeansUnsolvable};
 
 /// No list of directions, of any length, solves a level that has a closed list of patterns.
 pub fn closed_means_unsolvable()

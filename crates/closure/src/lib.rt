@@ -4,8 +4,8 @@
 //! patterns is accepted exactly if it is closed, and a zone exactly if it refutes the level. Then no list of directions, of any
 //! length, solves the level in the full game.
 //!
-//! Read `specs/Closed.antt` for closed lists, `specs/Zone.antt` for zones, and `specs/FirstFault.antt` for the faults of certificates that
-//! are refused. The crate `patterns` has what a pattern is and how the states that a list covers are found.
+//! The crate `certificates` has what patterns, closed lists and zones are, and the crate `patterns` how the states that a list covers are
+//! found. Read `specs/FirstFault.antt` for the faults of certificates that are refused.
 //!
 //! How a list of n lines is checked:
 //!

@@ -2,8 +2,9 @@
 ghost use Rattle.std.specs.Prelude.{◌≡◌, ◌≢◌, ◌⊎◌, ◌++◌, ◌∷◌, [], IfOk, IfErr, OnOk, IsOkUnless, MatchOption, length, map};
 ghost use Rattle.board.specs.{Board.IsWellFormed, Game.Solvable};
 ghost use Rattle.answers.specs.Grammar.{said_pattern};
-ghost use Rattle.patterns.specs.{Pattern.pattern_of, Pattern.patterns_of, Pattern.AreLawful, Pattern.IsLawful, Arena.lines_in, Arena.list_in};
-ghost use Rattle.closure.specs.Closed.{Closed};
+ghost use Rattle.certificates.specs.Pattern.{pattern_of, patterns_of, AreLawful, IsLawful};
+ghost use Rattle.patterns.specs.Arena.{lines_in, list_in};
+ghost use Rattle.certificates.specs.Closed.{Closed};
 ghost use Rattle.closure.specs.{FirstFault.IsFirstPatternFault, FirstFault.IsUnlawful, declared.fault.CheckFault.CheckFault as Fault};
 
 use crate::checking::check_closed;

@@ -3,7 +3,8 @@ ghost use Rattle.std.specs.{Prelude.◌≡◌, Prelude.◌↔◌, Prelude.IsTrue
 ghost use Rattle.cellset.specs.Cell.{IsOn};
 ghost use Rattle.board.specs.Game.{State};
 ghost use Rattle.answers.specs.Grammar.{said_pattern};
-ghost use Rattle.patterns.specs.{Arena.list_in, Arena.pattern_in, Pattern.patterns_of, Pattern.IsCovered, Pattern.IsLawful, Pattern.AreLawful};
+ghost use Rattle.certificates.specs.Pattern.{patterns_of, IsCovered, IsLawful, AreLawful};
+ghost use Rattle.patterns.specs.Arena.{list_in, pattern_in};
 ghost use Rattle.closure.specs.Scan.{AreEntries, EntriesCover, IsEntryOf};
 
 use crate::coverage::Coverage;

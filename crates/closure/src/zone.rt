@@ -7,7 +7,7 @@ ghost use Rattle.board.specs.{Board.IsWellFormed, Game.Solvable};
 ghost use Rattle.answers.specs.{Body.ZoneLine, Grammar.said_zone};
 ghost use Rattle.cell_lists.specs.CellLists.{cells_of};
 ghost use Rattle.closure.specs.{declared.fault.ZoneFault.ZoneFault as Fault, FirstFault.IsFirstLeak, FirstFault.IsFirstZoneFault};
-ghost use Rattle.closure.specs.Zone.{count_in as cells_in, Leaks, IsClosedZone, IsZoneOnBoard, IsZoneOffWalls, IsRefuting};
+ghost use Rattle.certificates.specs.Zone.{count_in as cells_in, Leaks, IsClosedZone, IsZoneOnBoard, IsZoneOffWalls, IsRefuting};
 
 use crate::fault::{ZoneFault, ZoneLineWhy};
 use answers::Zone;

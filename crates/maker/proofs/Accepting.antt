@@ -21,9 +21,9 @@ use Rattle.answers.specs.declared.pattern.Coord.{Coord}
 use Rattle.answers.specs.Body.{PatternLine}
 use Rattle.cell_lists.specs.CellLists.{cell_of}
 use Rattle.cell_lists.proofs.CellLists.{of_cells}
-use Rattle.patterns.specs.Pattern.{Pattern, whole_room, pattern_of, patterns_of, Covers, IsCovered, PushesOut, after_push, IsLawful, CoversPushesOf}
-use Rattle.closure.specs.Closed.{Closed}
-use Rattle.patterns.proofs.RegionCells.{room_outside}
+use Rattle.certificates.specs.Pattern.{Pattern, whole_room, pattern_of, patterns_of, Covers, IsCovered, PushesOut, after_push, IsLawful, CoversPushesOf}
+use Rattle.certificates.specs.Closed.{Closed}
+use Rattle.certificates.proofs.RegionCells.{room_outside}
 use Rattle.maker.specs.Dead.{IsRelaxedPush, at_goal, pushed, AreDead}
 use Rattle.maker.specs.Frozen.{IsFrozen, IsLargestFrozen}
 use Rattle.maker.specs.Made.{IsListOf, lone_patterns, IsMadeOfDead, IsMadeOfFrozen, HasDeadBox}

@@ -14,7 +14,7 @@ use Rattle.answers.specs.Grammar.{IsZone}
 use Rattle.answers.specs.Body.{ZoneLine}
 use Rattle.cell_lists.specs.CellLists.{cells_of}
 use Rattle.cell_lists.proofs.Sets.{has_intersection}
-use Rattle.closure.specs.Zone.{IsRefuting}
+use Rattle.certificates.specs.Zone.{IsRefuting}
 use Rattle.maker.specs.Zones.{IsLeastZone}
 use Rattle.maker.specs.Made.{IsListOf, IsLeastZoneLine}
 use Rattle.maker.proofs.Listing.{is_cell_list}

@@ -16,7 +16,7 @@ use Rattle.board.specs.Game.{Level, IsFloor}
 use Rattle.board.specs.Board.{IsWellFormed}
 use Rattle.cell_lists.proofs.Counts.{len-within}
 use Rattle.cell_lists.proofs.Sets.{has_intersection, in_intersection}
-use Rattle.closure.specs.Zone.{count_in, IsRefuting}
+use Rattle.certificates.specs.Zone.{count_in, IsRefuting}
 use Rattle.maker.specs.Zones.{IsCrowded, IsLeastZone}
 use Rattle.maker.proofs.Pairings.{count_within}
 

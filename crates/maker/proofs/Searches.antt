@@ -18,7 +18,7 @@ use Rattle.cellset.specs.declared.dir.Dir.{Dir}
 use Rattle.cellset.proofs.Members.{has_or_lacks, not_both, inserted, kept_by_insert, has_insert, has_empty, lacks_where}
 use Rattle.cellset.proofs.ReadingOrder.{len_on_grid}
 use Rattle.cell_lists.proofs.Counts.{len-insert_new}
-use Rattle.closure.specs.Zone.{IsClosedZone}
+use Rattle.certificates.specs.Zone.{IsClosedZone}
 use Rattle.board.specs.Game.{Level, IsFloor}
 use Rattle.maker.specs.Dead.{IsRelaxedPush}
 use Rattle.maker.specs.Matching.{ConfinesPaths, IsHallViolator}

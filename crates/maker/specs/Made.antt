@@ -19,9 +19,9 @@ use Rattle.answers.specs.Grammar.{AreInOrder, IsPattern, most_patterns, said_pat
 use Rattle.answers.specs.RoundTrip.{IsLawfulBody}
 use Rattle.answers.specs.Body.{PatternLine, ZoneLine}
 use Rattle.cell_lists.specs.CellLists.{cells_of}
-use Rattle.patterns.specs.Pattern.{patterns_of}
-use Rattle.closure.specs.Closed.{Closed}
-use Rattle.closure.specs.Zone.{IsRefuting}
+use Rattle.certificates.specs.Pattern.{patterns_of}
+use Rattle.certificates.specs.Closed.{Closed}
+use Rattle.certificates.specs.Zone.{IsRefuting}
 use Rattle.board.specs.Board.{IsWellFormed}
 use Rattle.maker.specs.Dead.{IsDead, AreDead}
 use Rattle.maker.specs.Frozen.{IsLargestFrozen}

@@ -9,7 +9,7 @@ use Rattle.std.specs.Prelude.{◌≡◌}
 use Rattle.cellset.specs.CellSet.{Cells, Has}
 use Rattle.cellset.specs.declared.cell.Cell.{Cell}
 use Rattle.board.specs.Game.{Level, IsFloor}
-use Rattle.closure.specs.Zone.{IsClosedZone}
+use Rattle.certificates.specs.Zone.{IsClosedZone}
 
 -- cell c is in the reach of a box at b: every closed set that holds b holds c
 abbrev pub InReach : Level → Cell → Cell → Type 0

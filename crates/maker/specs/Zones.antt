@@ -11,7 +11,7 @@ use Rattle.cellset.specs.CellSet.{Cells, Has}
 use Rattle.cellset.specs.declared.cell.Cell.{Cell}
 use Rattle.board.specs.Game.{Level}
 use Rattle.board.specs.Board.{IsWellFormed}
-use Rattle.closure.specs.Zone.{count_in, IsClosedZone, IsRefuting}
+use Rattle.certificates.specs.Zone.{count_in, IsClosedZone, IsRefuting}
 
 -- the set has k boxes of the start, and with each of them every box that comes before it
 pub record AreFirstBoxes (level : Level) (k : ℕ) (first : Cells) : Type 0 where

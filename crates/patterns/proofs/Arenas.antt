@@ -6,7 +6,8 @@ use Rattle.std.specs.FinSet as set
 use Rattle.std.proofs.lemmas.List.{get_or_default}
 use Rattle.cellset.specs.declared.cell.Cell.{Cell}
 use Rattle.cell_lists.specs.CellLists.{cell_of, cells_of, cells_in}
-use Rattle.patterns.specs.{Pattern.pattern_of, declared.arena.Arena.Arena}
+use Rattle.certificates.specs.Pattern.{pattern_of}
+use Rattle.patterns.specs.declared.arena.Arena.{Arena}
 use Rattle.patterns.specs.Arena.{boxes_at, coord_of, line_at, line_in, lines_in, list_in, pattern_at}
 
 -- Cells are the cells of their coordinates.

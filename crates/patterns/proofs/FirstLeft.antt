@@ -5,7 +5,7 @@ use Rattle.std.{specs.Prelude.◌⊎◌, specs.Prelude.◌↔◌, specs.Prelude.
 use Rattle.cellset.{specs.CellSet.Cells, specs.CellSet.Has, specs.declared.cell.Cell.Cell, proofs.Truth.either}
 use Rattle.reach.specs.{Pushes.PushBefore, declared.pushes.Push.Push}
 use Rattle.board.specs.Game.{Level}
-use Rattle.patterns.specs.Pattern.{Pattern, CoversPushesOf, InPatternRegion, IsCovered, IsFirstUncovered, PushesOut, after_push}
+use Rattle.certificates.specs.Pattern.{Pattern, CoversPushesOf, InPatternRegion, IsCovered, IsFirstUncovered, PushesOut, after_push}
 use Rattle.patterns.specs.{Arena.pattern_at, Groups.IsGrouped, Groups.list_of, Groups.position_at, Lookups.IsRest, Run.state_after, declared.groups.Groups.Groups}
 use Rattle.patterns.proofs.{Grouped.line_boxes, GroupPushes.out_of_group}
 

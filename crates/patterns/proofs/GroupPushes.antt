@@ -13,11 +13,12 @@ use Rattle.board.specs.Game.{Level, moved}
 use Rattle.cell_lists.specs.CellLists.{cell_no, cells_in}
 use Rattle.cell_lists.proofs.CellLists.{in_list, no_cell}
 use Rattle.cellset.proofs.CellLists.{has_listed}
-use Rattle.patterns.specs.Pattern.{Pattern, InPatternRegion, IsCovered, PushesOut, after_push, CoversPushesOf}
+use Rattle.certificates.specs.Pattern.{Pattern, InPatternRegion, IsCovered, PushesOut, after_push, CoversPushesOf}
 use Rattle.patterns.specs.{Arena.pattern_at, Run.state_after, declared.groups.Groups.Groups, declared.pushes.PushedBox.PushedBox}
 use Rattle.patterns.specs.{declared.tables.Tables.Tables, Groups.IsGrouped, Groups.boxes_of, Groups.list_of, Groups.position_at, Tables.AreTables}
 use Rattle.patterns.specs.GroupPushes.{AreNoted, CoversFrom, CoversToward, HasNoPush, IsPushAt, IsPushedBox, IsStepBack, pushed_cell}
-use Rattle.patterns.proofs.{Arenas.list_long, RegionCells.region_on}
+use Rattle.certificates.proofs.RegionCells.{region_on}
+use Rattle.patterns.proofs.Arenas.{list_long}
 use Rattle.patterns.proofs.Grouped.{box_floor, boxes_on, covered_of_group, group_in_room, line_boxes, of_line}
 use Rattle.patterns.proofs.Traps.{onto_trap, trapped_push}
 

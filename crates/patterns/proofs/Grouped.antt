@@ -13,11 +13,12 @@ use Rattle.reach.specs.Region as region
 use Rattle.board.specs.{Game.Level, Game.State, Game.IsFloor, Board.IsWellFormed}
 use Rattle.cell_lists.specs.CellLists.{cells_in}
 use Rattle.cell_lists.proofs.Sets.{has_difference, has_union, in_difference, in_union_left, in_union_right}
-use Rattle.patterns.specs.Pattern.{Pattern, Seeds, whole_room, listed, seed_cells, Covers, InPatternRegion, IsCovered}
-use Rattle.patterns.specs.{Pattern.IsLawful, Pattern.AreLawful, Pattern.IsListedSeed, Arena.pattern_at, declared.groups.Groups.Groups}
+use Rattle.certificates.specs.Pattern.{Pattern, Seeds, whole_room, listed, seed_cells, Covers, InPatternRegion, IsCovered}
+use Rattle.certificates.specs.Pattern.{IsLawful, AreLawful, IsListedSeed}
+use Rattle.patterns.specs.{Arena.pattern_at, declared.groups.Groups.Groups}
 use Rattle.patterns.specs.Groups.{HasLine, IsGrouped, IsSeed, IsSeedOf, SeedsAreIn, boxes_of, list_of, position_at, seeds_with}
 use Rattle.patterns.{specs.Tables.GroupCovers, proofs.Arenas.boxes_is, proofs.Arenas.list_long, proofs.Arenas.listed_at}
-use Rattle.patterns.proofs.RegionCells.{region_lacks}
+use Rattle.certificates.proofs.RegionCells.{region_lacks}
 
 -- ---- seeds
 -- The seeds of a group are the seeds of the patterns with its number.

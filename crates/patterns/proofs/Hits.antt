@@ -7,7 +7,8 @@ use Rattle.cellset.specs.{Cell.IsOn, Cell.neighbor, Cell.opposite, CellSet.Cells
 use Rattle.cellset.proofs.{Members.has_or_lacks, Members.not_both, Neighbors.neighbor_back}
 use Rattle.reach.specs.Region.{IsFree, beside}
 use Rattle.board.specs.{Game.Level, Board.IsWellFormed}
-use Rattle.patterns.{specs.Pattern.Pattern, specs.Pattern.InPatternRegion, specs.Hits.AreHits, specs.declared.tree.Hit.Hit, proofs.Turns.through}
+use Rattle.certificates.specs.Pattern.{Pattern, InPatternRegion}
+use Rattle.patterns.{specs.Hits.AreHits, specs.declared.tree.Hit.Hit, proofs.Turns.through}
 use Rattle.patterns.proofs.Lists.{old_item, new_item, length_more}
 
 pub step_decides : (level : Level) (pattern : Pattern) (c : Cell) (d : Dir) → IsFree level.shape level.walls pattern.boxes c →

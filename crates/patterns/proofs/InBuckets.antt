@@ -6,7 +6,8 @@ use Rattle.cellset.{specs.SortedList.index, specs.CellSet.Has, specs.declared.ce
 use Rattle.board.specs.{Game.Level, Game.State, Board.IsWellFormed}
 use Rattle.cell_lists.specs.CellLists.{cells_in}
 use Rattle.cellset.proofs.CellLists.{has_listed}
-use Rattle.patterns.specs.{Pattern.IsCovered, Pattern.AreLawful, Buckets.IsInBucket, Chains.AreChains, Chains.IsLast}
+use Rattle.certificates.specs.Pattern.{IsCovered, AreLawful}
+use Rattle.patterns.specs.{Buckets.IsInBucket, Chains.AreChains, Chains.IsLast}
 use Rattle.patterns.specs.{Groups.IsGrouped, Groups.boxes_of, Groups.list_of, Tables.GroupCovers, Tables.AreTables, declared.groups.Groups.Groups}
 use Rattle.patterns.specs.declared.tables.Tables.{Tables}
 use Rattle.patterns.proofs.{Grouped.box_on, Grouped.covered_by_group, Grouped.group_in_room, Grouped.some_box}

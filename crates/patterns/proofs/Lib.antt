@@ -7,6 +7,7 @@ pub mod Grouping
 pub mod Spanning
 pub mod Spans
 pub mod Hits
+pub mod ListedRegions
 pub mod Lists
 pub mod InBuckets
 pub mod Searches
@@ -15,7 +16,6 @@ pub mod Moves
 pub mod Numbered
 pub mod OpenPushes
 pub mod Pieces
-pub mod RegionCells
 pub mod Taken
 pub mod Traps
 pub mod Turns

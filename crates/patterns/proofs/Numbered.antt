@@ -2,7 +2,7 @@
 use Rattle.std.proofs.Common.{ℕ, ◌+◌, ◌≤◌, ◌<◌, List, length, get_or, ◌∙◌, subst, arith}
 use Rattle.std.{specs.List.Contains, proofs.lemmas.Bool.cases_lt}
 use Rattle.std.proofs.lemmas.List.{get_or_default}
-use Rattle.patterns.specs.Pattern.{Pattern}
+use Rattle.certificates.specs.Pattern.{Pattern}
 
 -- What holds of each pattern by its number holds of each pattern of the list.
 pub each_pattern : (P : Pattern → Type 0) (patterns : List Pattern) (n : ℕ) (d : Pattern) → length patterns ≤ n → ((j : ℕ) → j < n → P (get_or patterns j d))

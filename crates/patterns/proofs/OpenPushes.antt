@@ -11,7 +11,7 @@ use Rattle.reach.specs.declared.pushes.Push.{Push}
 use Rattle.board.specs.Game.{Level}
 use Rattle.cell_lists.specs.CellLists.{cell_no, cells_in}
 use Rattle.cell_lists.proofs.CellLists.{in_list, no_cell}
-use Rattle.patterns.specs.Pattern.{Pattern, InPatternRegion, CoversPushesOf}
+use Rattle.certificates.specs.Pattern.{Pattern, InPatternRegion, CoversPushesOf}
 use Rattle.patterns.specs.{Sides.IsAround, Run.state_after, Trap.AreOff, Tables.GroupCovers, Place.IsSubset, Piece.AreInPiece}
 use Rattle.patterns.specs.{declared.groups.Groups.Groups, declared.sides.Sides.Sides, declared.task.Task.Task, Groups.boxes_of, Groups.list_of, Groups.position_at}
 use Rattle.patterns.specs.Settling.{IsMet, IsPushOut, IsSettled, IsTask, Misses}

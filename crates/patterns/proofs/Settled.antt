@@ -12,9 +12,10 @@ use Rattle.cellset.specs.{Cell.neighbor, Cell.opposite, CellSet.Cells, CellSet.C
 use Rattle.cellset.proofs.{Members.has_insert, Members.has_or_lacks, Members.has_remove, Members.inserted, Members.kept_by_insert, Members.kept_by_remove, Members.not_both, Neighbors.neighbor_back, Truth.either}
 use Rattle.reach.specs.{Region.IsFree, Region.Joined, Region.at_seed, Region.beside, declared.pushes.Push.Push}
 use Rattle.board.specs.{Game.IsFloor, Game.Level, Game.State, Board.IsWellFormed}
-use Rattle.patterns.specs.Pattern.{Pattern, Covers, InPatternRegion, IsCovered, PushesOut, CoversPushesOf}
+use Rattle.certificates.specs.Pattern.{Pattern, Covers, InPatternRegion, IsCovered, PushesOut, CoversPushesOf}
 use Rattle.patterns.specs.{GroupPushes.IsStepBack, Hits.AreHits, Piece.AreInPiece, Piece.IsFreeOf, Place.AreCoveredAlike, Run.state_after, declared.tree.Hit.Hit}
-use Rattle.patterns.proofs.{Hits.step_decides, Moves.IsWithin, Moves.lacks_within, Moves.moved_beside, Moves.moved_within, Pieces.joined_back, Pieces.joined_free, RegionCells.region_lacks}
+use Rattle.certificates.proofs.RegionCells.{region_lacks}
+use Rattle.patterns.proofs.{Hits.step_decides, Moves.IsWithin, Moves.lacks_within, Moves.moved_beside, Moves.moved_within, Pieces.joined_back, Pieces.joined_free}
 
 -- A push of one of the boxes, which are on floor, to a cell of the floor without one.
 pub record IsMove (level : Level) (boxes : Cells) (push : Push) : Type 0 where

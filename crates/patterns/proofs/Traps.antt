@@ -11,9 +11,10 @@ use Rattle.reach.specs.declared.pushes.Push.{Push}
 use Rattle.board.specs.{Game.Level, Game.State, Game.IsFloor, Game.moved, Game.start, Board.IsWellFormed}
 use Rattle.cell_lists.specs.CellLists.{cells_in}
 use Rattle.cell_lists.proofs.Sets.{other_member, other_where}
-use Rattle.patterns.specs.Pattern.{Pattern, InPatternRegion, IsCovered, PushesOut, after_push}
+use Rattle.certificates.specs.Pattern.{Pattern, InPatternRegion, IsCovered, PushesOut, after_push}
 use Rattle.patterns.specs.Trap.{AreOff, IsTrapOf, single}
-use Rattle.patterns.proofs.{RegionCells.region_on, RegionCells.room_outside, Spanning.other_cell}
+use Rattle.certificates.proofs.RegionCells.{region_on, room_outside}
+use Rattle.patterns.proofs.Spanning.{other_cell}
 
 -- No box is on a trap without cells.
 pub none_off : (trap : Cells) → trap ≡ set.empty → (boxes : List Cell) → AreOff trap boxes

@@ -4,7 +4,8 @@ use Rattle.std.specs.Prelude.{◌≡◌, ◌↔◌, ℕ, ◌+◌, ◌<◌, false
 use Rattle.cellset.specs.{CellSet.Cells, CellSet.Has, CellSet.Lacks, declared.cell.Cell.Cell}
 use Rattle.board.specs.Game.{Level}
 use Rattle.cell_lists.specs.CellLists.{cell_no, cells_in}
-use Rattle.patterns.specs.{Pattern.InPatternRegion, Sides.IsAround, Trap.AreOff, declared.group_regions.Region.Region}
+use Rattle.certificates.specs.Pattern.{InPatternRegion}
+use Rattle.patterns.specs.{Sides.IsAround, Trap.AreOff, declared.group_regions.Region.Region}
 use Rattle.patterns.specs.{declared.group_regions.Regions.Regions, declared.groups.Groups.Groups, Spans.span_at, declared.sides.Sides.Sides}
 use Rattle.patterns.specs.Groups.{boxes_of, position_at}
 

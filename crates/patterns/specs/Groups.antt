@@ -4,7 +4,8 @@ use Rattle.std.specs.FinSet as set
 use Rattle.cellset.specs.{CellSet.Cells, CellSet.Has, declared.cell.Cell.Cell}
 use Rattle.board.specs.Game.{Level}
 use Rattle.cell_lists.specs.CellLists.{cells_in}
-use Rattle.patterns.specs.{Pattern.Pattern, Pattern.Seeds, Pattern.whole_room, Pattern.listed, Pattern.seed_cells, Chains.AreChains}
+use Rattle.certificates.specs.Pattern.{Pattern, Seeds, whole_room, listed, seed_cells}
+use Rattle.patterns.specs.Chains.{AreChains}
 use Rattle.patterns.specs.{declared.group_regions.Region.Region, declared.groups.Groups.Groups, Arena.boxes_at, Arena.line_at, Arena.list_in, Arena.pattern_at}
 use Rattle.patterns.specs.{Spans.AreSpans, Spans.part, Spans.span_at, declared.arena.Arena.Arena, declared.arena.Span.Span}
 

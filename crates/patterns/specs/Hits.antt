@@ -2,7 +2,8 @@
 use Rattle.std.specs.Prelude.{◌↔◌, ℕ, ◌<◌, List, length, slice_index_or}
 use Rattle.cellset.specs.{Cell.neighbor, CellSet.Cells, CellSet.Has, CellSet.Lacks, declared.cell.Cell.Cell}
 use Rattle.board.specs.Game.{Level}
-use Rattle.patterns.specs.{Pattern.Pattern, Pattern.InPatternRegion, declared.tree.Hit.Hit}
+use Rattle.certificates.specs.Pattern.{Pattern, InPatternRegion}
+use Rattle.patterns.specs.declared.tree.Hit.{Hit}
 
 -- the hits decide for a pattern whether the player is in its region: if a hit is one of its boxes, the player is in the region exactly if
 -- the cell on that side of the first such box is; if no hit is, exactly if the last cell is

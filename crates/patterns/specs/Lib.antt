@@ -1,4 +1,3 @@
-pub mod Pattern
 pub mod Arena
 pub mod Around
 pub mod Chains
@@ -27,3 +26,4 @@ pub use Rattle.board.specs.Board
 pub use Rattle.answers.specs.Body
 pub use Rattle.answers.specs.Grammar
 pub use Rattle.cell_lists.specs.CellLists
+pub use Rattle.certificates.specs.Pattern

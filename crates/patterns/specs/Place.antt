@@ -3,7 +3,8 @@ use Rattle.std.specs.Prelude.{◌≡◌, ℕ, ◌<◌, length}
 use Rattle.cellset.specs.{CellSet.Cells, CellSet.Has, declared.cell.Cell.Cell}
 use Rattle.board.specs.Game.{Level, State}
 use Rattle.cell_lists.specs.CellLists.{cells_in}
-use Rattle.patterns.specs.{Pattern.Covers, Pattern.Pattern, Groups.boxes_of, declared.groups.Groups.Groups, Hits.AreHits, declared.place.Place.Place}
+use Rattle.certificates.specs.Pattern.{Covers, Pattern}
+use Rattle.patterns.specs.{Groups.boxes_of, declared.groups.Groups.Groups, Hits.AreHits, declared.place.Place.Place}
 
 -- a group whose boxes are among these
 pub record IsSubset (groups : Groups) (boxes : Cells) (g : ℕ) : Type 0 where

@@ -4,7 +4,7 @@ use Rattle.std.specs.List.{Contains}
 use Rattle.cellset.specs.{Cell.opposite, CellSet.Cells, CellSet.Has, CellSet.Lacks, declared.cell.Cell.Cell}
 use Rattle.reach.specs.declared.pushes.Push.{Push}
 use Rattle.cell_lists.specs.CellLists.{cell_no, cells_in}
-use Rattle.patterns.specs.Pattern.{IsCovered, PushesOut}
+use Rattle.certificates.specs.Pattern.{IsCovered, PushesOut}
 use Rattle.patterns.specs.{Run.state_after, Sides.toward, Trap.AreOff, Tables.AreTables, Tables.GroupCovers, GroupPushes.AreNoted}
 use Rattle.patterns.specs.{Place.IsPlace, Place.IsSubset, Search.IsPassed, Search.IsSearch, declared.buckets.Buckets.Buckets, declared.place.Place.Place}
 use Rattle.patterns.specs.{declared.task.Task.Task, declared.unsettled.Ahead.Ahead, declared.unsettled.Unsettled.Unsettled}

@@ -2,7 +2,8 @@
 use Rattle.std.specs.Prelude.{◌≡◌, ℕ, ◌<◌, IsTrue, length}
 use Rattle.std.specs.FinSet as set
 use Rattle.board.specs.{Board.IsWellFormed, Game.Level, Game.State}
-use Rattle.patterns.specs.{Pattern.Covers, Pattern.AreLawful, Trap.IsTrapOf, declared.tables.Tables.Tables}
+use Rattle.certificates.specs.Pattern.{Covers, AreLawful}
+use Rattle.patterns.specs.{Trap.IsTrapOf, declared.tables.Tables.Tables}
 use Rattle.patterns.specs.{declared.groups.Groups.Groups, GroupRegions.AreRegions, Groups.IsGrouped, Groups.list_of, Groups.position_at}
 
 pub record AreTables {S : Type 0} (tables : Tables S) : Type 0 where

@@ -7,7 +7,7 @@ use Rattle.cellset.specs.{CellSet.Cells, CellSet.CellsOn, CellSet.Has, CellSet.L
 use Rattle.reach.specs.Reached.{IsClosedUnder, PushesTo}
 use Rattle.board.specs.Game.{Level}
 use Rattle.cell_lists.specs.CellLists.{cells_in}
-use Rattle.patterns.specs.Pattern.{Pattern, whole_room}
+use Rattle.certificates.specs.Pattern.{Pattern, whole_room}
 
 -- one box on the cell, with `*`
 abbrev pub single : Cell → Pattern

@@ -47,7 +47,7 @@ const FIRST_LINES: usize = 64;
 
 impl Arena {
     ghost use Rattle.answers.specs.Grammar.{said_pattern};
-    ghost use Rattle.patterns.specs.Pattern.{pattern_of, patterns_of};
+    ghost use Rattle.certificates.specs.Pattern.{pattern_of, patterns_of};
     ghost use Rattle.patterns.specs.Arena.{AreOnGrid, IsOffGrid, IsOnGrid, IsStored, boxes_at, line_at, lines_in, list_in, pattern_at, pattern_in, stored_pattern};
 
     /// Returns an arena without lines.

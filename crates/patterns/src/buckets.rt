@@ -2,7 +2,8 @@
 ghost use Rattle.std.specs.Prelude.{◌≡◌, ◌*◌, ◌<◌, IfOk, length};
 ghost use Rattle.cellset.specs.{CellSet.Has, Cell.IsOn, SortedList.index, declared.cell.Cell.Cell as GridCell};
 ghost use Rattle.cell_lists.specs.CellLists.{cells_in};
-ghost use Rattle.patterns.specs.{Pattern.AreLawful, Buckets.AreBuckets, Groups.IsGrouped, Groups.list_of};
+ghost use Rattle.certificates.specs.Pattern.{AreLawful};
+ghost use Rattle.patterns.specs.{Buckets.AreBuckets, Groups.IsGrouped, Groups.list_of};
 
 use crate::arena::to_u32;
 use crate::chains::{Chains, chain};

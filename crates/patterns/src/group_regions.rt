@@ -6,10 +6,12 @@ ghost use Rattle.std.specs.Prelude.{◌≡◌, ◌+◌, ◌<◌, ◌≤◌, ◌�
 ghost use Rattle.std.specs.FinSet as set;
 ghost use Rattle.cellset.specs.{Cell.IsOn, CellSet.Has, CellSet.Lacks, declared.cell.Cell.Cell as GridCell};
 ghost use Rattle.cell_lists.specs.CellLists.{cell_no, cells_in};
-ghost use Rattle.patterns.specs.{Pattern.AreLawful, Around.AreSidesJoined, Around.IsFlooded, Around.IsOnePiece, GroupRegions.AreRegions, GroupRegions.no_sides};
+ghost use Rattle.certificates.specs.Pattern.{AreLawful};
+ghost use Rattle.patterns.specs.{Around.AreSidesJoined, Around.IsFlooded, Around.IsOnePiece, GroupRegions.AreRegions, GroupRegions.no_sides};
 ghost use Rattle.reach.specs.Region.{Joined};
 ghost use Rattle.board.specs.{Board.IsWellFormed, Game.Level};
-ghost use Rattle.patterns.specs.{Arena.pattern_in, Pattern.InPatternRegion, Pattern.IsLawful, Piece.InPiece, Piece.IsFreeOf};
+ghost use Rattle.certificates.specs.Pattern.{InPatternRegion, IsLawful};
+ghost use Rattle.patterns.specs.{Arena.pattern_in, Piece.InPiece, Piece.IsFreeOf};
 ghost use Rattle.patterns.specs.Groups.{HasSeedsFrom, HasSeedsOnly, HasStar, IsGrouped, list_of};
 ghost use Rattle.patterns.specs.Sides.{IsAround};
 

@@ -1,8 +1,8 @@
 //! Which states a list of patterns covers.
 //!
 //! A pattern is a set of boxes, with seeds that say where the player may be. It covers a state if the state has all its boxes and the player
-//! is in the region of the seeds. Read `specs/Pattern.antt` for patterns, regions, pushes out and lawful patterns. The crate `closure` checks
-//! lists by these parts, from the lines of a list up:
+//! is in the region of the seeds. The crate `certificates` has the definitions. The crate `closure` checks lists by these parts, from the
+//! lines of a list up:
 //!
 //! - **Lines**: each becomes cells in one arena (`arena`; the crate `cell_lists` has the loops over lists of cells).
 //! - **Trap**: the cells of the lines of one box with `*` may be a trap, which no box leaves (`trap`). The list covers each state with a box

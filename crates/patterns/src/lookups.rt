@@ -2,7 +2,8 @@
 ghost use Rattle.std.specs.Prelude.{◌≡◌, ◌<◌, ◌↔◌, ℕ, IfOk, IsTrue, MatchBool, OnOk, length, slice_index};
 ghost use Rattle.std.specs.FinSet as finset;
 ghost use Rattle.cellset.specs.{Cell.IsOn, SortedList.index};
-ghost use Rattle.patterns.specs.{Pattern.Covers, Pattern.IsCovered, Groups.list_of, Groups.position_at};
+ghost use Rattle.certificates.specs.Pattern.{Covers, IsCovered};
+ghost use Rattle.patterns.specs.Groups.{list_of, position_at};
 ghost use Rattle.patterns.specs.Lookups.{AreLookups};
 ghost use Rattle.patterns.specs.{Tables.AreTables, Tables.GroupCovers, Place.state_at};
 

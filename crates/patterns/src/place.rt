@@ -5,7 +5,8 @@
 ghost use Rattle.std.specs.Prelude.{◌<◌, ◌≤◌, ◌↔◌, IsTrue, length, vec_capacity};
 ghost use Rattle.cellset.specs.CellSet.{Has, Lacks};
 ghost use Rattle.cell_lists.specs.CellLists.{cells_in};
-ghost use Rattle.patterns.specs.{Pattern.InPatternRegion, Groups.boxes_of, Groups.position_at};
+ghost use Rattle.certificates.specs.Pattern.{InPatternRegion};
+ghost use Rattle.patterns.specs.Groups.{boxes_of, position_at};
 ghost use Rattle.patterns.specs.{Hits.AreHits, Place.IsPlace, Place.IsSubset, SpanningTree.IsTree, Tables.AreTables, Trap.AreOff};
 
 use crate::tables::Tables;

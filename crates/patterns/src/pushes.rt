@@ -7,7 +7,8 @@ ghost use Rattle.cellset.specs.{CellSet.Has, CellSet.Lacks, declared.cell.Cell.C
 ghost use Rattle.reach.specs.Region.{IsFree};
 ghost use Rattle.board.specs.Game.{moved};
 ghost use Rattle.cell_lists.specs.CellLists.{cell_no, cells_in};
-ghost use Rattle.patterns.specs.{Pattern.IsCovered, Pattern.CoversPushesOf, Run.state_after, Groups.list_of, Groups.position_at};
+ghost use Rattle.certificates.specs.Pattern.{IsCovered, CoversPushesOf};
+ghost use Rattle.patterns.specs.{Run.state_after, Groups.list_of, Groups.position_at};
 ghost use Rattle.patterns.specs.GroupPushes.{AreNoted, CoversFrom, CoversToward, HasNoPush, IsPushAt, IsPushedBox, IsStepBack, pushed_cell};
 ghost use Rattle.patterns.specs.{Tables.AreTables, Trap.AreOff};
 

@@ -6,7 +6,8 @@ ghost use Rattle.std.specs.Prelude.{◌≡◌, IsTrue, IfOk, MatchBool, OnOk};
 ghost use Rattle.std.specs.FinSet as finset;
 ghost use Rattle.cellset.specs.{CellSet.Has, declared.cell.Cell.Cell as GridCell};
 ghost use Rattle.cell_lists.specs.CellLists.{cells_in};
-ghost use Rattle.patterns.specs.{Pattern.AreLawful, Arena.AreOnGrid, Arena.list_in};
+ghost use Rattle.certificates.specs.Pattern.{AreLawful};
+ghost use Rattle.patterns.specs.Arena.{AreOnGrid, list_in};
 ghost use Rattle.patterns.specs.Trap.{AreOff, AreSinglesIn, AreTrapped, IsTrapOf};
 
 use crate::arena::Arena;

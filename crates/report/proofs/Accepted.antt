@@ -20,7 +20,7 @@ use Rattle.answers.specs.declared.pattern.Pattern.{Pattern as MadePattern}
 use Rattle.answers.specs.declared.record.MadeBody.{MadeBody}
 use Rattle.answers.specs.declared.record.MadeRecord.{MadeRecord}
 use Rattle.closure.specs.FirstFault.{ClosedHasNoFault, RefutingHasNoFault}
-use Rattle.patterns.specs.Pattern.{Pattern, patterns_of, pattern_of}
+use Rattle.certificates.specs.Pattern.{Pattern, patterns_of, pattern_of}
 use Rattle.maker.specs.Made.{IsAcceptedMade, body_of}
 use Rattle.maker.specs.declared.making.Made.{Made}
 use Rattle.maker.specs.declared.making.Made.TheVariants.{Patterns, Zone}

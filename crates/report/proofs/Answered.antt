@@ -20,10 +20,10 @@ use Rattle.answers.specs.Records.{SaysOfLevel}
 use Rattle.answers.specs.declared.record_text.RecordText.{RecordText}
 use Rattle.answers.proofs.BodyLines.{body_says, says_one_body}
 use Rattle.cell_lists.specs.CellLists.{cells_of}
-use Rattle.closure.specs.Closed.{Closed}
+use Rattle.certificates.specs.Closed.{Closed}
 use Rattle.closure.specs.FirstFault.{IsFirstPatternFault, IsFirstZoneFault}
-use Rattle.patterns.specs.Pattern.{patterns_of}
-use Rattle.closure.specs.Zone.{IsRefuting}
+use Rattle.certificates.specs.Pattern.{patterns_of}
+use Rattle.certificates.specs.Zone.{IsRefuting}
 use Rattle.closure.specs.declared.fault.CheckFault.{CheckFault}
 use Rattle.closure.specs.declared.fault.ZoneFault.{ZoneFault}
 use Rattle.report.specs.Judging.{SaysBy, said_answer}

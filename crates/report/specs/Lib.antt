@@ -27,8 +27,8 @@ pub use Rattle.answers.specs.Body
 pub use Rattle.answers.specs.Grammar
 pub use Rattle.answers.specs.RoundTrip
 pub use Rattle.cell_lists.specs.CellLists
-pub use Rattle.closure.specs.Closed
-pub use Rattle.patterns.specs.Pattern
-pub use Rattle.closure.specs.Zone
+pub use Rattle.certificates.specs.Closed
+pub use Rattle.certificates.specs.Pattern
+pub use Rattle.certificates.specs.Zone
 pub use Rattle.maker.specs.Dead
 pub use Rattle.maker.specs.Made

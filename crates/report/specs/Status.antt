@@ -15,9 +15,9 @@ use Rattle.play.specs.declared.fault.ReplayFault.{ReplayFault}
 use Rattle.answers.specs.Body.{Body, LetterLines, PatternLines, OneZone, FirstBad, PatternLine, ZoneLine}
 use Rattle.answers.specs.declared.record.BadLineWhy.{BadLineWhy}
 use Rattle.cell_lists.specs.CellLists.{cells_of}
-use Rattle.patterns.specs.Pattern.{patterns_of}
-use Rattle.closure.specs.Closed.{Closed}
-use Rattle.closure.specs.Zone.{IsRefuting}
+use Rattle.certificates.specs.Pattern.{patterns_of}
+use Rattle.certificates.specs.Closed.{Closed}
+use Rattle.certificates.specs.Zone.{IsRefuting}
 use Rattle.closure.specs.FirstFault.{IsFirstPatternFault, IsFirstZoneFault}
 use Rattle.closure.specs.declared.fault.CheckFault.{CheckFault}
 use Rattle.closure.specs.declared.fault.ZoneFault.{ZoneFault}

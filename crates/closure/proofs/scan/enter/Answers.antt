@@ -6,7 +6,8 @@ use Rattle.cellset.proofs.Truth.{either}
 use Rattle.cell_lists.specs.CellLists.{cells_in}
 use Rattle.cell_lists.proofs.CellLists.{in_list}
 use Rattle.patterns.specs.{Arena.pattern_in, Piece.IsFreeOf}
-use Rattle.patterns.proofs.{Pieces.room_is_one, RegionCells.region_outside}
+use Rattle.certificates.proofs.RegionCells.{region_outside}
+use Rattle.patterns.proofs.Pieces.{room_is_one}
 use Rattle.closure.proofs.scan.enter.Goals as goal
 use Rattle.closure.proofs.scan.enter.Goals.{then-find_line, else-find_line+in_ok-to_set}
 

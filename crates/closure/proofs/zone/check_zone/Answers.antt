@@ -1,7 +1,8 @@
 use Rattle.std.{proofs.Common.◌≡◌, specs.FinSet.len}
 use Rattle.answers.specs.Grammar.{said_zone}
 use Rattle.cell_lists.specs.CellLists.{cells_of}
-use Rattle.closure.{specs.Zone.IsRefuting, specs.FirstFault.IsFirstZoneFault, proofs.ZoneCounts.refuting_unsolvable}
+use Rattle.certificates.specs.Zone.{IsRefuting}
+use Rattle.closure.{specs.FirstFault.IsFirstZoneFault, proofs.ZoneCounts.refuting_unsolvable}
 use Rattle.closure.{specs.declared.fault.ZoneFault.TheVariants.Memory, proofs.FirstLines.first_unless, proofs.FirstLines.where_ok}
 use Rattle.closure.proofs.OneFault.{one_zone_fault, refuting_no_fault, zone_memory_or}
 use Rattle.closure.proofs.zone.check_zone.Goals as goal

@@ -1,6 +1,6 @@
 use Rattle.std.{proofs.Common.◌++◌, specs.List.Contains}
 use Rattle.cellset.specs.{Members.AreMembersOf, declared.cell.Cell.Cell, declared.dir.Dir.Dir}
-use Rattle.closure.specs.Zone.{Leaks}
+use Rattle.certificates.specs.Zone.{Leaks}
 use Rattle.closure.proofs.zone.first_leak.Given as goal
 
 abbrev pub invariant-loop-cell : goal.invariant-loop-cell

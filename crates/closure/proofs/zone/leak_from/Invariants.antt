@@ -1,6 +1,6 @@
 use Rattle.std.proofs.Common.{◌<◌}
 use Rattle.reach.specs.Pushes.{dir_rank}
-use Rattle.closure.specs.Zone.{Leaks}
+use Rattle.certificates.specs.Zone.{Leaks}
 use Rattle.closure.proofs.zone.leak_from.Given as goal
 
 abbrev pub invariant-loop-dir : goal.invariant-loop-dir

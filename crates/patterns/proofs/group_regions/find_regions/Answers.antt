@@ -9,7 +9,8 @@ use Rattle.std.proofs.lemmas.List.{get_or_default}
 use Rattle.cellset.specs.{Cell.neighbor, CellSet.Cells, CellSet.Has, CellSet.Lacks, declared.cell.Cell.Cell}
 use Rattle.cellset.proofs.{Members.not_both, Truth.either}
 use Rattle.cell_lists.specs.CellLists.{cell_no, cells_in}
-use Rattle.patterns.specs.{Pattern.InPatternRegion, Spans.AreSpans, Spans.part, Spans.span_at, Around.IsFlooded}
+use Rattle.certificates.specs.Pattern.{InPatternRegion}
+use Rattle.patterns.specs.{Spans.AreSpans, Spans.part, Spans.span_at, Around.IsFlooded}
 use Rattle.patterns.specs.{GroupRegions.AreSidesAt, GroupRegions.IsRegionAt, Groups.boxes_of, Groups.position_at, Trap.AreOff}
 use Rattle.patterns.{specs.declared.group_regions.Region.Region, specs.declared.arena.Span.Span, proofs.Turns.through}
 use Rattle.patterns.proofs.{Grouped.boxes_on, Grouped.reached_position, Lists.each_more, Lists.length_more, Numbered.one_more, Pieces.room_is_one, Spans.no_span}

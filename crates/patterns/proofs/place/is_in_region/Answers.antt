@@ -7,7 +7,8 @@ use Rattle.std.proofs.lemmas.List.{get_or_default}
 use Rattle.cellset.specs.{Cell.neighbor, declared.dir.Dir.TheVariants.L}
 use Rattle.cell_lists.specs.CellLists.{cell_no}
 use Rattle.cell_lists.proofs.CellLists.{in_list, no_cell}
-use Rattle.patterns.specs.{Pattern.InPatternRegion, Groups.position_at, declared.tree.Hit.Hit}
+use Rattle.certificates.specs.Pattern.{InPatternRegion}
+use Rattle.patterns.specs.{Groups.position_at, declared.tree.Hit.Hit}
 use Rattle.patterns.proofs.Turns.{through}
 use Rattle.patterns.proofs.place.is_in_region.Goals as goal
 

@@ -1,7 +1,8 @@
 use Rattle.std.proofs.Common.{sym, ◌∙◌, ap, subst}
 use Rattle.cellset.specs.Cell.{neighbor, opposite}
 use Rattle.cell_lists.specs.CellLists.{cell_no, cells_in}
-use Rattle.patterns.{specs.Pattern.InPatternRegion, specs.Groups.position_at, proofs.GroupPushes.covers_result}
+use Rattle.certificates.specs.Pattern.{InPatternRegion}
+use Rattle.patterns.{specs.Groups.position_at, proofs.GroupPushes.covers_result}
 use Rattle.patterns.proofs.pushes.covers_after.Goals as goal
 
 pub returns-in-Some : goal.returns-in-Some

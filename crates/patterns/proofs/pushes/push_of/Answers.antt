@@ -5,7 +5,8 @@
 use Rattle.std.proofs.{Common.refl, Common.sym, Common.◌∙◌, Common.ap}
 use Rattle.cellset.{specs.Cell.neighbor, specs.Cell.opposite, proofs.Neighbors.neighbor_back}
 use Rattle.patterns.{specs.GroupPushes.pushed_cell, specs.Groups.position_at, proofs.Grouped.group_in_room}
-use Rattle.patterns.proofs.{GroupPushes.pushed_on, GroupPushes.unreached, RegionCells.region_lacks, RegionCells.region_on}
+use Rattle.certificates.proofs.RegionCells.{region_lacks, region_on}
+use Rattle.patterns.proofs.GroupPushes.{pushed_on, unreached}
 use Rattle.patterns.proofs.pushes.push_of.Goals as goal
 use Rattle.patterns.proofs.pushes.push_of.Goals.{else-not-has-2-via-then-not-has-2+else-not-is_free, else-not-has-2-via-else-not-has-2}
 

@@ -6,7 +6,8 @@ use Rattle.std.specs.List.{Contains}
 use Rattle.cellset.{specs.declared.cell.Cell.Cell, proofs.Members.has_empty, proofs.Members.inserted, proofs.Truth.either}
 use Rattle.cell_lists.specs.CellLists.{cell_no}
 use Rattle.cell_lists.proofs.CellLists.{in_list, no_cell}
-use Rattle.patterns.specs.{Arena.list_in, Arena.pattern_at, Arena.pattern_in, Pattern.Pattern, Trap.IsTrapped, Trap.single}
+use Rattle.certificates.specs.Pattern.{Pattern}
+use Rattle.patterns.specs.{Arena.list_in, Arena.pattern_at, Arena.pattern_in, Trap.IsTrapped, Trap.single}
 use Rattle.patterns.specs.declared.arena.CellPattern.{CellPattern}
 use Rattle.patterns.proofs.Arenas.{list_long, listed_at}
 use Rattle.patterns.proofs.Numbered.{each_pattern, one_more}

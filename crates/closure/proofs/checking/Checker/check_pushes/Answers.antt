@@ -6,7 +6,8 @@ use Rattle.std.proofs.Common.{◌≡◌, ℕ, true, false, ◌+◌, ◌<◌, len
 use Rattle.std.{specs.Prelude.slice_index, proofs.lemmas.List.get_or-map, proofs.lemmas.List.length-map}
 use Rattle.std.proofs.lemmas.List.{get_or_default}
 use Rattle.answers.specs.Body.{PatternLine}
-use Rattle.patterns.specs.{Arena.line_at, Arena.line_in, Arena.lines_in, Arena.pattern_at, Pattern.CoversPushesOf, Pattern.Pattern, Groups.list_of, Groups.position_at}
+use Rattle.certificates.specs.Pattern.{CoversPushesOf, Pattern}
+use Rattle.patterns.specs.{Arena.line_at, Arena.line_in, Arena.lines_in, Arena.pattern_at, Groups.list_of, Groups.position_at}
 use Rattle.closure.specs.FirstFault.{HasFirstUncovered}
 use Rattle.patterns.proofs.{Arenas.list_long, GroupPushes.noted_more, GroupPushes.pattern_of_group, GroupPushes.trapped_pushes}
 use Rattle.patterns.proofs.Numbered.{each_pattern, one_more}

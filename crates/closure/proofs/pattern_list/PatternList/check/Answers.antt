@@ -1,8 +1,9 @@
 -- If a line isn't lawful, the list has the first one as its fault, and the check returns it. Otherwise the lines of the arena are the lines
 -- that were added, so what the check of the arena returns is right for them.
 use Rattle.std.{proofs.Common.◌≡◌, proofs.Common.length, proofs.Common.ap, proofs.Common.inl, specs.Prelude.Err}
-use Rattle.patterns.specs.Pattern.{patterns_of}
-use Rattle.closure.specs.{Closed.Closed, FirstFault.IsFirstPatternFault}
+use Rattle.certificates.specs.Pattern.{patterns_of}
+use Rattle.certificates.specs.Closed.{Closed}
+use Rattle.closure.specs.FirstFault.{IsFirstPatternFault}
 use Rattle.closure.specs.declared.fault.CheckFault.TheVariants.{Line, Memory}
 use Rattle.closure.proofs.{Covered.closed_unsolvable, OneFault.one_pattern_fault}
 use Rattle.closure.proofs.FirstLines.{fault_not_closed, first_unless, memory_or, ok_unless, where_ok}

@@ -2,7 +2,8 @@ use Rattle.std.proofs.Common.{◌≡◌, refl, sym, ◌∙◌, ap}
 use Rattle.std.specs.Prelude.{Option, None, Some, List, map, option_map}
 use Rattle.std.proofs.lemmas.List.{get_or_default}
 use Rattle.cellset.specs.declared.cell.Cell.{Cell}
-use Rattle.patterns.specs.{Pattern.listed, Pattern.pattern_of, Pattern.seeds_of, Arena.coord_of, Arena.line_at, Arena.line_in, Arena.seeds_within, Spans.part}
+use Rattle.certificates.specs.Pattern.{listed, pattern_of, seeds_of}
+use Rattle.patterns.specs.{Arena.coord_of, Arena.line_at, Arena.line_in, Arena.seeds_within, Spans.part}
 use Rattle.patterns.{specs.declared.arena.Span.Span, proofs.Arenas.line_pattern, proofs.Arenas.same_cells, proofs.Spans.boxes_within}
 use Rattle.patterns.proofs.arena.Arena.line.Goals as goal
 

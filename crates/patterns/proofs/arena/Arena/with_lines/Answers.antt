@@ -1,7 +1,8 @@
 use Rattle.std.proofs.Common.{Bool, true, false, [], ◌∷◌, ◌++◌, take, sym, ◌∙◌, ap}
 use Rattle.std.{specs.Prelude.MatchBool, specs.Prelude.map, proofs.lemmas.List.map_more, proofs.lemmas.List.take_all}
 use Rattle.answers.specs.Grammar.{said_pattern}
-use Rattle.patterns.{specs.Pattern.pattern_of, proofs.Lists.mapped}
+use Rattle.certificates.specs.Pattern.{pattern_of}
+use Rattle.patterns.proofs.Lists.{mapped}
 use Rattle.patterns.proofs.arena.Arena.with_lines.Goals as goal
 
 -- if there is no pattern off the grid, the lines are those that are added

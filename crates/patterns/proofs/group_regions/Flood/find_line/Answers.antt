@@ -2,7 +2,8 @@
 use Rattle.std.specs.Prelude.{◌↔◌}
 use Rattle.cellset.{specs.CellSet.Has, proofs.Members.has_empty, proofs.Truth.either}
 use Rattle.cell_lists.specs.CellLists.{cells_in}
-use Rattle.patterns.proofs.{RegionCells.line_region, RegionCells.room_outside, Turns.through}
+use Rattle.certificates.proofs.RegionCells.{room_outside}
+use Rattle.patterns.proofs.{ListedRegions.line_region, Turns.through}
 use Rattle.std.proofs.Common.{inr}
 use Rattle.patterns.proofs.group_regions.Flood.find_line.Goals as goal
 

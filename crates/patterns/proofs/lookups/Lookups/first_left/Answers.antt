@@ -2,7 +2,8 @@ use Rattle.std.proofs.Common.{◌∙◌, refl, sym, ap, subst}
 use Rattle.std.specs.Prelude.{◌↔◌, slice_index}
 use Rattle.cellset.specs.{CellSet.Has, declared.cell.Cell.Cell}
 use Rattle.cell_lists.specs.CellLists.{cells_in}
-use Rattle.patterns.specs.{Arena.pattern_at, Groups.boxes_of, Groups.list_of, Pattern.InPatternRegion, Pattern.IsLawful, Piece.IsFreeOf}
+use Rattle.certificates.specs.Pattern.{InPatternRegion, IsLawful}
+use Rattle.patterns.specs.{Arena.pattern_at, Groups.boxes_of, Groups.list_of, Piece.IsFreeOf}
 use Rattle.patterns.proofs.{Arenas.listed_at, FirstLeft.chosen, FirstLeft.first_of, Grouped.line_boxes}
 use Rattle.patterns.proofs.lookups.Lookups.first_left.Goals as goal
 

@@ -2,7 +2,8 @@
 use Rattle.std.proofs.lemmas.Bool.{false≢true}
 use Rattle.cellset.proofs.Members.{not_both}
 use Rattle.patterns.specs.Groups.{position_at}
-use Rattle.patterns.proofs.{Grouped.boxes_on, RegionCells.region_lacks, Traps.none_off}
+use Rattle.certificates.proofs.RegionCells.{region_lacks}
+use Rattle.patterns.proofs.{Grouped.boxes_on, Traps.none_off}
 use Rattle.patterns.proofs.lookups.Lookups.is_covering.Goals as goal
 
 pub are_in-requires : goal.are_in-requires

@@ -4,8 +4,9 @@ use Rattle.std.proofs.Common.{sym, ◌∙◌, subst, inr}
 use Rattle.std.proofs.lemmas.{Bool.false≢true, List.Elements.Contains-push_cases}
 use Rattle.cellset.{specs.Cell.neighbor, specs.Cell.opposite, specs.CellSet.Lacks, proofs.Members.lacks_where, proofs.Truth.either}
 use Rattle.cell_lists.specs.CellLists.{cell_no}
-use Rattle.patterns.specs.Pattern.{InPatternRegion}
-use Rattle.patterns.{specs.Groups.position_at, specs.Settling.IsPushOut, proofs.RegionCells.region_on}
+use Rattle.certificates.specs.Pattern.{InPatternRegion}
+use Rattle.certificates.proofs.RegionCells.{region_on}
+use Rattle.patterns.specs.{Groups.position_at, Settling.IsPushOut}
 use Rattle.patterns.proofs.OpenPushes.{cell_on, goes_out, none_from, onto_trap_settled, to_free, to_is}
 use Rattle.patterns.proofs.unsettled.Unsettled.open_toward.Goals as goal
 

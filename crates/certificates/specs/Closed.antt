@@ -5,7 +5,7 @@
 -- covers has a box off the goals.
 use Rattle.std.specs.{Prelude.List, List.Contains}
 use Rattle.board.specs.{Game.Level, Game.start, Game.Solvable, Board.IsWellFormed}
-use Rattle.patterns.specs.Pattern.{Pattern, AreLawful, CoversPushesOf, IsCovered}
+use Rattle.certificates.specs.Pattern.{Pattern, AreLawful, CoversPushesOf, IsCovered}
 
 -- lawful patterns that cover the start and every push out of them
 pub record Closed (level : Level) (patterns : List Pattern) : Type 0 where

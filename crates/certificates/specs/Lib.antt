@@ -1,0 +1,12 @@
+pub mod Pattern
+pub mod Closed
+pub mod Zone
+pub use Rattle.cellset.specs.Shape
+pub use Rattle.cellset.specs.Cell
+pub use Rattle.cellset.specs.CellSet
+pub use Rattle.reach.specs.Region
+pub use Rattle.reach.specs.Pushes
+pub use Rattle.board.specs.Game
+pub use Rattle.board.specs.Board
+pub use Rattle.answers.specs.Body
+pub use Rattle.cell_lists.specs.CellLists
