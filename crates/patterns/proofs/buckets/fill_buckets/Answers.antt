@@ -2,8 +2,9 @@
 -- box that is doesn't matter to any proof. A group has a box (`listed_some` in `InBuckets.antt`), and its boxes lie on the grid, so their
 -- indexes are within the table (`key_within`). After the loop every group has a key below the length of the table, so the groups can be
 -- chained by their keys.
-use Rattle.std.proofs.Common.{◌<◌, length, slice_index, ap, arith}
-use Rattle.patterns.proofs.{Grouped.boxes_on, InBuckets.key_within, InBuckets.listed_some}
+use Rattle.std.proofs.Common.{◌<◌, ◌+◌, length, slice_index, ◌∙◌, ap, arith}
+use Rattle.cellset.specs.SortedList.{index}
+use Rattle.patterns.proofs.{Grouped.boxes_on, InBuckets.bucket_more, InBuckets.key_within, InBuckets.listed_some, Lists.length_more}
 use Rattle.patterns.proofs.buckets.fill_buckets.Goals as goal
 
 pub rarest_box-requires-clause-some : goal.rarest_box-requires-clause-some
@@ -39,3 +40,14 @@ push_reserved-requires g c =
     let test = c.loop-group-test.true in
     let count = c.len-group-end.ensures in
     omega arith
+
+pub loop-group-preserved : goal.loop-group-preserved
+loop-group-preserved g c =
+    let old = c.loop-group.invariant in
+    let box = c.rarest_box.ensures in
+    record {
+      long = ap (λ l. length l) c.push_reserved.ensures.items ∙ length_more c.loop-group.keys.items _ ∙ ap (λ n. n + 1) old.long;
+      roomy = rw c.push_reserved.ensures.capacity old.roomy;
+      each = bucket_more c.args.board.now c.args.groups.now c.loop-group.keys.items _ c.loop-group.group _ old.long c.push_reserved.ensures.items old.each
+          box.0 (rw (← c.boxes.ensures) box.1) (c.in_ok-to_u32.ensures.value ∙ box.2 ∙ ap (λ e. index e box.0) c.shape-shape.ensures.value);
+    }

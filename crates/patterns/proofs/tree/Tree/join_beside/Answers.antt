@@ -5,7 +5,7 @@
 use Rattle.std.proofs.{Common.set, Common.refl, Common.sym, Common.◌∙◌, Common.ap, Common.subst, Common.arith, lemmas.List.get_or_read}
 use Rattle.std.specs.Vec.{with_item}
 use Rattle.cellset.{specs.Cell.neighbor, specs.SortedList.index, proofs.Members.remove_absent}
-use Rattle.cell_lists.proofs.Counts.{len-remove_member}
+use Rattle.cell_lists.proofs.{Counts.len-remove_member, Sets.removed_lacks}
 use Rattle.patterns.specs.{SpanningTree.IsGrowing, declared.tree.Node.Node, declared.tree.Tree.Tree}
 use Rattle.patterns.proofs.{Spanning.laid_more, Lists.length_more}
 use Rattle.patterns.proofs.tree.Tree.join_beside.Goals as goal
@@ -33,3 +33,9 @@ returns-clause-growing g c =
 
 pub returns-clause-sum : goal.returns-clause-sum
 returns-clause-sum g c = grind (arith, len-remove_member, length_more)
+
+pub returns-clause-beside : goal.returns-clause-beside
+returns-clause-beside g c = λ s room.
+    let is = ap (λ (x : Node). neighbor x.cell c.args.dir)
+    (sym (get_or_read c.args.self.now.nodes.items c.args.from c.index.result.now c.requires.from c.index.ensures s)) ∙ sym c.in-Some.ensures.1 in
+    rw is (rw c.remove.ensures.members (removed_lacks (g.S.CellSet.members c.args.left.now) c.in-Some.cell))
