@@ -66,7 +66,7 @@ def levels_of(export: Export, every: Sequence[Export]) -> Optional[Export]:
     """Returns the levels that a file of answers is for: those of its name, or the only ones that
     lie beside it."""
     is_other = export.stem.lower().endswith(".other")
-    name = (export.stem[:-6] if is_other else export.stem) + ".xsb"
+    name = (export.stem[:-6] if is_other else export.stem) + ".xsb" + "~" * (export.end[-1:] == "~")
     found = [it for it in every if it.name == name]
     if not found:
         beside = [it for it in every if it.end == ".xsb"

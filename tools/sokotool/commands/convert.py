@@ -96,6 +96,9 @@ def read_files(collection: Collection, listed: Sequence[sources.Export]) -> None
     before: Tuple[str, int] = ("", 0)
     waiting = lists.Lists(collection)
     collection.names = sources.published([export.name for export in listed])
+    # Wildcards name backups too, but not without their files.
+    alone = {it.name for it in listed if it.end.endswith("~") and not it.is_found
+             and it.name[:-1] not in collection.names}
     for export in listed:
         try:
             data = export.read()
@@ -104,7 +107,7 @@ def read_files(collection: Collection, listed: Sequence[sources.Export]) -> None
                 raise
             collection.fault(0, str(stop), export.name)
             continue
-        if own_files.is_made(export.name, data):
+        if export.name not in alone and own_files.is_made(export.name, data):
             continue
         if export.end != ".sol":
             collection.end_level()
