@@ -3,7 +3,7 @@ import os
 import unittest.mock
 from typing import Union
 
-from sokotool import auditor, system
+from sokotool import auditor, own_files, system
 from tests.tools import helping
 from tests.tools.helping import TOP, Case, Result
 
@@ -103,8 +103,14 @@ class Auditor(Case):
         self.write("a.txt", LEVELS)
         self.check("mine", "a.txt", SOKOAUDIT=helping.PROGRAM)
         os.chmod("mine.xsb", 0o444)
-        result = self.check("mine", "a.txt", "--compare", SOKOAUDIT=helping.PROGRAM)
-        self.assertEqual(result, (0, b"mine: no file would change\n", ""))
+        for is_writable in (True, False):
+            # Who runs as root may write everywhere.
+            with unittest.mock.patch.object(
+                    os, "access", lambda _, mode, it=is_writable: it or mode != os.W_OK), \
+                    unittest.mock.patch.object(own_files, "alone", wraps=own_files.alone) as alone:
+                result = self.check("mine", "a.txt", "--compare", SOKOAUDIT=helping.PROGRAM)
+            self.assertEqual(result, (0, b"mine: no file would change\n", ""))
+            self.assertEqual(alone.called, is_writable)
 
     def test_comparing_what_the_program_wrote(self) -> None:
         """The reference writes the same files but for its note, and --compare tells where files

@@ -183,8 +183,10 @@ def kept(given: Run) -> str:
 
 
 def compared(given: Run) -> int:
-    """Prints which files a check would change, and returns the status."""
-    with own_files.alone(given.name, given.shown):
+    """Prints which files a check would change, and returns the status. Nobody writes to a folder
+    that is write-protected."""
+    may_change = os.access(os.path.dirname(os.path.abspath(given.name)), os.W_OK)
+    with own_files.alone(given.name, given.shown) if may_change else contextlib.nullcontext():
         state = State(given)
         state.audit(given)
         changed = state.files.changed(contents(given, state))
