@@ -313,8 +313,12 @@ class Reading(Case):
         self.assertEqual(len(levels.read(self.read("out-1.xsb"))), 1)
 
     def test_standard_input_once(self) -> None:
-        for words in (("merge", "-", "-"), ("warn", "-", "-")):
-            self.assertIn("standard input (-) is named twice", self.tool(*words).err)
+        for words in (("merge", "-", "-"), ("warn", "-", "-"), ("carry", "-", "a.answers", "-"),
+                      ("diff", "-", "a.report", "-", "b.report"), ("named", "-", "-"),
+                      ("check", "mine", "-", "-"), ("check", "mine", "-", "--answers", "-"),
+                      ("convert", "mine", "-", "-"), ("table", "-", "-"), ("find", "-", "-")):
+            self.assertEqual(self.tool(*words), (
+                2, b"", f"{words[0]}: standard input (-) is named twice\n"))
 
     def test_codings_by_line(self) -> None:
         text = "Gr\u00f6\u00dfe\n".encode() + ONE.encode() + b"Ma\xdfe \x93q\x94\n"

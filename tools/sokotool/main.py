@@ -74,9 +74,14 @@ def main(words: Sequence[str]) -> int:
         words = [*words[1:2], "--help"]
     try:
         options = parser_for(words).parse_args(words)
+        read = []
         for name, value in vars(options).items():
             if isinstance(value, list):  # a list is one of files
                 setattr(options, name, texts.expanded(value))
+            if name not in ("output", "page"):
+                read += value if isinstance(value, list) else [value]
+        if read.count("-") > 1:
+            raise texts.Stop("standard input (-) is named twice")
         with output.into(options.output):
             status: int = options.run(options)
         sys.stdout.flush()

@@ -58,12 +58,6 @@ def expanded(names: Sequence[str]) -> List[str]:
     return [it for name, some in zip(names, found) for it in some or [name]]
 
 
-def check_names(names: Sequence[str]) -> None:
-    """Refuses `-` more than once: standard input can be read once."""
-    if list(names).count("-") > 1:
-        raise Stop("standard input (-) is named twice")
-
-
 def unmarked(data: bytes) -> bytes:
     """Returns a text without the byte order mark at its start."""
     return data[len(MARK):] if data.startswith(MARK) else data

@@ -8,7 +8,7 @@ If a file isn't an answers file, its first wrong line is reported and nothing is
 import argparse
 from typing import Dict
 
-from .. import answers, levels, output, texts
+from .. import answers, levels, output
 
 
 def arguments(parser: argparse.ArgumentParser) -> None:
@@ -17,7 +17,6 @@ def arguments(parser: argparse.ArgumentParser) -> None:
 
 
 def run(options: argparse.Namespace) -> int:
-    texts.check_names(options.answers)
     kept: Dict[int, answers.Record] = {}
     version = 1
     for name in options.answers:

@@ -36,7 +36,6 @@ def run(options: argparse.Namespace) -> int:
     if sys.stdout.isatty():
         raise texts.Stop("the page is for a browser, not for a terminal: add -o page.html")
     names = [options.levels, options.answers, options.report]
-    texts.check_names(names)
     files = [texts.read(name) for name in names]
     made, fault = written(files, [texts.shown(name) for name in names])
     sys.stdout.buffer.write(made)

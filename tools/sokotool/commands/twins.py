@@ -15,7 +15,6 @@ def arguments(parser: argparse.ArgumentParser) -> None:
 
 
 def run(options: argparse.Namespace) -> int:
-    texts.check_names(options.levels)
     found = []
     for name in options.levels:
         if not (several := levels.read_file(name)):

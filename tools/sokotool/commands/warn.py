@@ -25,7 +25,6 @@ def arguments(parser: argparse.ArgumentParser) -> None:
 
 
 def run(options: argparse.Namespace) -> int:
-    texts.check_names(options.levels)
     return int(sum([_warn_of(name) for name in options.levels]) > 0)
 
 
