@@ -184,6 +184,17 @@ class Export(Case):
         self.assertIn(b"<!-- so - - - - it is  -->",
                       self.tool("export", "mine", "--to", "slc").out)
 
+    def test_texts_come_back(self) -> None:
+        """Also those that have something in common with a tag."""
+        said = ["; of Bob <bob@example.org>", "; 1 < 2 & <b>3</b>", "; <Level 1> & Lot 2"]
+        self.write("mine.xsb", "".join(line + "\n" for line in ["Top", *said, "", *ONE.split()]
+                                       + ["Title: One", *said]))
+        for to in exporting.FORMS:
+            self.assertEqual(self.tool("export", "mine", "--to", to, "-o", "out").status, 0)
+            self.tool("convert", to, "out")
+            found = [it for it in self.read(to + ".xsb").decode().splitlines() if it in said]
+            self.assertEqual(found, [*said, *said], to)
+
     def test_a_byte_order_mark_is_no_text(self) -> None:
         text = "Title: One\n\n" + ONE
         for name, encoding in (("plain", "utf-8"), ("marked", "utf-8-sig")):

@@ -7,6 +7,8 @@ from ..builder import Collection
 from . import letters, rows
 
 _HEAD = re.compile(r"\s*<(?:\?xml|!--|!DOCTYPE|SokobanLevels)", re.I)
+# parts of a file that a comment takes out of it
+_IN_FILE = re.compile(r"</?(?:SokobanLevels|LevelCollection|Level|L|Solution)(\s.*=.*)?>", re.I)
 _KEYS = {"title": "Collection", "url": "URL"}
 # attributes with the size of a level or a collection, which its rows show
 _SIZES = {"width", "height", "maxwidth", "maxheight"}
@@ -50,7 +52,7 @@ class _Reader:
     def comment(self, text: str) -> None:
         """Takes a comment of the file, which may have a solution."""
         for line in text.split("\n"):
-            if line.strip() and "<" not in line:
+            if line.strip() and not _IN_FILE.search(line):
                 self._add("; " + line.strip())
 
     def end(self, tag: str) -> None:
