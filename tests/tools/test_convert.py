@@ -361,6 +361,14 @@ class Kept(Case):
             self.assertEqual((result.status, rows_of(found)), (1, [LONG.strip()]), text)
             self.assertIn("line 5: ", result.err)
 
+    def test_web_pages_that_begin_like_xml(self) -> None:
+        for head in ("<!DOCTYPE html>", "<!doctype html>", "<!-- saved from url=(0014)about -->",
+                     '<?xml version="1.0"?>\n<!DOCTYPE html PUBLIC "" "">'):
+            result, found, solved = self.convert(
+                f"{head}\n<html><img src=x>\n<pre>\n{ONE}</pre>\n<p>Solution: R<br></html>\n")
+            self.assertEqual((result.status, rows_of(found), letters_of(solved)),
+                             (0, [ONE.strip()], {1: "R"}), head)
+
     def test_titles_of_many_kinds(self) -> None:
         for text, wanted in (
                 (f"Titel: First\n{ONE}", "First"), (f"{ONE}Titre : First\n", "First"),

@@ -6,7 +6,9 @@ from xml.parsers import expat
 from ..builder import Collection
 from . import letters, rows
 
+# Web pages and other files of XML may begin alike.
 _HEAD = re.compile(r"\s*<(?:\?xml|!--|!DOCTYPE|SokobanLevels)", re.I)
+_LEVEL = re.compile(r"<(?:[\w.-]+:)?Level\b", re.I)
 # parts of a file that a comment takes out of it
 _IN_FILE = re.compile(r"</?(?:SokobanLevels|LevelCollection|Level|L|Solution)(\s.*=.*)?>", re.I)
 _KEYS = {"title": "Collection", "url": "URL"}
@@ -15,7 +17,7 @@ _SIZES = {"width", "height", "maxwidth", "maxheight"}
 
 
 def is_slc(text: str) -> bool:
-    return bool(_HEAD.match(text))
+    return bool(_HEAD.match(text) and _LEVEL.search(text))
 
 
 class _Reader:
