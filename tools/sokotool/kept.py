@@ -107,6 +107,7 @@ def _trimmed(lines: level_texts.Lines) -> level_texts.Lines:
 
 def _cut(gap: Sequence[bytes]) -> int:
     """Returns how many lines between two levels belong to the upper one: those before the comment
-    of the lower one."""
-    heads = [at for at, line in enumerate(gap) if line.startswith(_HEAD)]
+    of the lower one. What was typed for that one may begin in the same way."""
+    heads = ([at for at, line in enumerate(gap) if _WRITTEN.fullmatch(line)]
+             or [at for at, line in enumerate(gap) if line.startswith(_HEAD)])
     return heads[-1] if heads else level_texts.cut(gap)
