@@ -283,8 +283,9 @@ class Reading(Case):
         self.write("a.txt", b"\xff\n" + ONE.encode())
         self.assertIn("not a text in ascii", self.tool("convert", "out", "a.txt", "--encoding",
                                                        "ascii").err)
-        self.assertIn("there is no encoding klingon", self.tool("check", "out", "a.txt",
-                                                                "--encoding", "klingon").err)
+        for name in ("klingon", "hex", "undefined"):
+            self.assertIn(f"there is no encoding {name}", self.tool(
+                "convert", "out", "a.txt", "--encoding", name).err)
 
     def test_solution_file_before_its_level(self) -> None:
         self.write("a.xsb", OTHER)

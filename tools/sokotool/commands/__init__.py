@@ -40,7 +40,7 @@ def encoding_argument(parser: argparse.ArgumentParser) -> None:
 def _encoding(name: str) -> str:
     """Returns the name of an encoding, or refuses it."""
     try:
-        b"".decode(name)
+        b"ab".decode(name, "replace")
         return codecs.lookup(name).name
     except (LookupError, ValueError):
         raise argparse.ArgumentTypeError(f"there is no encoding {texts.shown(name)}") from None
