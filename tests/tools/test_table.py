@@ -84,6 +84,11 @@ class Table(Case):
         self.assertEqual(standings[1:],
                          ["1\tpushes\t1\t1\t0\t0\t0\t1\t", "2\tmoves\t1\t0\t0\t1\t1\t0\t"])
 
+    def test_limits_beyond_what_a_system_has(self) -> None:
+        for seconds in ("inf", "1e300"):
+            self.assertEqual(self.table("anna.answers", "--seconds", seconds, "--memory", "9" * 30),
+                             self.table("anna.answers"))
+
     @needs_a_memory_limit
     def test_five_with_a_broken_file_and_a_list_of_20_megabytes(self) -> None:
         """A file affects only its entrant, and takes no more than its time and memory."""

@@ -1,11 +1,12 @@
 """Finds the program sokoaudit and runs it, or the reference in Python if there is nothing else."""
 import contextlib
+import math
 import os
 import shutil
 import subprocess
 import sys
 import tempfile
-from typing import Iterator, NamedTuple, Optional, Sequence, Tuple
+from typing import Iterator, NamedTuple, Sequence, Tuple
 
 from . import answers, levels, report, system, texts
 
@@ -36,15 +37,15 @@ class Auditor(NamedTuple):
     path: str
     is_reference: bool
 
-    def run(self, *words: str, seconds: Optional[float] = None, megabytes: Optional[int] = None
-            ) -> Ran:
-        """Runs the program. If the run exceeds a limit, its fault names the limit."""
+    def run(self, *words: str, seconds: float = math.inf, megabytes: int = 0) -> Ran:
+        """Runs the program. If the run exceeds a limit, its fault names the limit. Some days are
+        no limit: a system can't wait for any number of seconds."""
         command = [sys.executable, "-B", self.path] if self.is_reference else [self.path]
         try:
             ran = subprocess.run([*command, *words], stdin=subprocess.DEVNULL, check=False,
                                  stdout=subprocess.PIPE, stderr=subprocess.PIPE,
                                  preexec_fn=system.memory_limit(megabytes) if megabytes else None,
-                                 timeout=seconds)
+                                 timeout=seconds if seconds < 1e6 else None)
         except subprocess.TimeoutExpired as late:
             return Ran(2, b"", f"stopped after {late.timeout:g} s")
         except OSError as error:

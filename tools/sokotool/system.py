@@ -95,8 +95,8 @@ def words_of(command: str) -> List[str]:
 def memory_limit(megabytes: int) -> Optional[Callable[[], None]]:
     """Returns what a new process calls to limit its memory, or None where there is no limit."""
     def bound() -> None:
-        # macOS has the limit and may refuse to set it.
-        with contextlib.suppress(ValueError, OSError):
+        # macOS has the limit and may refuse to set it. Others have none so large.
+        with contextlib.suppress(ValueError, OSError, OverflowError):
             resource.setrlimit(resource.RLIMIT_AS, (megabytes * 1_000_000,) * 2)
     return bound if resource else None
 
