@@ -166,6 +166,16 @@ class Table(Case):
         self.assertIn("1\t<b>&  \tsolved\t3", rows[1])
         self.assertIn(b"<td>&lt;b&gt;&amp;  </td>", self.read("page.html"))
 
+    def test_names_that_differ_in_their_end(self) -> None:
+        self.write("anna", solutions("rRR"))
+        _, rows, standings = self.table("anna", "anna.answers")
+        self.assertEqual(rows[1:], [
+            "1\tanna\tsolved\t3\t2\t1\ttied\ttied",
+            "1\tanna.answers\tsolved\t3\t2\t1\ttied\ttied",
+            "2\tanna\tmissing\t\t\t\t\t", "2\tanna.answers\tsolved\t4\t2\t1\tbest\tbest"])
+        self.assertEqual(standings[1:], ["1\tanna.answers\t2\t0\t0\t0\t2\t2\t",
+                                         "2\tanna\t1\t0\t0\t1\t1\t1\t"])
+
     @is_slow
     @unittest.skipUnless(BROWSER, "there is no browser (chromium) here")
     def test_page_in_a_browser(self) -> None:

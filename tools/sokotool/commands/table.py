@@ -89,9 +89,11 @@ def audited(data: bytes, count: int, options: argparse.Namespace) -> List[Entran
 
 def names_of(files: Sequence[str]) -> List[str]:
     """Returns the names of entrants: the names of their files, or whole paths if two are equal."""
-    short = [os.path.basename(file) for file in files]
-    chosen = short if len(set(short)) == len(short) else files
-    return [texts.shown(name[:-8] if name.endswith(".answers") else name) for name in chosen]
+    paths = [name[:-8] if name.endswith(".answers") else name for name in files]
+    for names in ([os.path.basename(path) for path in paths], paths, files):
+        if len(set(names)) == len(names):
+            break
+    return [texts.shown(name) for name in names]
 
 
 def marks(entrants: Sequence[Entrant],
