@@ -335,7 +335,8 @@ class Reading(Case):
         for words, why in (
                 (("twins", "empty"), "twins: empty has no level\n"),
                 (("convert", "", "a.txt"), "convert: the name '' has nothing before .xsb\n"),
-                (("check", "in/", "a.txt"), "check: the name 'in/' has nothing before .xsb\n"),
+                *((("check", name, "a.txt"), f"check: the name '{name}' has nothing before .xsb\n")
+                  for name in ("in/", ".", "..", "in/.")),
                 (("carry", "a.txt", "a.txt", "a.txt"), "carry: a.txt is no answers file: line 1 "
                                                        "isn't 'sokoban-answers 1'\n"),
                 (("table", "a.txt", "-"), "table: an entrant is named after a file, so - is none\n")

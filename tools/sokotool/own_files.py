@@ -132,7 +132,7 @@ def is_made(name: str, data: bytes) -> bool:
 
 def check_name(name: str) -> None:
     """Refuses a NAME that names no file."""
-    if not os.path.basename(name):
+    if not os.path.basename(name).strip("."):
         raise texts.Stop(f"the name {texts.shown(name)!r} has nothing before .xsb")
     end = os.path.splitext(name)[1]
     is_file = bool(end) and os.path.isfile(name) and not os.path.exists(name + XSB)
