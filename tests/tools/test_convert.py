@@ -252,6 +252,20 @@ class Slc(Case):
                              (level, result.err))
             self.assertEqual(levels.read(found)[0].title, "A & B")
 
+    def test_encodings_that_files_name(self) -> None:
+        """If a file isn't UTF-8 it is in the encoding that it names, unless it can't be."""
+        for name, title, code in (
+                ("big5", "\u4e00", "big5"), ("Shift_JIS", "\u65e5\u672c", "cp932"),
+                ("windows-1251", "\u0416", "cp1251"), ("iso-8859-2", "\u0142", "iso-8859-2"),
+                ("utf8", "\u00e9\u4e00", "utf-8"), ("utf-16", "\u00e9\u4e00", "utf-8"),
+                ("klingon", "\u00e9", "utf-8"), ("utf-8", "\u00e9", "cp1252")):
+            self.write("a.slc", f'<?xml version="1.0" encoding="{name}"?><SokobanLevels><Level Id='
+                       f'"{title}"><L>#####</L><L>#@$.#</L><L>#####</L></Level></SokobanLevels>'
+                       .encode(code))
+            result = self.tool("convert", "out", "a.slc", "--replace")
+            self.assertEqual((result.status, titles_of(self.read("out.xsb")), "line" in result.err),
+                             (0, [title], code == "cp1252"), result.err)
+
     def test_commented_level(self) -> None:
         result, found, _ = self.slc("<!-- <Level><L>####</L></Level> --><Level><L>#####</L><L>"
                                     "#@$.#</L><L>#####</L></Level>")

@@ -145,7 +145,7 @@ def _read_answers(collection: Collection, data: bytes, its_levels: Optional[sour
 
 def _read_levels(collection: Collection, data: bytes, is_found: bool, waiting: lists.Lists) -> None:
     name = collection.names[collection.file]
-    text, coding = texts.text_of(data, collection.encoding)
+    text, coding = texts.text_of(data, collection.encoding or slc.encoding_of(data))
     game = foreign.game_of(text) if text else ""
     lines = dress.lines_of(text) if text and not game else []
     is_slc = slc.is_slc(text or "")
@@ -166,7 +166,7 @@ def _read_levels(collection: Collection, data: bytes, is_found: bool, waiting: l
         collection.add_text(collection.source())
     count = collection.total
     if is_slc:
-        slc.read(collection, data, text)
+        slc.read(collection, text)
     else:
         plain.read(collection, lines)
     if collection.total == count:

@@ -83,7 +83,7 @@ def read_back(text: bytes, best: str) -> List[exporting.Entry]:
     collection.file = "-"
     decoded = text.decode()
     if slc.is_slc(decoded):
-        slc.read(collection, text, decoded)
+        slc.read(collection, decoded)
     else:
         plain.read(collection, dress.lines_of(decoded))
     collection.end_level()

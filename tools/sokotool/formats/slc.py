@@ -1,4 +1,5 @@
 """Reads SLC files, in which a level is <Level Id=".."> and each row <L>."""
+import contextlib
 import re
 from typing import Dict, List, Optional
 from xml.parsers import expat
@@ -8,6 +9,7 @@ from . import letters, rows
 
 # Web pages and other files of XML may begin alike.
 _HEAD = re.compile(r"\s*<(?:\?xml|!--|!DOCTYPE|SokobanLevels)", re.I)
+_ENCODING = re.compile(rb"""\s*<\?xml\s[^>]*?encoding\s*=\s*["']([\w.:-]+)["']""")
 _LEVEL = re.compile(r"<(?:[\w.-]+:)?Level\b", re.I)
 # parts of a file that a comment takes out of it
 _IN_FILE = re.compile(r"</?(?:SokobanLevels|LevelCollection|Level|L|Solution)(\s.*=.*)?>", re.I)
@@ -146,17 +148,26 @@ def _refuse(*_: object) -> None:
     raise _Refused
 
 
-def read(collection: Collection, data: bytes, text: str) -> None:
-    """Reads a file, given as bytes and as text. Keeps what is before the first fault."""
-    is_latin = text.encode("cp1252", "replace") == data and not text.isascii()
-    parser = expat.ParserCreate("iso-8859-1" if is_latin else None)
+def encoding_of(data: bytes) -> str:
+    """Returns the encoding that a file of XML names, or "" if it names none that it can be in."""
+    with contextlib.suppress(LookupError, ValueError):
+        if match := _ENCODING.match(data):
+            data.decode(match[1].decode())
+            return match[1].decode()
+    return ""
+
+
+def read(collection: Collection, text: str) -> None:
+    """Reads the text of a file. Keeps what is before the first fault."""
+    # Python's parser knows few encodings, and ends in errors of its own at others.
+    parser = expat.ParserCreate("utf-8")
     reader = _Reader(collection, parser)
     parser.StartElementHandler, parser.EndElementHandler = reader.start, reader.end
     parser.CharacterDataHandler, parser.CommentHandler = reader.data, reader.comment
     # Entities that a file declares can expand without bounds.
     parser.EntityDeclHandler = _refuse
     try:
-        parser.Parse(data, True)
+        parser.Parse(text.encode("utf-8", "replace"), True)
     except expat.ExpatError as error:
         why = expat.errors.messages[error.code]
         collection.fault(error.lineno, f"cannot be read on from here: {why}")
