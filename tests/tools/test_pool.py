@@ -118,6 +118,22 @@ class Placed(Case):
         self.assertEqual(self.chosen(found), {1: SHORT})
         self.assertEqual(found.left(stored), [typed._replace(record=None)])
 
+    def test_a_stored_answer_is_for_its_board_alone(self) -> None:
+        """Another level in its place may have the same solution."""
+        entry = kept.Entry(b"; kept", Block((), tuple(ROWS), ()), read(record(SHORT)).records[0])
+        found = Pool(self.state(ROWS[:3] + ROWS[4:]), MOVES)
+        found.add_exported(read(record(SHORT)).records)
+        found.add_stored(kept.Kept([entry], []))
+        self.assertEqual(self.chosen(found), {1: SHORT})
+        self.assertEqual(found.left(kept.Kept([entry], [])), [entry])
+
+    def test_a_certificate_is_kept_if_its_level_becomes_an_illegal_one(self) -> None:
+        own = read(b"level 1\nunsolvable\npattern 3,3 @ *\nend\n")
+        found = Pool(self.state([b"###", b"#.#", b"#$#", b"###"]), MOVES)
+        found.add_own(own, STATE, STATE, set())
+        self.assertEqual(self.chosen(found, b"level 1 refused board player\n"), {})
+        self.assertEqual([it.record for it in found.left(kept.Kept([], []))], own.records)
+
     def test_what_a_kept_answer_says_more_than_a_title_stays(self) -> None:
         """The title of no level any more, or a note."""
         own = read(record(SHORT)).records[0]

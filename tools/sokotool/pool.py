@@ -88,7 +88,7 @@ class Pool:
 
     def add_stored(self, stored: kept.Kept) -> None:
         """Adds the records that were kept without a place."""
-        self._stored = self._by_board(stored.records(), stored.collection(), False)
+        self._stored = self._by_board(stored.records(), stored.collection(), False, False)
 
     def add_exported(self, records: Sequence[Record]) -> None:
         """Adds the records of the exports, by the numbers of the levels."""
@@ -138,15 +138,15 @@ class Pool:
             best = it.counts if self.best == PUSHES else it.counts[::-1]
             it.rank = (_SOLVES, *best, order)
 
-    def _by_board(self, records: Sequence[Record], before: changes.Snapshot,
-                  stays: bool) -> List[Given]:
+    def _by_board(self, records: Sequence[Record], before: changes.Snapshot, stays: bool,
+                  had_places: bool = True) -> List[Given]:
         """Adds records to the levels that have the boards of theirs, or that took the place of
-        theirs. One that stays is kept for its own level if no other is accepted. Equal ones have
-        the candidates of the first one too."""
+        theirs if those had one. One that stays is kept for its own level if no other is accepted.
+        Equal ones have the candidates of the first one too."""
         found = [Given(it, before.levels[it.level - 1], []) for it in records]
         if not found:
             return found
-        matches = self._matches(before)
+        matches = self._matches(before) if had_places else {}
         # Of equal answers to the same board one goes to all levels that have it.
         by_board: Dict[Hashable, Given] = {}
         same = [by_board.setdefault((form.key, form.turn[:4], it.record.answer), it)
@@ -206,9 +206,8 @@ class Pool:
             if line.status == "refused" and line.level in candidates:
                 it = candidates[line.level]
                 self._rank(it, 0)
-                if line.words[0] != "board":
-                    # The line number of a certificate is one in this text, which nobody sees.
-                    it.fault = it.fault or " ".join(line.words[2 * (line.words[0] == "line"):])
+                # The line number of a certificate is one in this text, which nobody sees.
+                it.fault = it.fault or " ".join(line.words[2 * (line.words[0] == "line"):])
 
     def _written(self) -> bytes:
         """Returns the answers file with the chosen ones, and the comments between them."""
