@@ -65,6 +65,13 @@ class Replacing(Case):
             self.assertEqual(answers.read(self.read("mine.answers")).records, [])
         self.assertFalse(os.path.exists("mine.xsb~"))
 
+    def test_a_backup_that_is_read_stays(self) -> None:
+        self.assertEqual(self.convert_named("a.txt").status, 0)
+        self.write("mine.xsb~", OTHER)
+        for name in ("mine.xsb~", "./mine.xsb~"):
+            self.assert_refused(self.convert_named(name, "--replace"), "would write over " + name)
+        self.assertEqual(self.read("mine.xsb~"), OTHER.encode())
+
     def test_the_same_again_replaces_nothing(self) -> None:
         for _ in range(2):
             self.assertEqual(self.convert_named("a.txt").status, 0)

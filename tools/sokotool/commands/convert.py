@@ -59,16 +59,16 @@ def run(options: argparse.Namespace) -> int:
     read_files(collection, listed)
     if said > MOST_MESSAGES:
         print(f"convert: {said - MOST_MESSAGES} more messages", file=sys.stderr)
-    written = collection.files(options.name)
+    written = _replaced(collection.files(options.name), options.replace)
     _check_inputs(files, [name for name, _ in written])
-    output.write_files(_replaced(written, options.replace) + written)
+    output.write_files(written)
     print(f"convert: {collection.summary()}", file=sys.stderr)
     return int(collection.faults > 0)
 
 
 def _replaced(written: Sequence[output.File], may_replace: bool) -> List[output.File]:
-    """Returns a copy, named NAME~, of each file that is there with other contents. If none may be
-    replaced, one ends the command."""
+    """Returns the files, after a copy, named NAME~, of each one that is there with other contents.
+    If none may be replaced, one ends the command."""
     found = []
     for name, data in written:
         output.check_writable(name)
@@ -78,7 +78,7 @@ def _replaced(written: Sequence[output.File], may_replace: bool) -> List[output.
             if not may_replace:
                 raise texts.Stop(f"{texts.shown(name)} is there already: --replace keeps it as "
                                  f"{texts.shown(name)}~")
-    return found
+    return [*found, *written]
 
 
 def _check_inputs(files: Sequence[str], written: Sequence[str]) -> None:
