@@ -276,6 +276,15 @@ class Transactions(Case):
         self.assertEqual((os.readlink("b"), self.read("elsewhere")), ("elsewhere", NEW["b"]))
 
     @not_on_windows
+    def test_owner_and_group(self) -> None:
+        """Of a group that shares a folder, each may go on writing."""
+        owner = (os.geteuid() or 7, os.getgroups()[-1] if os.geteuid() else 8)
+        os.chown("a", *owner)
+        self.assertTrue(self.commit())
+        known = os.stat("a")
+        self.assertEqual((known.st_uid, known.st_gid), owner)
+
+    @not_on_windows
     def test_attributes(self) -> None:
         """Access lists are attributes of a file: user 7 may read, and nobody else."""
         listed = bytes.fromhex("02000000" "01000600ffffffff" "0200040007000000"

@@ -132,7 +132,12 @@ def keep_names(folder: str) -> None:
 
 
 def copy_rights(path: str, made: str) -> None:
-    """Gives a new file the access lists and labels of the file at a path, where it has some."""
+    """Gives a new file the group, access lists and labels of the file at a path, where it has some,
+    and its owner if that is allowed."""
+    with contextlib.suppress(OSError, AttributeError):  # Windows has no groups.
+        known = os.stat(path)
+        os.chown(made, -1, known.st_gid)
+        os.chown(made, known.st_uid, -1)
     if hasattr(os, "listxattr"):
         with contextlib.suppress(OSError):
             for name in os.listxattr(path):
