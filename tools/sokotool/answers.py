@@ -110,10 +110,7 @@ class Answers(NamedTuple):
 
 def read(data: bytes, levels: Optional[int] = None, rising: bool = True) -> Answers:
     """Reads an answers text, or raises its first `Fault`. `levels` is the number of levels, where
-    it is known.
-
-    Where `rising` is false, the levels may come in any order.
-    """
+    it is known. Where `rising` is false, the levels may come in any order."""
     lines = texts.lines(data)
     header = _HEADER.fullmatch(lines[0]) if lines else None
     if not header:

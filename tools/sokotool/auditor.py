@@ -109,9 +109,8 @@ def refusal(program: Auditor, level: levels.Level, lines: Sequence[bytes]) -> st
 
 def find() -> Auditor:
     """Finds the program: the one that SOKOAUDIT names, that of this checkout, one beside sokotool,
-    that of this installation, one on the PATH or built beside the script there, or the reference.
-
-    A script counts only if SOKOAUDIT names it, and it isn't known to run the reference."""
+    that of this installation, one on the PATH or built beside the script there, or the reference. A
+    script counts only if SOKOAUDIT names it, and it isn't known to run the reference."""
     named = os.environ.get("SOKOAUDIT")
     if named and not _runs_reference(named):
         paths = [named]

@@ -17,11 +17,8 @@ _LETTERS = b"lurdLURD"
 
 class Board:
     """The board of a level. `walls[place]` is 1 for walls, with the rim; `goals`, `boxes` and
-    `room` are sets of places.
-
-    `fault` is None for a legal level, and otherwise the auditor's word. A board with a side that is
-    too long is left empty.
-    """
+    `room` are sets of places. `fault` is None for a legal level, and otherwise the auditor's word.
+    A board with a side that is too long is left empty."""
 
     def __init__(self, level: Level):
         rows = level.rows
@@ -117,12 +114,9 @@ board_of = OfRows(Board)
 
 class Replay:
     """Letters played from the start: counts, the letters in their case, the boxes and the player at
-    the end, and the first fault.
-
-    `fault` is None if the level is solved, and otherwise what the report says: `move 3 wall`,
-    `unsolved 2`. `solved` has pairs of numbers of moves: from the first to the second, all boxes
-    are on goals.
-    """
+    the end, and the first fault. `fault` is None if the level is solved, and otherwise what the
+    report says: `move 3 wall`, `unsolved 2`. `solved` has pairs of numbers of moves: from the first
+    to the second, all boxes are on goals."""
 
     letters: bytes
     fault: Optional[str]

@@ -13,11 +13,9 @@ Report = Callable[[Place, str, bool], None]
 
 
 class Attempt(NamedTuple):
-    """Letters played on a level, each in its case, with counts.
-
-    `why` is None if they solve it; `plays` is false if a letter is no legal step. `solved` has
-    pairs of numbers of moves: from the first to the second, all boxes are on goals.
-    """
+    """Letters played on a level, each in its case, with counts. `why` is None if they solve it;
+    `plays` is false if a letter is no legal step. `solved` has pairs of numbers of moves: from the
+    first to the second, all boxes are on goals."""
 
     why: Optional[str]
     plays: bool = False
@@ -42,15 +40,12 @@ class Try(NamedTuple):
 
 
 class Collection:
-    """Collects levels, text and solutions.
-
-    `faults` counts what was reported as left out or wrong. Of these, `unsolved` counts the
-    solutions that are kept although they leave boxes off the goals, and `torn` the levels that seem
-    to lack rows. `kept` has the answers by the places of their levels among all, from 0, and
-    `others` the solutions with fewer pushes, if both of the best are kept. With `split`, a
-    collection that is too large becomes several, each with its text: `count` has the levels of the
-    last one, and `total` all levels. If it doesn't, `advice` follows.
-    """
+    """Collects levels, text and solutions. `faults` counts what was reported as left out or wrong.
+    Of these, `unsolved` counts the solutions that are kept although they leave boxes off the goals,
+    and `torn` the levels that seem to lack rows. `kept` has the answers by the places of their
+    levels among all, from 0, and `others` the solutions with fewer pushes, if both of the best are
+    kept. With `split`, a collection that is too large becomes several, each with its text: `count`
+    has the levels of the last one, and `total` all levels. If it doesn't, `advice` follows."""
 
     def __init__(self, best: str = "", split: bool = False, encoding: str = "",
                  report: Report = lambda *_: None,

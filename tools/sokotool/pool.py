@@ -180,11 +180,9 @@ class Pool:
     def audited(self, audit: Callable[[bytes], report.Report], noted: Callable[[bytes], bytes]
                 ) -> Tuple[bytes, report.Report]:
         """Returns the answers file with the best answers that an audit accepts, and the report.
-        `noted` adds a note to a file. The others are audited too.
-
-        If the audit refuses an answer, the next one is tried. If it refuses all answers to a level,
-        the first one that stays is kept.
-        """
+        `noted` adds a note to a file. The others are audited too. If the audit refuses an answer,
+        the next one is tried. If it refuses all answers to a level, the first one that stays is
+        kept."""
         while True:
             self.chosen = {number: it for number in sorted(self._of)
                            for it in [self._choice(number)] if it}

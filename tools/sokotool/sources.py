@@ -44,10 +44,8 @@ class Export(NamedTuple):
 def listed(names: Sequence[str], is_own: IsOut = lambda _: False) -> List[Export]:
     """Returns the exports to read: a folder stands for its regular files in order, without hidden
     ones and those that the command itself writes, and an archive for the files in it. Each folder
-    is read once, and a file that was read isn't read again with a folder.
-
-    A file NAME.sol comes directly after the file NAME.* of its level.
-    """
+    is read once, and a file that was read isn't read again with a folder. A file NAME.sol comes
+    directly after the file NAME.* of its level."""
     seen: Set[Tuple[int, int]] = set()
     found = [export for name in names for export in _of(name, seen, is_own)]
     stems = Counter(it.stem for it in found if it.end != ".answers")

@@ -64,10 +64,8 @@ def unmarked(data: bytes) -> bytes:
 
 
 def lines(data: bytes) -> List[bytes]:
-    """Returns the lines of a text. LF ends a line, and a CR before it belongs to the end.
-
-    Equal short lines are one object, so that a text of many short lines takes little memory.
-    """
+    """Returns the lines of a text. LF ends a line, and a CR before it belongs to the end. Equal
+    short lines are one object, so that a text of many short lines takes little memory."""
     return _split(data.replace(b"\r\n", b"\n"), b"\n")
 
 
@@ -120,10 +118,7 @@ def decoded(data: bytes) -> str:
 def text_of(data: bytes, encoding: str = "") -> Tuple[Optional[str], str]:
     """Returns the text of a file, with LF at the end of each line, or None if it isn't a text, and
     what it was read as if it isn't all UTF-8 or UTF-16: this encoding, or one that is guessed for
-    the other lines.
-
-    Byte order marks are dropped, except at the start of a later line.
-    """
+    the other lines. Byte order marks are dropped, except at the start of a later line."""
     if data.startswith((b"\xff\xfe", b"\xfe\xff")):
         coding = "utf-16"
     elif b"\0" in data[:1000]:

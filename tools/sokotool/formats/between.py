@@ -36,11 +36,8 @@ class Heading(NamedTuple):
 
 
 class Between:
-    """Reads the text between levels, line by line, into the collection.
-
-    `kinds` has what each line is, and `reasons` for lines that look like rows and are text where
-    these end, and why.
-    """
+    """Reads the text between levels, line by line, into the collection. `kinds` has what each line
+    is, and `reasons` for lines that look like rows and are text where these end, and why."""
 
     def __init__(self, collection: Collection, lines: List[str], kinds: bytes,
                  found: Sequence[Optional[rows.Row]], reasons: Dict[int, Tuple[int, str]]) -> None:
@@ -181,11 +178,9 @@ class Between:
         self._read_parts(first, stop, heading, "")
 
     def _read_parts(self, first: int, stop: int, heading: Optional[Heading], front: str) -> bool:
-        """Reads lines of letters as one solution or several, each cut where it solves the level.
-
-        If there are letters in front, the first solution begins with them; returns false, and reads
-        nothing, if that solves nothing.
-        """
+        """Reads lines of letters as one solution or several, each cut where it solves the level. If
+        there are letters in front, the first solution begins with them; returns false, and reads
+        nothing, if that solves nothing."""
         for _ in range(MOST_PARTS):
             end = min(stop, first + MOST_LINES)
             pieces = list(map(self.packed.__getitem__, self.lines[first:end]))

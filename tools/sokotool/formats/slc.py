@@ -23,10 +23,8 @@ def is_slc(text: str) -> bool:
 
 
 class _Reader:
-    """The parser's callbacks.
-
-    Keeps the rows and the texts of the open level, and the text of the open element.
-    """
+    """The parser's callbacks. Keeps the rows and the texts of the open level, and the text of the
+    open element."""
 
     def __init__(self, collection: Collection, parser: expat.XMLParserType) -> None:
         self.collection, self.parser = collection, parser
