@@ -6,7 +6,7 @@ import shutil
 import zipfile
 from typing import Dict
 
-from sokotool import answers, levels
+from sokotool import answers, auditor, levels
 from tests.tools.helping import SAMPLES
 from tests.tools.test_check import CORNER, LONG, LOST, Check
 
@@ -100,6 +100,21 @@ class Answers(Check):
                       "goals", self.lines(result))
         self.assertEqual([it.letters for it in answers.read(self.read("mine.answers")).records],
                          [b"rRRR"])
+
+    def test_comments_between_records(self) -> None:
+        """They go to the next record, and those at the end to the last one."""
+        self.write("a.xsb", CORNER + "\n" + LOST)
+        said = ["; of Bob, 2020", "; easy", "; the hard ones follow", "; after", "; the end"]
+        self.write("a.answers", "\n\n".join((
+            "sokoban-answers 1\n" + said[0], said[1] + "\nlevel 1\nsolution\nRurD\nend", said[2],
+            PROOF.replace("level 1", "level 2") + said[3],
+            said[4] + f"\n; {auditor.REFERENCE_NOTE}\n")))
+        for command in ("check", "convert"):
+            self.tool(command, command, "a.xsb", "a.answers",
+                      *(["--seconds", "0"] if command == "check" else []))
+            self.assertEqual([line for line in self.read(command + ".answers").decode().split("\n")
+                              if line[:1] in (";", "l")],
+                             [*said[:2], "level 1", said[2], *said[3:], "level 2", "; the corner"])
 
     def test_of_several_solutions_the_best(self) -> None:
         self.write("a.txt", CORNER + "Solution: udRurD\n")

@@ -46,7 +46,7 @@ class Files:
     def levels(self) -> Optional[bytes]:
         """Returns NAME.xsb without the note of the reference, or None if there is none."""
         data = self.before.get(XSB)
-        return b"\n".join(_unnoted(data.split(b"\n"))) if data and _NOTE in data else data
+        return b"\n".join(unnoted(data.split(b"\n"))) if data and _NOTE in data else data
 
     def answers(self, end: str, most: int) -> answers.Answers:
         """Returns the records of an answers file for so many levels, in any order."""
@@ -54,10 +54,10 @@ class Files:
         found = answers.read_text(self.name + end, data, most, rising=False)
         # A record may be typed below the note, and another one below that.
         for at, record in enumerate(found.records if _NOTE in data else ()):
-            above = tuple(_unnoted(record.answer.above))
-            found.records[at] = record._replace(apart=_unnoted(record.apart),
+            above = tuple(unnoted(record.answer.above))
+            found.records[at] = record._replace(apart=unnoted(record.apart),
                                                 answer=record.answer._replace(above=above))
-        return found._replace(rest=_unnoted(found.rest))
+        return found._replace(rest=unnoted(found.rest))
 
     def memory(self) -> memory.Memory:
         return memory.read(self.before.get(MEMORY), self.name + MEMORY)
@@ -100,7 +100,7 @@ class Files:
         self.now[MEMORY] = data
 
 
-def _unnoted(lines: Sequence[bytes]) -> List[bytes]:
+def unnoted(lines: Sequence[bytes]) -> List[bytes]:
     """Returns lines without the note of the reference."""
     return [line for line in lines if line.rstrip(b"\r") != _NOTE]
 

@@ -8,7 +8,7 @@ import os
 import re
 from typing import Dict, List, Optional, Sequence, Tuple
 
-from .. import answers, carrying, forms, levels, texts
+from .. import answers, carrying, forms, levels, own_files, texts
 from ..board import board_of
 from ..builder import Attempt, Collection, Try
 from . import headings
@@ -45,7 +45,12 @@ class Lists:
 
     def add_answers(self, file: str, its_levels: Sequence[levels.Level], found: answers.Answers
                     ) -> None:
-        self._answers.append((file, forms.forms_of(its_levels), found.records))
+        """Adds answers. Comments between records go to the next one, and the rest to the last."""
+        rest = own_files.unnoted(found.rest)
+        self._answers.append((file, forms.forms_of(its_levels), [
+            it._replace(answer=it.answer._replace(above=tuple(filter(None, (
+                *it.apart, *it.answer.above, *(rest if it is found.records[-1] else ()))))))
+            for it in found.records]))
 
     def add_export(self, file: str, first: int, end: int) -> None:
         """Adds an export, whose levels are those from `first` up to `end`."""
