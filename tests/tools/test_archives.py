@@ -66,6 +66,13 @@ class Archives(Case):
         self.assertEqual([it.name for it in sources.listed(["a.zip"])],
                          ["a.zip/" + name for name in names])
 
+    def test_names_that_begin_with_a_dot(self) -> None:
+        """Hidden files are left out, but not those of an archive whose names begin with './'."""
+        self.write("a.zip", self.archive("./1.txt", "./a/2.txt", "../3.txt", "./.git/4.txt",
+                                         "./a/.5.txt", "__MACOSX/6.txt"))
+        self.assertEqual([it.name for it in sources.listed(["a.zip"])],
+                         ["a.zip/../3.txt", "a.zip/./1.txt", "a.zip/./a/2.txt"])
+
     def test_encodings_of_ignored_names(self) -> None:
         """Windows may write a byte order mark, or UTF-16."""
         for name in ("\u00e4.txt", "2.txt"):

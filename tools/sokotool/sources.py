@@ -181,7 +181,8 @@ def _in_file(path: str) -> Iterator[Export]:
             return
         with zipfile.ZipFile(path) as archive:
             members = [it for it in archive.infolist() if not it.is_dir() and not any(
-                part.startswith((".", "__MACOSX")) for part in it.filename.split("/"))]
+                part.startswith((".", "__MACOSX")) and part.strip(".")
+                for part in it.filename.split("/"))]
     except MemoryError:
         raise
     except Exception as error:  # Each form of a damaged archive has errors of its own.
