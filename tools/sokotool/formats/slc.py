@@ -12,7 +12,8 @@ _HEAD = re.compile(r"\s*<(?:\?xml|!--|!DOCTYPE|SokobanLevels)", re.I)
 _ENCODING = re.compile(rb"""\s*<\?xml\s[^>]*?encoding\s*=\s*["']([\w.:-]+)["']""")
 _LEVEL = re.compile(r"<(?:[\w.-]+:)?Level\b", re.I)
 # parts of a file that a comment takes out of it
-_IN_FILE = re.compile(r"</?(?:SokobanLevels|LevelCollection|Level|L|Solution)(\s.*=.*)?>", re.I)
+_IN_FILE = re.compile(r"</?(?:SokobanLevels|LevelCollection|Level|L|Solution)(\s[^<>=]*=[^<>]*)?>",
+                      re.I)
 _KEYS = {"title": "Collection", "url": "URL"}
 # attributes with the size of a level or a collection, which its rows show
 _SIZES = {"width", "height", "maxwidth", "maxheight"}
