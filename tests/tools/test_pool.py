@@ -10,7 +10,7 @@ from sokotool.level_texts import Block
 from sokotool.builder import BOTH, MOVES, PUSHES
 from sokotool.board import board_of
 from sokotool.levels import Level
-from sokotool.pool import Pool
+from sokotool.pool import Pool, in_case
 from tests.tools.helping import Case, not_on_windows
 
 # Two steps to the right push the box to the far goal, and walks around it to the near one.
@@ -164,6 +164,15 @@ class Placed(Case):
             self.assertEqual(one[:2], other[:2])
             self.assertEqual(one.record and one.record.answer,
                              other.record and other.record.answer)
+
+    def test_letters_that_solve_a_level_stay(self) -> None:
+        """Also if in another case they solve the one that had its number before, or has it now."""
+        one, two = self.state([b"######", b"#@ $.#", b"######"]), self.state(
+            [b"######", b"#@$ .#", b"######"])
+        for letters, wanted in ((b"rR", b"rR"), (b"RR", b"RR"), (b"rr", None), (b"Rr", None)):
+            given = read(record(letters)).records[0]
+            self.assertEqual(in_case(given, (one, two)).letters, wanted or b"rR")
+            self.assertEqual(in_case(given, (two, one)).letters, wanted or b"RR")
 
     def test_there_and_back(self) -> None:
         """An answer that was turned for another board and back is what it was."""

@@ -290,15 +290,14 @@ class Pool:
 
 
 def in_case(record: Record, states: Sequence[changes.Snapshot]) -> Record:
-    """Returns a solution with each letter in its case, if it solves a level of its number so."""
-    if record.kind != "solution":
-        return record
-    for state in states:
-        if record.level <= len(state.levels):
-            board = board_of(state.levels[record.level - 1])
-            if board.player is None or not board.replay(record.letters).fault:
-                continue
-            replay = board.replay(record.letters, any_case=True)
+    """Returns a solution with each letter in its case, if it solves a level of its number so. One
+    that solves a level as it is stays."""
+    found = [state.levels[record.level - 1] for state in states
+             if record.level <= len(state.levels) and record.kind == "solution"]
+    boards = [board for board in map(board_of, found) if board.player is not None]
+    for any_case in (False, True):
+        for board in boards:
+            replay = board.replay(record.letters, any_case)
             if not replay.fault:
                 return record._replace(answer=record.answer.cased(replay.letters))
     return record
