@@ -258,13 +258,14 @@ class Slc(Case):
                 ("big5", "\u4e00", "big5"), ("Shift_JIS", "\u65e5\u672c", "cp932"),
                 ("windows-1251", "\u0416", "cp1251"), ("iso-8859-2", "\u0142", "iso-8859-2"),
                 ("utf8", "\u00e9\u4e00", "utf-8"), ("utf-16", "\u00e9\u4e00", "utf-8"),
-                ("klingon", "\u00e9", "utf-8"), ("utf-8", "\u00e9", "cp1252")):
+                ("klingon", "\u00e9", "utf-8"), ("utf-8", "\u00e9", "cp1252"),
+                ("iso-8859-1", "It\u2019s", "cp1252"), ("latin1", "\u00e9", "cp1252")):
             self.write("a.slc", f'<?xml version="1.0" encoding="{name}"?><SokobanLevels><Level Id='
                        f'"{title}"><L>#####</L><L>#@$.#</L><L>#####</L></Level></SokobanLevels>'
                        .encode(code))
             result = self.tool("convert", "out", "a.slc", "--replace")
             self.assertEqual((result.status, titles_of(self.read("out.xsb")), "line" in result.err),
-                             (0, [title], code == "cp1252"), result.err)
+                             (0, [title], name == "utf-8"), result.err)
 
     def test_commented_level(self) -> None:
         result, found, _ = self.slc("<!-- <Level><L>####</L></Level> --><Level><L>#####</L><L>"

@@ -210,9 +210,7 @@ def _are_outside_room(run: Sequence[Row]) -> bool:
 
 def _banners(lines: Sequence[str], found: Rows) -> Reasons:
     """Drops runs of walls alone, unless a line next to one looks like a row that can't be read.
-
-    Returns the reasons by their first lines.
-    """
+    Returns the reasons by their first lines."""
     reasons: Reasons = {}
     for first, end in list(runs(found)):
         if not all(row.is_wall for row in distinct(found[first:end])):
@@ -236,11 +234,9 @@ def _other_games(lines: Sequence[str], kinds: bytearray, gaps: Sequence[Span]) -
 # ---- levels
 
 def _heads(kinds: bytearray, gaps: Sequence[Span]) -> List[int]:
-    """Returns for each board the line above it at which its text begins, or its first line.
-
-    The titles of a file are above the boards if one is above the first board, none is below the
-    last, and one is between two boards if there are several.
-    """
+    """Returns for each board the line above it at which its text begins, or its first line. The
+    titles of a file are above the boards if one is above the first board, none is below the last,
+    and one is between two boards if there are several."""
     title = headings.TITLE
     firsts = [first for _, first in gaps[:-1]]
     has = [kinds.find(title, *gap) >= 0 for gap in gaps]
@@ -251,10 +247,8 @@ def _heads(kinds: bytearray, gaps: Sequence[Span]) -> List[int]:
 
 
 def _split(run: Rows, first: int) -> Iterator[Tuple[List[Row], int]]:
-    """Cuts consecutive rows into levels, each with its first line.
-
-    Rows joined by '|', in one line or several, are a level of their own.
-    """
+    """Cuts consecutive rows into levels, each with its first line. Rows joined by '|', in one line
+    or several, are a level of their own."""
     if all(row.kind == "plain" and not row.starts for row in distinct(run)):
         yield [row for row in run if row], first
         return

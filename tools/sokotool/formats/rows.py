@@ -43,11 +43,9 @@ _MAZE_CELLS = str.maketrans("X*&", WALL + BOXES)
 
 class Row(NamedTuple):
     """A line that may be a row: its kind, and the row in the auditor's characters, or several rows
-    that '|' joins.
-
-    A '|' at the end of a line joins it to the next one. `lead` is the tabs or quotes in front. A
-    byte order mark in front starts a level, since two files were joined there.
-    """
+    that '|' joins. A '|' at the end of a line joins it to the next one. `lead` is the tabs or
+    quotes in front. A byte order mark in front starts a level, since two files were joined
+    there."""
 
     kind: str
     rows: Tuple[str, ...]
@@ -148,10 +146,8 @@ def without_marks(row: str) -> str:
 
 
 def why_no_row(line: str, is_between: bool) -> Optional[str]:
-    """Returns why a line that may be meant as a row isn't one, or None.
-
-    `is_between` is true if there are rows directly above and below it.
-    """
+    """Returns why a line that may be meant as a row isn't one, or None. `is_between` is true if
+    there are rows directly above and below it."""
     if "#" not in line:
         without = is_between and line.strip("-_ ") and not _NOT_PLAIN.search(line)
         return "a row without a wall, which ends the level" if without else None

@@ -1,4 +1,5 @@
 """Reads SLC files, in which a level is <Level Id=".."> and each row <L>."""
+import codecs
 import contextlib
 import re
 from typing import Dict, List, Optional
@@ -151,8 +152,11 @@ def encoding_of(data: bytes) -> str:
     """Returns the encoding that a file of XML names, or "" if it names none that it can be in."""
     with contextlib.suppress(LookupError, ValueError):
         if match := _ENCODING.match(data):
-            data.decode(match[1].decode())
-            return match[1].decode()
+            name = codecs.lookup(match[1].decode()).name
+            # Windows calls its own encoding so.
+            name = "cp1252" if name == "iso8859-1" else name
+            data.decode(name)
+            return name
     return ""
 
 
