@@ -154,7 +154,7 @@ class Folders(Check):
         self.assertEqual(text, b"Corner\nCorner\nLost\nTitle: Long")
         self.assertEqual(len(levels.read(self.read("a.xsb"))), 4)
 
-    def test_backups_that_are_named_without_their_files(self) -> None:
+    def test_backups_and_kept_files_that_are_named_without_the_others(self) -> None:
         """The answers go by the levels of their time."""
         shutil.rmtree("inbox")
         self.write("a.txt", CORNER + "Solution: RurD\n")
@@ -163,8 +163,12 @@ class Folders(Check):
         self.check("mine", "a.txt")
         result = self.tool("convert", "old", "mine.xsb~", "mine.answers~")
         self.assertEqual(result, (0, b"", "convert: 1 levels, 1 solutions, 0 left out\n"))
+        self.write("a.txt", LOST)
+        self.check("mine", "a.txt")
+        result = self.tool("convert", "kept", "mine.kept.xsb", "mine.kept.answers")
+        self.assertEqual(result, (0, b"", "convert: 1 levels, 1 solutions, 0 left out\n"))
         self.tool("convert", "every", *sorted(it for it in os.listdir() if it[:5] == "mine."))
-        self.assertEqual(len(levels.read(self.read("every.xsb"))), 2)
+        self.assertEqual(len(levels.read(self.read("every.xsb"))), 1)
 
     def test_written_files_in_an_archive(self) -> None:
         shutil.rmtree("inbox")

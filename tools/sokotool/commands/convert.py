@@ -96,9 +96,9 @@ def read_files(collection: Collection, listed: Sequence[sources.Export]) -> None
     before: Tuple[str, int] = ("", 0)
     waiting = lists.Lists(collection)
     collection.names = sources.published([export.name for export in listed])
-    # Wildcards name backups too, but not without their files.
-    alone = {it.name for it in listed if it.end.endswith("~") and not it.is_found
-             and it.name[:-1] not in collection.names}
+    # Wildcards name backups and kept files too, but not without the others.
+    alone = {it.name for it in listed if not it.is_found
+             and re.sub(r"~\Z|\.kept(?=\.)", "", it.name) not in collection.names}
     for export in listed:
         try:
             data = export.read()
