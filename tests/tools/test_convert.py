@@ -392,7 +392,8 @@ class Kept(Case):
                 (f"; First\n; by NAME\n{ONE}", "First"),
                 (f";LEVEL 1\n;AUTHOR NAME\n{ONE}", "LEVEL 1"),
                 *((f"First\n{line}\n{ONE}", "First") for line in (
-                    "```xsb", "<pre>", "{{{", "------", "____", "[/spoiler]",
+                    "```xsb", "<pre>", "<!DOCTYPE html>", '<?xml version="1.0"?>',
+                    "<!-- Page 1 -->", "{{{", "------", "____", "[/spoiler]",
                     "\u89e3\u7b54\uff1aR")),
                 (f"{ONE}Title: First\n\nLevel: 2\n", "First"),
                 (f"{ONE}- title: First\n", "First"), (f"First\nAuthor: NAME\n{ONE}", "First")):

@@ -37,10 +37,11 @@ _BY = re.compile(rb"[-*>;#\s]*(?:" + "|".join((
     "\u0410\u0432\u0442\u043e\u0440", "\u4f5c\u8005")).encode() + rb")" + _EQUALS +
     rb"[ \t]*(.*)", re.I | re.S)
 _KEY = re.compile(rb"[-*>;#\s]*[A-Za-z\x80-\xff-]+" + _COLON)
-_TAGS = re.compile(rb"(?:</?[A-Za-z][^<>]*>|\[/?[A-Za-z]+(?:=[^\]]*)?\]|```.*|~~~.*"
+_TAG = rb"<(?:[/?]|!(?:--\s*)?)?[A-Za-z][^<>]*>"
+_TAGS = re.compile(rb"(?:" + _TAG + rb"|\[/?[A-Za-z]+(?:=[^\]]*)?\]|```.*|~~~.*"
                    rb"|[^A-Za-z0-9\x80-\xff])*", re.S)
 # tags, and the mark of a heading
-_MARKS = re.compile(rb"</?[A-Za-z][^<>]*>|\A#+[ \t]+")
+_MARKS = re.compile(_TAG + rb"|\A#+[ \t]+")
 _AUTHOR = re.compile(rb"(?:by|author)\b", re.I)
 _LETTERS = re.compile(rb"[lurdLURD0-9() \t]*")
 _DIGITS = re.compile(rb"[0-9 \t]*")
