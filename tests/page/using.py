@@ -365,6 +365,18 @@ def fields(check: Comparison, tab: Tab) -> None:
                             f"{letters}\nend\n")
         check.same(f"pasted levels and answers with {letters}", "level 1 solved",
                    tab.text("lines")[:14])
+    tab.paste("levels", f"{LEVEL}{LETTERS}\n")
+    check.same("other levels pasted in their place", LINE, tab.text("lines")[:len(LINE)])
+    both = f"{LEVEL}\n{ANSWERS}"
+    tab.paste("levels", both)
+    write("corner.xsb", f"{CORNER}Solution\nlurd\n")
+    tab.give("corner.xsb")
+    check.same("other levels in a file", "level 1 refused move 2 blocked",
+               tab.text("lines").splitlines()[0])
+    tab.click("#levels-file button")
+    tab.ask("audit()")
+    check.same("the pasted ones once that is removed", [both, LINE], [
+        tab.ask("$('levels').value + $('answers').value"), tab.text("lines")[:len(LINE)]])
     tab.fresh()
     tab.ask("$('levels').focus(); 0")
     tab.paste("levels", LEVEL + "Solution\n" + LETTERS)

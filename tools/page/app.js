@@ -43,6 +43,9 @@ function put(kind, file, words = file && `${file.name}, ${many(file.size, "byte"
 function remove() {
     pairs = [];
     for (const kind in inputs) put(kind, null);
+    if (!areOfLevels()) return;
+    inputs.levels.field.value += moved;
+    inputs.answers.field.value = "";
 }
 
 function clear() {
@@ -98,7 +101,7 @@ function takePairs(levels, answers, lists) {
 }
 
 // moves pasted answers from the field of the levels to their own, also in place of those that were moved before
-let moved = "";
+let moved = "", isOfLevels = false;
 function moveAnswers() {
     const { levels, answers } = inputs, text = levels.field.value, before = answers.field.value;
     if (levels.file || answers.file || before.trim() && before !== moved) return;
@@ -107,9 +110,13 @@ function moveAnswers() {
     if (at < 0) return;
     answers.field.value = text.slice(at);
     moved = answers.field.value;
+    isOfLevels = at > 0;
     $("more").open = true;
     levels.field.value = text.slice(0, at);
 }
+
+// whether the field of the answers has those that were pasted with the levels
+const areOfLevels = () => isOfLevels && inputs.answers.field.value === moved;
 
 // the files of a pair, or the two texts
 function sourcesOf(pair) {
@@ -249,6 +256,10 @@ function listen() {
     for (const kind in inputs) {
         const { field, box } = inputs[kind];
         field.addEventListener("paste", () => setTimeout(audit, 0));
+        field.addEventListener("beforeinput", () => {
+            const isAll = field.value && field.selectionEnd - field.selectionStart === field.value.length;
+            if (isAll && field === inputs.levels.field && areOfLevels()) inputs.answers.field.value = "";
+        });
         field.addEventListener("input", () => $("result").classList.add("stale"));
         box.querySelector("button").addEventListener("click", () => {
             begin("");
