@@ -155,6 +155,19 @@ def several(check: Comparison, tab: Tab) -> None:
     tab.wait(f"{IDLE} && kept.names?.[0] === 'first.xsb'")
     check.same("one of several", open(f"{samples}/first.report").read(), tab.text("lines"))
     check.same("its name", totals[1].replace(" ", ": ", 1), tab.text("total"))
+    write("bad.answers", "sokoban-answers 1\nlevel 1\nunsolvable\npattern 2,2 @ *\nend\n")
+    write("bad.txt", "Nr 9\nuuuuuuuuuu\n")
+    mended = "bad.xsb total 1 solved 0 unsolvable 1 refused 0 missing 0"
+    for name in ("bad.answers", "bad.txt"):
+        tab.choose(name)
+        tab.wait(f"!$('message').hidden || {IDLE} && $('each').children.length === 3 "
+                 f"&& $('each').textContent.includes('{mended}')")
+        check.same(f"{name} dropped later", [*totals, mended], tab.ask(
+            "[...document.querySelectorAll('#each li')].map(e => e.textContent)"))
+    check.same("the list is left out beside answers", True, "bad.txt" in tab.text("notes"))
+    write("other.answers", "sokoban-answers 1\n")
+    check.same("answers of none of them", ["other.answers: no levels", 3], [
+        tab.give("other.answers")[:24], tab.ask("document.querySelectorAll('#each li').length")])
 
 
 def hostile(check: Comparison, tab: Tab) -> None:
@@ -344,6 +357,11 @@ def fields(check: Comparison, tab: Tab) -> None:
     write("list.txt", LETTERS)
     tab.give("list.txt")
     check.same("a list for typed levels", LINE, tab.text("lines")[:len(LINE)])
+    for letters, line in (("uuuuuuuuuu", 1), ("\n\nuuuuuuuuuu", 3)):
+        write("other.txt", letters)
+        tab.give("other.txt")
+        check.same(f"another list for them, {letters!r}", [LINE, [f"other.txt line {line}"]], [
+            tab.text("lines")[:len(LINE)], [it.split(":")[0] for it in tab.told()]])
     tab.ask("clear(); 0")
     tab.give("one.xsb", "plain answers.txt")
     check.same("a file that is named answers", "answers line 1 header", tab.message())

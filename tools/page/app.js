@@ -58,10 +58,12 @@ function clear() {
     inputs.levels.field.focus();
 }
 
-const hasLevels = () => Boolean(inputs.levels.file ?? inputs.levels.field.value.trim());
+const hasLevels = () => Boolean(pairs.length || (inputs.levels.file ?? inputs.levels.field.value.trim()));
 const baseOf = ({ name }) => name.replace(/\.[^.]*$/, "");
+// files with former ones, of which those with the same names are replaced
+const joinedTo = (former, files) => [...files, ...former.filter(({ name }) => !files.some(it => it.name === name))];
 
-// Takes files: levels, answers and lists of solutions, which the thread tells apart.
+// Takes files: levels, answers and lists of solutions, which the thread tells apart. Without levels they are for those that are there.
 async function take(files) {
     files = [...files];
     if (!files.length) return;
@@ -70,6 +72,11 @@ async function take(files) {
     if (said.trouble) return complain(said.trouble);
     let [levels, answers, lists] = ["levels", "answers", "list"].map(kind => files.filter((_, i) => said.kinds[i] === kind));
     if (!levels.length && lists.length && !hasLevels()) [levels, lists] = [lists.slice(0, 1), lists.slice(1)];
+    if (!levels.length && pairs.length) {
+        levels = pairs.map(it => it.levels);
+        answers = joinedTo(pairs.flatMap(it => it.answers ?? []), answers);
+        lists = joinedTo(pairs[0].lists, lists);
+    }
     if (levels.length < 2 && answers.length < 2) takePair(levels[0], answers[0], lists);
     else if (!takePairs(levels, answers, lists)) return;
     await audit();
@@ -81,6 +88,7 @@ function takePair(levels, answers, lists) {
     if (levels) put("levels", levels);
     if (lists.length) {
         const file = inputs.levels.file ?? new File([inputs.levels.field.value], "levels");
+        lists = joinedTo(inputs.levels.lists, lists);
         put("levels", file, [file, ...lists].map(({ name }) => name).join(", "));
         inputs.levels.lists = lists;
     }
