@@ -416,8 +416,15 @@ def fields(check: Comparison, tab: Tab) -> None:
     check.same("made answers stand in order", ["level 1", "level 2"],
                [it for it in tab.saved("answers").decode().splitlines() if it[:5] == "level"])
     tab.ask("$('levels').dispatchEvent(new Event('input')); 0")
-    check.same("an edited text leaves its result pale", True,
-               tab.ask("$('result').classList.contains('stale')"))
+    is_pale = "$('result').classList.contains('stale')"
+    check.same("an edited text leaves its result pale", True, tab.ask(is_pale))
+    tab.ask("make().then(() => 0)")
+    check.same("so do certificates for the former text", True, tab.ask(is_pale))
+    tab.ask("globalThis.ran = audit(); $('levels').dispatchEvent(new Event('input')); "
+            "ran.then(() => 0)")
+    check.same("and an edit while the audit runs", True, tab.ask(is_pale))
+    tab.ask("audit().then(() => 0)")
+    check.same("a new audit is of the text", False, tab.ask(is_pale))
     tab.ask("HTMLAnchorElement.prototype.click = function () { window.to = this.download; }; 0")
     for what in ("report", "answers"):
         tab.click(f"#save-{what}")

@@ -199,6 +199,7 @@ function complain(words) {
 // takes away what is shown of an earlier run
 function hide() {
     $("result").hidden = true;
+    $("result").classList.remove("stale");
     newFrame();
     tellAll([]);
 }

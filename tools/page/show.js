@@ -26,7 +26,6 @@ function show({ names, totals, notes, report, status, took, data }) {
     $("lines").textContent = report;
     $("make").disabled = !totals.missing;
     $("result").hidden = false;
-    $("result").classList.remove("stale");
     draw(totals.count === 1);
 }
 
