@@ -77,6 +77,13 @@ def viewing(check: Comparison, tab: Tab) -> None:
                tab.ask("$('page').contentDocument.querySelector('.dead').dataset.cells")
                .split()[:1])
     check.same("the key of dead squares is listed", True, "d" in tab.frame("#keys dt"))
+    moves = "$('page').contentDocument.querySelector('.counts b').textContent"
+    tab.ask("$('page').contentDocument.querySelector('#heading').focus(); 0")
+    tab.press(" ")
+    tab.wait(f"{moves} === '5'")
+    tab.press("d")
+    tab.wait("$('page').contentDocument.querySelector('#dead').ariaPressed === 'false'")
+    check.same("dead squares keep the letter while it plays", True, int(tab.ask(moves)) >= 5)
 
 
 def making(check: Comparison, tab: Tab) -> None:

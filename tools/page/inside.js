@@ -64,6 +64,8 @@
             words = fault || (places.size ? listed(board, places, "dead square", "dead squares") : "no dead square");
         }
         if (shownLevel !== level) return;
+        const at = view.play?.at ?? view.now;
+        if (at !== undefined) address.step(`#${level.number}:${at}`);
         routed = null;
         route();
         $("dead").focus();
