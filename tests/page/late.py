@@ -166,6 +166,11 @@ def around(check: Comparison, tab: Tab) -> None:
         tab.wait(f"history.state === '{state}' && $('page').contentDocument")
         check.same(f"{where} to '{state}'", bool(state), tab.ask(
             "$('page').contentDocument.querySelector('#overview').hidden"))
+    tab.ask("dispatchEvent(new Event('beforeprint')); 0")
+    check.same("the level that is shown on paper", ["Level 1", 1, 0], tab.ask(
+        "[$('printed').querySelector('h2')?.firstChild.textContent ?? '',"
+        " ...['svg.board', '.card'].map(it => $('printed').querySelectorAll(it).length)]"))
+    tab.ask("dispatchEvent(new Event('afterprint')); 0")
     tab.ask("$('page').contentWindow.go(0); 0")
     tab.wait("(scrollTo(0, document.body.scrollHeight), "
              "$('page').contentDocument.querySelector('[data-level=\"301\"]'))")

@@ -308,7 +308,7 @@ function listen() {
         if (event.key === "Enter" && (event.ctrlKey || event.metaKey)) $("audit").click();
     });
     for (const name of ["scroll", "resize"]) addEventListener(name, () => $("page").contentWindow.seen?.(), { passive: true });
-    addEventListener("beforeprint", () => $("printed").replaceChildren(...$("page").contentWindow.allCards?.() ?? []));
+    addEventListener("beforeprint", () => $("printed").replaceChildren(...$("page").contentWindow.onPaper?.() ?? []));
     addEventListener("afterprint", () => $("printed").replaceChildren());
     addEventListener("popstate", ({ state }) => $("page").contentWindow.visit?.(state ?? ""));
     takeDrops(window);

@@ -85,6 +85,8 @@
         if (isFrame) parent.history[does](to, "");
     };
     if (globalThis.shownData) Object.assign(address, { read: () => now, go: noted("pushState"), step: noted("replaceState") });
+    // what the page around prints, since a frame on paper has only what is in view
+    globalThis.onPaper = () => shownLevel ? [$("level").cloneNode(true)] : allCards();
     globalThis.visit = to => {
         now = to;
         route();
