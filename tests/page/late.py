@@ -163,7 +163,7 @@ def around(check: Comparison, tab: Tab) -> None:
         tab.opened()
     for where, state in (("back", "#1"), ("back", ""), ("forward", "#1")):
         tab.ask(f"history.{where}(); 0")
-        tab.wait(f"history.state === '{state}' && $('page').contentDocument")
+        tab.wait(f"history.state.to === '{state}' && $('page').contentDocument")
         check.same(f"{where} to '{state}'", bool(state), tab.ask(
             "$('page').contentDocument.querySelector('#overview').hidden"))
     tab.ask("dispatchEvent(new Event('beforeprint')); 0")
@@ -203,4 +203,23 @@ def around(check: Comparison, tab: Tab) -> None:
         "$('old').hidden && $('old').textContent.length > 20"))
 
 
-PARTS = (judging, late, stopped, around)
+def returning(check: Comparison, tab: Tab) -> None:
+    """The browser's Back to a level that was shown at once, and to levels of another file."""
+    tab.call("Page.resetNavigationHistory")
+    write("one.xsb", LEVEL)
+    tab.give("one.xsb")
+    tab.opened()
+    is_overview = "$('page').contentDocument.querySelector('#level').hidden"
+    tab.ask("$('page').contentWindow.go(0); 0")
+    tab.ask("history.back(); 0")
+    tab.wait("history.state.to === '#1'")
+    check.same("back to the one level", False, tab.ask(is_overview))
+    tab.opened(1)
+    tab.ask("$('page').contentWindow.go(0); 0")
+    tab.give(f"{TOP}/samples/first.xsb")
+    tab.ask("history.back(); 0")
+    tab.wait("history.state.to === '#1'")
+    check.same("back from the levels of another file", True, tab.ask(is_overview))
+
+
+PARTS = (judging, late, stopped, around, returning)

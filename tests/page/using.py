@@ -70,7 +70,7 @@ def viewing(check: Comparison, tab: Tab) -> None:
     tab.opened()
     tab.ask("$('page').focus(); 0")
     tab.press("ArrowRight", "ArrowRight")
-    tab.wait("history.state === '#1:2'")
+    tab.wait("history.state.to === '#1:2'")
     tab.press("d")
     tab.wait("$('page').contentDocument.querySelector('.dead')")
     check.same("dead squares", "2,2 3,2 2,6 3,6".split()[:1],

@@ -310,7 +310,7 @@ function listen() {
     for (const name of ["scroll", "resize"]) addEventListener(name, () => $("page").contentWindow.seen?.(), { passive: true });
     addEventListener("beforeprint", () => $("printed").replaceChildren(...$("page").contentWindow.onPaper?.() ?? []));
     addEventListener("afterprint", () => $("printed").replaceChildren());
-    addEventListener("popstate", ({ state }) => $("page").contentWindow.visit?.(state ?? ""));
+    addEventListener("popstate", ({ state }) => $("page").contentWindow.visit?.(state?.drawnAt === drawnAt ? state.to : ""));
     takeDrops(window);
 }
 

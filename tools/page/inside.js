@@ -82,7 +82,7 @@
     let now = "";
     const noted = does => to => {
         now = to;
-        if (isFrame) parent.history[does](to, "");
+        if (isFrame) parent.enter(does, to);
     };
     if (globalThis.shownData) Object.assign(address, { read: () => now, go: noted("pushState"), step: noted("replaceState") });
     // what the page around prints, since a frame on paper has only what is in view

@@ -56,6 +56,12 @@ function newFrame() {
     return frame;
 }
 
+// Enters into the history what the frame shows, and when its result was drawn: numbers of levels from before are of another one.
+let drawnAt = 0;
+function enter(does, to) {
+    history[does]({ to, drawnAt }, "");
+}
+
 // puts the viewer into a new frame, which is as high as its content
 function draw(isSingle) {
     const before = document.activeElement, frame = newFrame(), inside = fill(frame.contentWindow);
@@ -66,7 +72,8 @@ function draw(isSingle) {
     takeDrops(frame.contentWindow);
     new ResizeObserver(grow).observe(inside.body);
     grow();
-    history.replaceState("", "");
+    drawnAt = Date.now();
+    enter("replaceState", isSingle ? "#1" : "");
     // A level's page takes the focus, which stays with the user here.
     if (isSingle) frame.contentWindow.visit("#1");
     before.focus({ preventScroll: true });
