@@ -370,6 +370,18 @@ def fields(check: Comparison, tab: Tab) -> None:
         check.same(f"another list for them, {letters!r}", [LINE, [f"other.txt line {line}"]], [
             tab.text("lines")[:len(LINE)], [it.split(":")[0] for it in tab.told()]])
     tab.ask("clear(); 0")
+    check.same("a list alone", "No level is found.", tab.give("list.txt"))
+    tab.give("one.xsb")
+    check.same("a list before its levels", LINE, tab.text("lines")[:len(LINE)])
+    tab.give("two.xsb")
+    check.same("it goes with these levels", [], tab.told())
+    tab.ask("clear(); 0")
+    write("text.txt", "no level\n")
+    tab.give("text.txt")
+    tab.give("one.xsb")
+    check.same("a file without letters before levels", "level 1 missing",
+               tab.text("lines").splitlines()[0])
+    tab.ask("clear(); 0")
     tab.give("one.xsb", "plain answers.txt")
     check.same("a file that is named answers", "answers line 1 header", tab.message())
     tab.give("one.xsb", "two.xsb", "one.answers", "three.answers")

@@ -67,10 +67,14 @@ const joinedTo = (former, files) => [...files, ...former.filter(({ name }) => !f
 async function take(files) {
     files = [...files];
     if (!files.length) return;
-    const said = await ask("Reading the files", "sort", { files, hasLevels: hasLevels() });
+    // what had no level may be lists of solutions for these levels
+    const early = $("message").textContent !== NO_LEVEL ? []
+        : [inputs.levels.file, ...inputs.levels.lists].filter(it => it);
+    const said = await ask("Reading the files", "sort", { files: [...files, ...early], hasLevels: hasLevels() });
     if (!said) return;
     if (said.trouble) return complain(said.trouble);
     let [levels, answers, lists] = ["levels", "answers", "list"].map(kind => files.filter((_, i) => said.kinds[i] === kind));
+    if (levels.length) lists.push(...early.filter((_, i) => said.kinds[files.length + i] === "list"));
     if (!levels.length && lists.length && !hasLevels()) [levels, lists] = [lists.slice(0, 1), lists.slice(1)];
     if (!levels.length && pairs.length) {
         levels = pairs.map(it => it.levels);
@@ -159,7 +163,7 @@ function busy(words) {
         ticking = setInterval(tick, 1000);
     }
     $("message").hidden = true;
-    $("why").textContent = "";
+    $("message").textContent = $("why").textContent = "";
     tick();
 }
 

@@ -134,8 +134,8 @@ async function textsOf({ levels: source, lists, answers: given, names }, tell) {
     const machine = await Machine.start(), spansOf = it => machine.spans(machine.put(bytesOf(it)));
     const { text, levels: found, answers: made, isSame, taken, said } = readParts(parts, spansOf, tell);
     if (!found.length && !said.length) said.push({ place: "", words: ROW });
-    if (!found.length && !answers) throw Object.assign(new Fault("No level is found."), { said });
-    if (!found.length) return { levels, answers, names, said, notes: ["No level is found."] };
+    if (!found.length && !answers) throw Object.assign(new Fault(NO_LEVEL), { said });
+    if (!found.length) return { levels, answers, names, said, notes: [NO_LEVEL] };
     if (!answers) notes.push(`${many(taken, "solution")} found for ${many(found.length, "level")}.`);
     else if (taken) notes.push(`${LEFT_OUT}: of ${many(taken, "level")}.`);
     const own = isSame ? machine.spans(machine.put(levels)) : found;
