@@ -97,6 +97,10 @@ def forms(check: Comparison, tab: Tab) -> None:
     tab.give("whole.zip")
     check.same("certificates in an archive", ["a.answers: its certificates aren't read from here"],
                [it[:49] for it in tab.told()])
+    write("whole.xsb", f"{CORNER}\n{HEADER.decode()}level 1\nunsolvable\npattern 2,2 @ *\nend\n")
+    tab.give("whole.xsb")
+    check.same("certificates below levels", ["whole.xsb: its certificates aren't read from here"],
+               [it[:49] for it in tab.told()])
     tab.ask("clear(); 0")
     tab.paste("levels", f"{LEVEL}Solution\n{LETTERS[:-2]}lrUU\n\nSolution\n{LETTERS}\n")
     check.same("the best of two", [LINE, 1], [tab.text("lines")[:len(LINE)], sum(

@@ -217,8 +217,8 @@ function partOf(name, bytes, head, isAlone) {
     if (form) faults.push({ number: 0, words: `is ${form}, no text` });
     else if (zero >= 0) faults.push({ number: text.slice(0, zero).split("\n").length, words: "a zero byte: what comes from here on isn't read" });
     if (!form && /^(?:windows|gb|utf-32)/.test(encoding)) faults.push(note(`isn't UTF-8: read as ${encoding}`));
-    if (!isAlone && HEADER.test(text) && /^unsolvable\r?$/m.test(text)) {
-        faults.push({ number: 0, words: "its certificates aren't read from here: drop this answers file itself beside the levels" });
+    if (/^sokoban-answers/m.test(text) && /^unsolvable\r?$/m.test(text)) {
+        faults.push({ number: 0, words: "its certificates aren't read from here: drop the answers beside the levels, as a file of their own" });
     }
     const game = form ? "" : gameOf(text.slice(0, LONGEST_HEAD)), whole = game ? "" : zero < 0 ? unfilled(text) : text.slice(0, zero);
     if (game) faults.push({ number: 0, words: `is a file of ${game}, which is not read`, isNote: !isAlone });
