@@ -101,6 +101,14 @@ def forms(check: Comparison, tab: Tab) -> None:
     tab.give("whole.xsb")
     check.same("certificates below levels", ["whole.xsb: its certificates aren't read from here"],
                [it[:49] for it in tab.told()])
+    kept = {"x/my.memory": LEVEL, "x/my.xsb": f"{LEVEL}{LETTERS}\n", "x/my.xsb~": LEVEL,
+            "x/my.kept.xsb": LEVEL, "my.report": LEVEL}
+    with open("kept.zip", "wb") as file:
+        file.write(zipped({name: data.encode() for name, data in kept.items()}))
+    tab.give("kept.zip")
+    check.same("what 'sokotool check' wrote beside the levels",
+               ["total 2 solved 1", ["x/my.kept.xsb", "x/my.memory", "x/my.xsb~"]], [
+                   tab.text("total")[:16], [it.split(":")[0] for it in tab.told()]])
     tab.ask("clear(); 0")
     tab.paste("levels", f"{LEVEL}Solution\n{LETTERS[:-2]}lrUU\n\nSolution\n{LETTERS}\n")
     check.same("the best of two", [LINE, 1], [tab.text("lines")[:len(LINE)], sum(

@@ -183,14 +183,20 @@ function gameOf(text) {
 
 const FORMS = [["an archive", /^(?:PK|7z|Rar)/], ["a picture", /^(?:\x89PNG|\xff\xd8\xff|GIF8)/], ["a document", /^(?:%PDF|\{\\rtf)/]];
 const note = words => ({ number: 0, words, isNote: true });
+// a file that isn't read, for a reason
+const unread = (name, fault) => ({ name, text: "", lines: [], faults: [fault], encoding: "", isAlone: false });
 
 // The parts of a file, several if it is an archive: { name, text, lines, faults, encoding, isAlone }. The lines are there for SLC alone.
 async function partsOf(name, bytes, depth = 0, room = { left: MOST_UNPACKED }) {
     const head = textOf(bytes.subarray(0, 8));
     try {
         if (/^PK\x03\x04/.test(head) && depth < MOST_NESTED) {
-            const parts = [];
-            for (const it of await unzipped(bytes, room)) parts.push(...await partsOf(it.name, it.bytes, depth + 1, room));
+            const parts = [], files = await unzipped(bytes, room), kept = files.flatMap(it => /^(.*\.)memory$/.exec(it.name)?.[1] ?? []);
+            for (const it of files) {
+                const isCopy = kept.some(base => it.name.startsWith(base) && !/^(?:xsb|answers)$/.test(it.name.slice(base.length)));
+                parts.push(...isCopy ? [unread(it.name, note("is left out: 'sokotool check' wrote it beside the levels"))]
+                    : await partsOf(it.name, it.bytes, depth + 1, room));
+            }
             return parts;
         }
         if (/^\x1f\x8b/.test(head) && depth < MOST_NESTED) {
@@ -198,7 +204,7 @@ async function partsOf(name, bytes, depth = 0, room = { left: MOST_UNPACKED }) {
             return parts.map(it => ({ ...it, faults: [note("was unpacked"), ...it.faults] }));
         }
     } catch (error) {
-        return [{ name, text: "", lines: [], faults: [{ number: 0, words: `can't be unpacked: ${error.message}` }], encoding: "", isAlone: false }];
+        return [unread(name, { number: 0, words: `can't be unpacked: ${error.message}` })];
     }
     return [partOf(name, bytes, head, !depth)];
 }
