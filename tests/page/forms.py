@@ -90,6 +90,14 @@ def forms(check: Comparison, tab: Tab) -> None:
             file.write(data)
         tab.give(name, "mark.answers")
         check.same(f"{name} beside answers", f"{left_out}of 1 level.", tab.text("notes"))
+    with open("mac.xsb", "wb") as file:
+        file.write(LEVEL.replace("\n", "\r").encode())
+    check.same("rows of an old Mac beside answers", ["", LINE], [
+        tab.give("mac.xsb", "mark.answers"), tab.text("lines")[:len(LINE)]])
+    write("walls.xsb", f"{'#' * 60000}x\n{LEVEL}")
+    began, _ = tab.ask("performance.now()"), tab.give("walls.xsb", "mark.answers")
+    check.same("a long line of walls beside answers", ["total 1 solved 1", True], [
+        tab.text("total")[:16], tab.ask("performance.now()") - began < 10000])
     with open("whole.zip", "wb") as file:
         file.write(zipped({"a.xsb": CORNER.encode(),
                            "a.answers": HEADER + b"level 1\nunsolvable\npattern 2,2 @ *\nend\n"}))

@@ -2,7 +2,7 @@
 
 const FAULT = 2, REPORT_ROOM = 1 << 20, MADE_ROOM = 1 << 22, MAP_ROOM = 1 << 17, SAID_EVERY = 200, MOST_LINES = 1 << 21;
 const NO_MEMORY = 1, KINDS = ["", "solution", "unsolvable"], OUTCOME = 9, LINE = 13, RECORD = 7, MOST_LEVELS = 10000;
-const HEADER = /^(?:\xef\xbb\xbf)?sokoban-answers/, HAS_ROW = /^(?:\xef\xbb\xbf)?[-#@+$*._ ]*#[-#@+$*._ ]*\r?$/m;
+const HEADER = /^(?:\xef\xbb\xbf)?sokoban-answers/, HAS_ROW = /(?:^(?:\xef\xbb\xbf)?|\n)[-@+$*._ ]*#[-#@+$*._ ]*(?:\r?\n|$)/;
 const LEFT_OUT = "The solutions beside the levels are left out, since there are answers", NO_ANSWERS = "sokoban-answers 1\n", ROW = "A row has a wall # and no other characters than @ + $ * . - _ and blanks.";
 // the words of a verdict in numbers: why a level, a letter or a line is refused
 const WHYS = " size player box goals open letter wall blocked case syntax count board seed goals".split(" ");
