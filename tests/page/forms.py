@@ -82,6 +82,11 @@ def forms(check: Comparison, tab: Tab) -> None:
     write("both.xsb", f"{LEVEL}Title: dull\n\n{LEVEL}\nSolution\n{LETTERS}\n\n{LETTERS}\n")
     tab.give("both.xsb", "mark.answers")
     check.same("solutions beside answers", f"{left_out}lines 18, 21.", tab.text("notes"))
+    coded = "4#|#-.#|#--3#|#*@2-#|#2-$-#|#--3#|4#"
+    write("coded.xsb", f"{LEVEL}; ## text\n\n{coded}\n{coded}\n\n####\t\n#@.#\n")
+    tab.give("coded.xsb", "mark.answers")
+    check.same("rows in other forms beside answers", "Rows in other forms than '#@ $.#' are "
+               "left out, since there are answers: lines 10, 13.", tab.text("notes"))
     tab.give("one.xsb", "sol.txt", "mark.answers")
     check.same("a list beside answers", f"{left_out}sol.txt.", tab.text("notes"))
     for name, data in (("both.zip", zipped({"both.xsb": f"{LEVEL}{LETTERS}\n".encode()})),

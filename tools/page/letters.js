@@ -108,13 +108,16 @@ function lettersIn(lines) {
     return groups.end();
 }
 
-// The first lines of solutions in a level text that is read as it is, since answers were given with it.
-function solutionLines(text) {
+// What isn't read in a level text that is read as it is, since answers were given with it: whether a line is of a solution, or a row in another form.
+const isOfSolution = line => IS_PLAIN_HEAD.test(line) || LETTERS_ALONE.test(line) && (line.length > LONGEST_LINE || packed(line).length >= LONG);
+const isOtherRow = line => !isRow(line) && rowIn(line) !== null;
+
+// The first of each run of such lines.
+function firstLines(text, isOne) {
     const found = [];
     let last = 0;
     eachLine(text, (line, number) => {
-        const areLetters = LETTERS_ALONE.test(line) && (line.length > LONGEST_LINE || packed(line).length >= LONG);
-        if (!areLetters && !IS_PLAIN_HEAD.test(line)) return;
+        if (!isOne(line)) return;
         if (number !== last + 1) found.push(number);
         last = number;
     }, 0, true);

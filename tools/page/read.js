@@ -172,7 +172,7 @@ class Reading {
             if (/[\p{L}#]/u.test(isUsed ? words.replace(AMONG_WORDS, "") : words)) numbers.get(part).push(number);
         }
         for (const [part, some] of numbers) {
-            const place = `${this.parts.length > 1 ? `${part.name} ` : ""}line${some.length > 1 ? "s" : ""} ${few(some)}`;
+            const place = `${this.parts.length > 1 ? `${part.name} ` : ""}${fewOf("line", some)}`;
             if (some.length) this.said.push({ place, words: "what is beside the rows is read as text", isNote: true });
         }
     }

@@ -43,6 +43,7 @@ function eachLine(text, does, at = 0, areBlanksJoined = false) {
 
 const many = (number, one) => `${number} ${one}${number === 1 ? "" : "s"}`;
 const few = numbers => numbers.slice(0, 12).join(", ") + (numbers.length > 12 ? ", .." : "");
+const fewOf = (one, numbers) => `${one}${numbers.length > 1 ? "s" : ""} ${few(numbers)}`;
 
 function linesOf(text) {
     const lines = [];

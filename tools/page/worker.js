@@ -3,7 +3,7 @@
 const FAULT = 2, REPORT_ROOM = 1 << 20, MADE_ROOM = 1 << 22, MAP_ROOM = 1 << 17, SAID_EVERY = 200, MOST_LINES = 1 << 21;
 const NO_MEMORY = 1, KINDS = ["", "solution", "unsolvable"], OUTCOME = 9, LINE = 13, RECORD = 7, MOST_LEVELS = 10000;
 const HEADER = /^(?:\xef\xbb\xbf)?sokoban-answers/, HAS_ROW = /(?:^(?:\xef\xbb\xbf)?|\n)[-@+$*._ ]*#[-#@+$*._ ]*(?:\r?\n|$)/;
-const LEFT_OUT = "The solutions beside the levels are left out, since there are answers", NO_ANSWERS = "sokoban-answers 1\n", ROW = "A row has a wall # and no other characters than @ + $ * . - _ and blanks.";
+const SINCE = "are left out, since there are answers", LEFT_OUT = `The solutions beside the levels ${SINCE}`, NO_ANSWERS = "sokoban-answers 1\n", ROW = "A row has a wall # and no other characters than @ + $ * . - _ and blanks.";
 // the words of a verdict in numbers: why a level, a letter or a line is refused
 const WHYS = " size player box goals open letter wall blocked case syntax count board seed goals".split(" ");
 // the module, how long the program ran in this task, and the most memory that it took
@@ -119,13 +119,15 @@ async function textsOf({ levels: source, lists, answers: given, names }, tell) {
     const levels = await bytesIn(source), answers = given && unmarked(await bytesIn(given)), notes = [];
     const asTheyAre = { levels, answers: answers ?? bytesOf(NO_ANSWERS), names, notes, said: [] };
     if (levels.length > MOST_BYTES) return asTheyAre;
+    const isLong = linesIn(levels) > MOST_LINES;
     if (answers && HAS_ROW.test(textOf(levels))) {
-        const lines = solutionLines(textOf(levels));
-        if (lines.length) notes.push(`${LEFT_OUT}: line${lines.length > 1 ? "s" : ""} ${few(lines)}.`);
+        const lines = firstLines(textOf(levels), isOfSolution), rows = isLong ? [] : firstLines(textOf(levels), isOtherRow);
+        if (lines.length) notes.push(`${LEFT_OUT}: ${fewOf("line", lines)}.`);
+        if (rows.length) notes.push(`Rows in other forms than '#@ $.#' ${SINCE}: ${fewOf("line", rows)}.`);
         if (lists.length) notes.push(`${LEFT_OUT}: ${lists.map(({ name }) => name).join(", ")}.`);
         return asTheyAre;
     }
-    if (linesIn(levels) > MOST_LINES) {
+    if (isLong) {
         notes.push(`The levels have more than ${MOST_LINES} lines, so they are read as plain rows, and no solution is looked for.`);
         return asTheyAre;
     }
@@ -180,7 +182,7 @@ const tasks = {
         const machine = await Machine.start(), { bytes } = machine.text("make", machine.put(levels), MADE_ROOM);
         const found = slices.flatMap(it => it.found), records = it => machine.records(machine.put(it), found.length);
         const { text, added, isRaised } = mergedAnswers(textOf(answers), records(answers), textOf(bytes), records(bytes));
-        const notes = [added.length ? `Certificates were made for level${added.length > 1 ? "s" : ""} ${few(added)}.`
+        const notes = [added.length ? `Certificates were made for ${fewOf("level", added)}.`
             : "No certificate was made: for the other levels without an answer, that takes a search."];
         if (isRaised) notes.push("The answers begin with 'sokoban-answers 2' now, since a made one is a zone: zones of other records count too.");
         return audited({ levels, answers: bytesOf(text), names, found, notes, said }, tell);
