@@ -12,7 +12,7 @@ from sokotool import answers, levels
 
 from tests.page.comparing import HEADER, Comparison
 from tests.page.driving import Tab
-from tests.page.using import ANSWERS, CORNER, LETTERS, LEVEL, LINE
+from tests.page.using import ANSWERS, CORNER, LEFT_OUT, LETTERS, LEVEL, LINE
 from tests.runner import TOP, encode, read, run, write
 from tests.tools.exports import ALL, ALPHA, BETA
 from tests.tools.test_exports import made_by, plain
@@ -65,10 +65,10 @@ def forms(check: Comparison, tab: Tab) -> None:
     tab.ask("clear(); 0")
     tab.give("more.xsb", "sol.txt")
     check.same("a list in a second file", "level 2 solved", tab.text("lines").splitlines()[1][:14])
-    write("sol.txt", f"2) {LETTERS.lower()}\n\n3) uuuuuuuuuuuu\n")
+    write("sol.txt", f"######\n2) {LETTERS.lower()}\n######\n\n3) uuuuuuuuuuuu\n")
     tab.give("more.xsb", "sol.txt")
-    check.same("a line of it that solves nothing", ["sol.txt line 3"], [
-        it.split(":")[0] for it in tab.told()])
+    check.same("lines of it that solve nothing", [f"sol.txt line {it}" for it in (1, 3, 5)],
+               sorted(it.split(":")[0] for it in tab.told()))
     write("mark.answers", f"\ufeff{ANSWERS}")
     write("one.xsb", LEVEL)
     tab.give("one.xsb", "mark.answers")
@@ -78,23 +78,22 @@ def forms(check: Comparison, tab: Tab) -> None:
     write("mark.answers", "\ufeff" + ANSWERS.replace("\n", remark, 1))
     check.same("answers whose first bytes end within a character", ["", LINE], [
         tab.give("one.xsb", "mark.answers"), tab.text("lines")[:len(LINE)]])
-    left_out = "The solutions beside the levels are left out, since there are answers: "
     write("both.xsb", f"{LEVEL}Title: dull\n\n{LEVEL}\nSolution\n{LETTERS}\n\n{LETTERS}\n")
     tab.give("both.xsb", "mark.answers")
-    check.same("solutions beside answers", f"{left_out}lines 18, 21.", tab.text("notes"))
+    check.same("solutions beside answers", f"{LEFT_OUT}lines 18, 21.", tab.text("notes"))
     coded = "4#|#-.#|#--3#|#*@2-#|#2-$-#|#--3#|4#"
     write("coded.xsb", f"{LEVEL}; ## text\n\n{coded}\n{coded}\n\n####\t\n#@.#\n")
     tab.give("coded.xsb", "mark.answers")
     check.same("rows in other forms beside answers", "Rows in other forms than '#@ $.#' are "
                "left out, since there are answers: lines 10, 13.", tab.text("notes"))
     tab.give("one.xsb", "sol.txt", "mark.answers")
-    check.same("a list beside answers", f"{left_out}sol.txt.", tab.text("notes"))
+    check.same("a list beside answers", f"{LEFT_OUT}sol.txt.", tab.text("notes"))
     for name, data in (("both.zip", zipped({"both.xsb": f"{LEVEL}{LETTERS}\n".encode()})),
                        ("both.gz", gzip.compress(f"{LEVEL}{LETTERS}\n".encode()))):
         with open(name, "wb") as file:
             file.write(data)
         tab.give(name, "mark.answers")
-        check.same(f"{name} beside answers", f"{left_out}of 1 level.", tab.text("notes"))
+        check.same(f"{name} beside answers", f"{LEFT_OUT}of 1 level.", tab.text("notes"))
     with open("mac.xsb", "wb") as file:
         file.write(LEVEL.replace("\n", "\r").encode())
     check.same("rows of an old Mac beside answers", ["", LINE], [

@@ -3,6 +3,7 @@ import base64
 import html
 import os
 import re
+from itertools import permutations
 from typing import Tuple
 
 from bench.measured import crowded
@@ -36,6 +37,7 @@ UNREAD = [f"line {at}: letters that solve no level: letter {why}" for at, why in
 HOSTILE = ("<img src=x onerror=\"document.title='run'\"></script>"
            "<script>document.title='run'</script>")
 NAMES = ["levels", "the solutions in it"]
+LEFT_OUT = "The solutions beside the levels are left out, since there are answers: "
 # whether the page or its frame scrolls sideways
 IS_WIDE = ("[document, $('page').contentDocument].some(it => "
            "it.documentElement.scrollWidth > it.defaultView.innerWidth)")
@@ -375,6 +377,13 @@ def fields(check: Comparison, tab: Tab) -> None:
     check.same("a list before its levels", LINE, tab.text("lines")[:len(LINE)])
     tab.give("two.xsb")
     check.same("it goes with these levels", [], tab.told())
+    for names in (*permutations(("one.xsb", "one.answers", "list.txt")),
+                  ("one.xsb", "list.txt one.answers"), ("list.txt one.answers", "one.xsb")):
+        tab.ask("clear(); 0")
+        for name in names:
+            tab.give(*name.split())
+        check.same(f"{', then '.join(names)}", [LINE, f"{LEFT_OUT}list.txt."], [
+            tab.text("lines")[:len(LINE)], tab.text("notes")])
     tab.ask("clear(); 0")
     write("text.txt", "no level\n")
     tab.give("text.txt")

@@ -67,15 +67,12 @@ const joinedTo = (former, files) => [...files, ...former.filter(({ name }) => !f
 async function take(files) {
     files = [...files];
     if (!files.length) return;
-    // what had no level may be lists of solutions for these levels
-    const early = $("message").textContent !== NO_LEVEL ? []
-        : [inputs.levels.file, ...inputs.levels.lists].filter(it => it);
-    const said = await ask("Reading the files", "sort", { files: [...files, ...early], hasLevels: hasLevels() });
+    const said = await ask("Reading the files", "sort", { files });
     if (!said) return;
     if (said.trouble) return complain(said.trouble);
     let [levels, answers, lists] = ["levels", "answers", "list"].map(kind => files.filter((_, i) => said.kinds[i] === kind));
-    if (levels.length) lists.push(...early.filter((_, i) => said.kinds[files.length + i] === "list"));
-    if (!levels.length && lists.length && !hasLevels()) [levels, lists] = [lists.slice(0, 1), lists.slice(1)];
+    // lists may come before their levels, but don't go with others
+    if (!levels.length || !hasLevels()) lists = joinedTo(inputs.levels.lists, lists);
     if (!levels.length && pairs.length) {
         levels = pairs.map(it => it.levels);
         answers = joinedTo(pairs.flatMap(it => it.answers ?? []), answers);
@@ -88,12 +85,10 @@ async function take(files) {
 
 // Takes one file of levels and one of answers, or either. New levels drop the answers of others.
 function takePair(levels, answers, lists) {
-    if (pairs.length || levels && !answers && hasLevels()) remove();
-    if (levels) put("levels", levels);
-    if (lists.length) {
-        const file = inputs.levels.file ?? new File([inputs.levels.field.value], "levels");
-        lists = joinedTo(inputs.levels.lists, lists);
-        put("levels", file, [file, ...lists].map(({ name }) => name).join(", "));
+    if (pairs.length || levels && hasLevels()) remove();
+    if (levels || lists.length) {
+        const typed = hasLevels() ? new File([inputs.levels.field.value], "levels") : null, file = levels ?? inputs.levels.file ?? typed;
+        put("levels", file, lists.length ? [file, ...lists].filter(it => it).map(({ name }) => name).join(", ") : undefined);
         inputs.levels.lists = lists;
     }
     if (answers) put("answers", answers);
@@ -132,7 +127,9 @@ const areOfLevels = () => isOfLevels && inputs.answers.field.value === moved;
 
 // the files of a pair, or the two texts
 function sourcesOf(pair) {
-    const { levels, answers, lists } = pair ?? { levels: inputs.levels.file, answers: inputs.answers.file, lists: inputs.levels.lists };
+    let { levels, answers, lists } = pair ?? { levels: inputs.levels.file, answers: inputs.answers.file, lists: inputs.levels.lists };
+    // of a list alone it is said that it has no level
+    if (!levels && !hasLevels()) [levels = null, ...lists] = lists;
     const isTyped = !pair && !answers && inputs.answers.field.value.trim();
     return { levels: levels ?? inputs.levels.field.value, answers: answers ?? (isTyped ? inputs.answers.field.value : null), lists,
         names: [levels?.name ?? "levels", answers?.name ?? "answers"] };
@@ -163,7 +160,7 @@ function busy(words) {
         ticking = setInterval(tick, 1000);
     }
     $("message").hidden = true;
-    $("message").textContent = $("why").textContent = "";
+    $("why").textContent = "";
     tick();
 }
 

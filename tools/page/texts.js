@@ -2,7 +2,7 @@
 // what counts: that is the report, and a level that is opened is judged once more from what is drawn. A text is a string with one character
 // for each byte, and a span of it is { at, end }.
 
-const MOST_BYTES = 33554432, MOST_SIDE = 255, MOST_TITLE = 1000, MOST_CACHED = 100000, NO_LEVEL = "No level is found.";
+const MOST_BYTES = 33554432, MOST_SIDE = 255, MOST_TITLE = 1000, MOST_CACHED = 100000;
 
 function textOf(bytes) {
     const parts = [];

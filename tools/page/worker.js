@@ -3,7 +3,7 @@
 const FAULT = 2, REPORT_ROOM = 1 << 20, MADE_ROOM = 1 << 22, MAP_ROOM = 1 << 17, SAID_EVERY = 200, MOST_LINES = 1 << 21;
 const NO_MEMORY = 1, KINDS = ["", "solution", "unsolvable"], OUTCOME = 9, LINE = 13, RECORD = 7, MOST_LEVELS = 10000;
 const HEADER = /^(?:\xef\xbb\xbf)?sokoban-answers/, HAS_ROW = /(?:^(?:\xef\xbb\xbf)?|\n)[-@+$*._ ]*#[-#@+$*._ ]*(?:\r?\n|$)/;
-const SINCE = "are left out, since there are answers", LEFT_OUT = `The solutions beside the levels ${SINCE}`, NO_ANSWERS = "sokoban-answers 1\n", ROW = "A row has a wall # and no other characters than @ + $ * . - _ and blanks.";
+const SINCE = "are left out, since there are answers", LEFT_OUT = `The solutions beside the levels ${SINCE}`, NO_ANSWERS = "sokoban-answers 1\n", NO_LEVEL = "No level is found.", ROW = "A row has a wall # and no other characters than @ + $ * . - _ and blanks.";
 // the words of a verdict in numbers: why a level, a letter or a line is refused
 const WHYS = " size player box goals open letter wall blocked case syntax count board seed goals".split(" ");
 // the module, how long the program ran in this task, and the most memory that it took
@@ -107,7 +107,10 @@ function unmarked(bytes) {
 
 // Whether a file has letters and no level.
 async function isList(file) {
-    const parts = await partsOf(file.name, await bytesIn(file));
+    const bytes = await bytesIn(file);
+    // a row that isn't a line of walls, which would part solutions
+    if (/(?:^|\n)[-_ ]*#[-#_ ]*[@+$*.][-#@+$*._ ]*(?:\r?\n|$)/.test(textOf(bytes))) return false;
+    const parts = await partsOf(file.name, bytes);
     parts.forEach(findRows);
     return !parts.some(({ lines }) => lines.some(({ row }) => row)) && parts.some(({ lines }) => lettersIn(lines).length);
 }
@@ -162,15 +165,15 @@ const tasks = {
         module = await WebAssembly.compile(bytesOf(atob(wasm)));
         return {};
     },
-    // Tells files apart: answers by their first line or else by their names, and lists of letters if there are levels too.
-    async sort({ files, hasLevels }) {
+    // Tells files apart: answers by their first line or else by their names, and lists of letters.
+    async sort({ files }) {
         const kinds = [];
-        for (const file of files) kinds.push(HEADER.test(readBytes(await bytesIn(file, 256)).text) ? "answers" : "levels");
+        for (const file of files) {
+            const isAnswers = HEADER.test(readBytes(await bytesIn(file, 256)).text);
+            kinds.push(isAnswers ? "answers" : await isList(file) ? "list" : "levels");
+        }
         const named = files.findIndex(({ name }) => /answers/i.test(name));
         if (files.length === 2 && !kinds.includes("answers") && named >= 0) kinds[named] = "answers";
-        const isMore = hasLevels && !kinds.includes("answers");
-        if (kinds.filter(kind => kind === "levels").length + isMore < 2) return { kinds };
-        for (const [i, file] of files.entries()) if (kinds[i] === "levels" && await isList(file)) kinds[i] = "list";
         return { kinds };
     },
     async audit(sources, tell) {
