@@ -96,6 +96,8 @@ class Eye(Page):
         shared.press("ArrowRight", "End")
         self.holds(HASH, "#1:3")
         self.assertEqual(self.all(".count b"), ["3", "1", "1"])
+        self.open("#1:-3")
+        self.assertEqual(self.all(".count b"), ["0", "0", "0"])
 
     def test_cut_title_has_a_tooltip(self) -> None:
         title = "A title that is longer than any card is wide"

@@ -141,7 +141,7 @@ class Play {
     // Plays to the state after some letters. Pauses often.
     *seek(to) {
         if (to < this.at) {
-            const state = this.kept[Math.floor(to / KEPT_EVERY)];
+            const state = this.kept[Math.max(0, Math.floor(to / KEPT_EVERY))];
             Object.assign(this, state, { boxes: new Set(state.boxes) });
         }
         while (this.at < to && this.next()) if (this.at % PAUSE_EVERY === 0) yield;

@@ -86,7 +86,7 @@ class SolutionView {
     }
     seek(to) {
         this.stop();
-        this.work.run(this.play.seek(Math.max(0, to)), () => this.shown());
+        this.work.run(this.play.seek(to), () => this.shown());
     }
     step(by) {
         this.seek(this.play.at + by);
