@@ -86,6 +86,12 @@ def viewing(check: Comparison, tab: Tab) -> None:
     tab.press("d")
     tab.wait("$('page').contentDocument.querySelector('#dead').ariaPressed === 'false'")
     check.same("dead squares keep the letter while it plays", True, int(tab.ask(moves)) >= 5)
+    tab.ask("$('page').contentWindow.showKeys(); 0")
+    tab.press("d")
+    tab.press("Escape")
+    tab.ask("new Promise(done => setTimeout(done, 300))")
+    check.same("no dead squares below the list of the keys", "false", tab.ask(
+        "$('page').contentDocument.querySelector('#dead').ariaPressed"))
 
 
 def making(check: Comparison, tab: Tab) -> None:

@@ -73,7 +73,7 @@
         if (words && !dead.has(level.board)) $("dead").textContent = `dead squares: ${words}`;
     };
     addEventListener("keydown", event => {
-        if (event.key !== "d" || event.ctrlKey || event.metaKey || event.altKey || isTaken(event)) return;
+        if (event.key !== "d" || event.ctrlKey || event.metaKey || event.altKey || $("keys").open || isTaken(event)) return;
         toggle();
     });
     if (globalThis.deadSquares) KEYS.push(["d", "in a level: show its dead squares"]);
