@@ -220,6 +220,13 @@ def returning(check: Comparison, tab: Tab) -> None:
     tab.ask("history.back(); 0")
     tab.wait("history.state.to === '#1'")
     check.same("back from the levels of another file", True, tab.ask(is_overview))
+    write("many.xsb", f"{CORNER}\n" * 300)
+    tab.give("many.xsb")
+    tab.opened(200)
+    tab.ask("$('page').contentWindow.go(0); 0")
+    check.same("the level that was left is in view", True, tab.ask(
+        "(top => top > 0 && top < innerHeight)($('page').getBoundingClientRect().top + $('page')"
+        ".contentDocument.querySelector('[data-level=\"200\"]').getBoundingClientRect().top)"))
 
 
 PARTS = (judging, late, stopped, around, returning)

@@ -103,6 +103,12 @@
     // The page around has the heading, and scrolls for this one.
     if (isFrame) {
         $("what").hidden = true;
+        // it can only scroll to a card within the frame's height
+        const comeBackPlain = comeBack;
+        comeBack = () => {
+            globalThis.grow?.();
+            comeBackPlain();
+        };
         inView = () => {
             const { top } = frameElement.getBoundingClientRect();
             return [-top, parent.innerHeight - top];

@@ -65,7 +65,7 @@ function enter(does, to) {
 // puts the viewer into a new frame, which is as high as its content
 function draw(isSingle) {
     const before = document.activeElement, frame = newFrame(), inside = fill(frame.contentWindow);
-    const grow = () => {
+    const grow = frame.contentWindow.grow = () => {
         frame.style.height = `${Math.ceil(inside.body.getBoundingClientRect().height) + 2}px`;
         inside.documentElement.style.setProperty("--tall", `${innerHeight}px`);
     };
