@@ -121,6 +121,16 @@ def forms(check: Comparison, tab: Tab) -> None:
     check.same("what 'sokotool check' wrote beside the levels",
                ["total 2 solved 1", ["x/my.kept.xsb", "x/my.memory", "x/my.xsb~"]], [
                    tab.text("total")[:16], [it.split(":")[0] for it in tab.told()]])
+    for name in ("my.memory", "my.xsb", "my.xsb~", "my.answers~", "my.report"):
+        write(name, f"{LEVEL}{LETTERS}\n")
+    write("my.answers", ANSWERS)
+    tab.give("my.answers~", "my.memory", "my.xsb", "my.xsb~", "my.answers", "my.report")
+    check.same("the same as files", ["total 1 solved 1", True, True], [
+        tab.text("total")[:16], tab.ask("$('each').hidden"),
+        "my.answers~, my.memory, my.xsb~, my.report" in tab.text("notes")])
+    tab.ask("clear(); 0")
+    tab.give("my.memory")
+    check.same("a memory alone", "total 1 solved 1", tab.text("total")[:16])
     tab.ask("clear(); 0")
     tab.paste("levels", f"{LEVEL}Solution\n{LETTERS[:-2]}lrUU\n\nSolution\n{LETTERS}\n")
     check.same("the best of two", [LINE, 1], [tab.text("lines")[:len(LINE)], sum(

@@ -65,7 +65,8 @@ const joinedTo = (former, files) => [...files, ...former.filter(({ name }) => !f
 
 // Takes files: levels, answers and lists of solutions, which the thread tells apart. Without levels they are for those that are there.
 async function take(files) {
-    files = [...files];
+    const copies = copiesIn([...files].map(({ name }) => name));
+    files = [...files].filter(({ name }) => !copies.includes(name));
     if (!files.length) return;
     const said = await ask("Reading the files", "sort", { files });
     if (!said) return;
@@ -81,6 +82,7 @@ async function take(files) {
     if (levels.length < 2 && answers.length < 2) takePair(levels[0], answers[0], lists);
     else if (!takePairs(levels, answers, lists)) return;
     await audit();
+    if (copies.length) $("notes").append(` Left out, since 'sokotool check' wrote them beside the levels: ${few(copies)}.`);
 }
 
 // Takes one file of levels and one of answers, or either. New levels drop the answers of others.

@@ -191,10 +191,9 @@ async function partsOf(name, bytes, depth = 0, room = { left: MOST_UNPACKED }) {
     const head = textOf(bytes.subarray(0, 8));
     try {
         if (/^PK\x03\x04/.test(head) && depth < MOST_NESTED) {
-            const parts = [], files = await unzipped(bytes, room), kept = files.flatMap(it => /^(.*\.)memory$/.exec(it.name)?.[1] ?? []);
+            const parts = [], files = await unzipped(bytes, room), copies = copiesIn(files.map(it => it.name));
             for (const it of files) {
-                const isCopy = kept.some(base => it.name.startsWith(base) && !/^(?:xsb|answers)$/.test(it.name.slice(base.length)));
-                parts.push(...isCopy ? [unread(it.name, note("is left out: 'sokotool check' wrote it beside the levels"))]
+                parts.push(...copies.includes(it.name) ? [unread(it.name, note("is left out: 'sokotool check' wrote it beside the levels"))]
                     : await partsOf(it.name, it.bytes, depth + 1, room));
             }
             return parts;

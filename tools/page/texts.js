@@ -45,6 +45,12 @@ const many = (number, one) => `${number} ${one}${number === 1 ? "" : "s"}`;
 const few = numbers => numbers.slice(0, 12).join(", ") + (numbers.length > 12 ? ", .." : "");
 const fewOf = (one, numbers) => `${one}${numbers.length > 1 ? "s" : ""} ${few(numbers)}`;
 
+// The names of files that `sokotool check` wrote beside a collection and its answers. Its memory shows that it did.
+function copiesIn(names) {
+    const kept = names.flatMap(it => /^(.*\.)memory$/.exec(it)?.[1] ?? []).filter(it => names.includes(`${it}xsb`));
+    return names.filter(it => kept.some(base => it.startsWith(base) && !/^(?:xsb|answers)$/.test(it.slice(base.length))));
+}
+
 function linesOf(text) {
     const lines = [];
     eachLine(text, line => lines.push(line));
