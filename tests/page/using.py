@@ -390,6 +390,10 @@ def fields(check: Comparison, tab: Tab) -> None:
             tab.give(*name.split())
         check.same(f"{', then '.join(names)}", [LINE, f"{LEFT_OUT}list.txt."], [
             tab.text("lines")[:len(LINE)], tab.text("notes")])
+    tab.give("two.xsb")
+    write("two.xsb", LETTERS)
+    check.same("a file of the same name is no list", "No level is found.", tab.give("two.xsb"))
+    write("two.xsb", CORNER)
     tab.ask("clear(); 0")
     write("text.txt", "no level\n")
     tab.give("text.txt")

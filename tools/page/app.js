@@ -60,9 +60,6 @@ function clear() {
 
 const hasLevels = () => Boolean(pairs.length || (inputs.levels.file ?? inputs.levels.field.value.trim()));
 const baseOf = ({ name }) => name.replace(/\.[^.]*$/, "");
-// files with former ones, of which those with the same names are replaced
-const joinedTo = (former, files) => [...files, ...former.filter(({ name }) => !files.some(it => it.name === name))];
-
 // Takes files: levels, answers and lists of solutions, which the thread tells apart. Without levels they are for those that are there.
 async function take(files) {
     const copies = copiesIn([...files].map(({ name }) => name));
@@ -71,13 +68,17 @@ async function take(files) {
     const said = await ask("Reading the files", "sort", { files });
     if (!said) return;
     if (said.trouble) return complain(said.trouble);
+    // a file replaces the one of its name
+    const others = former => former.filter(({ name }) => !files.some(it => it.name === name));
+    const again = files.findIndex(it => it.name === inputs.levels.file?.name);
+    if (said.kinds[again] === "list") said.kinds[again] = "levels";
     let [levels, answers, lists] = ["levels", "answers", "list"].map(kind => files.filter((_, i) => said.kinds[i] === kind));
     // lists may come before their levels, but don't go with others
-    if (!levels.length || !hasLevels()) lists = joinedTo(inputs.levels.lists, lists);
+    if (!levels.length || !hasLevels()) lists = [...lists, ...others(inputs.levels.lists)];
     if (!levels.length && pairs.length) {
         levels = pairs.map(it => it.levels);
-        answers = joinedTo(pairs.flatMap(it => it.answers ?? []), answers);
-        lists = joinedTo(pairs[0].lists, lists);
+        answers = [...answers, ...others(pairs.flatMap(it => it.answers ?? []))];
+        lists = [...lists, ...others(pairs[0].lists)];
     }
     if (levels.length < 2 && answers.length < 2) takePair(levels[0], answers[0], lists);
     else if (!takePairs(levels, answers, lists)) return;
