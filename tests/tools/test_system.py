@@ -46,6 +46,10 @@ class System(Case):
                     **{name: "c/" + it for name, it in names.items() if it != "-"}}
             self.assertEqual(sources.published([*more]), {**more, "-": "-"})
 
+    def test_names_of_many_files(self) -> None:
+        names = [f"in/{i // 100}/{i}.txt" for i in range(4000)]
+        self.takes_less(2, lambda: sources.published(names))
+
     def checked(self, place: str) -> Dict[str, bytes]:
         """Returns the files that check writes of an export or a folder."""
         with unittest.mock.patch.dict(os.environ, SOKOAUDIT=helping.PROGRAM):

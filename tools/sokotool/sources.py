@@ -81,10 +81,11 @@ def published(names: Sequence[str]) -> Dict[str, str]:
     are on this machine. On several drives each has a common folder, and its letter comes first."""
     paths = {name: os.path.abspath(name) for name in names if name != "-"}
     drives = texts.grouped((_drive(path), os.path.dirname(path)) for path in paths.values())
+    common = {drive: os.path.commonpath(folders) for drive, folders in drives.items()}
     found = {"-": "-"}
     for name, path in paths.items():
         drive = _drive(path)
-        inner = _plain(os.path.relpath(path, os.path.commonpath(drives[drive])))
+        inner = _plain(os.path.relpath(path, common[drive]))
         found[name] = inner if len(drives) == 1 else f"{drive}/{inner}"
     return found
 
