@@ -423,6 +423,9 @@ def fields(check: Comparison, tab: Tab) -> None:
                    tab.text("lines")[:14])
     tab.paste("levels", f"{LEVEL}{LETTERS}\n")
     check.same("other levels pasted in their place", LINE, tab.text("lines")[:len(LINE)])
+    tab.paste("levels", f"{LEVEL}\nsokoban-answers 1\nlevel 1\nsolution\nl\nend\n")
+    tab.ask(f"$('levels').value += {(chr(10) + ANSWERS)!r}; audit()")
+    check.same("answers pasted below the levels once more", LINE, tab.text("lines")[:len(LINE)])
     both = f"{LEVEL}\n{ANSWERS}"
     tab.paste("levels", both)
     write("corner.xsb", f"{CORNER}Solution\nlurd\n")
