@@ -67,7 +67,7 @@ class Archives(Case):
                          ["a.zip/" + name for name in names])
 
     def test_names_that_begin_with_a_dot(self) -> None:
-        """Hidden files are left out, but not those of an archive whose names begin with './'."""
+        """Hidden files are left out, but an archive whose names begin with './' is read."""
         self.write("a.zip", self.archive("./1.txt", "./a/2.txt", "../3.txt", "./.git/4.txt",
                                          "./a/.5.txt", "__MACOSX/6.txt"))
         self.assertEqual([it.name for it in sources.listed(["a.zip"])],
