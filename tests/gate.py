@@ -33,7 +33,7 @@ PLANTED = (
 )
 RUN = f'cd {TOP} && . tests/counts && part "$@" && finish'
 BUSY = "i=0; while [ $i != 200000 ]; do i=$((i + 1)); done; "
-# parts on two processors in bash, each in a line, and the numbers that the gate prints; those of a
+# parts in two lanes in bash, each in a line, and the numbers that the gate prints; those of a
 # part that failed once more at the end. Where it runs one too early or too late, a part has none
 UNTIL = "for it in $(seq 600); do [ ! -e {} ] || break; sleep 0.1; done"
 MEETS = f"touch {{}}; {UNTIL}; {UNTIL.format('go')}; echo 1 passed, 0 failed"
@@ -94,7 +94,7 @@ def counting(cases: Cases) -> None:
 
 def at_once(cases: Cases) -> None:
     """A case for each of the runs of several parts, and one for an interrupt."""
-    source = f". {TOP}/tests/counts; processors=2"
+    source = f". {TOP}/tests/counts; lanes=2"
     for name, (lines, wanted) in AT_ONCE.items():
         os.mkdir(name)
         said = shell(f"{source}\n{lines}\nfinish", cwd=name).splitlines()
