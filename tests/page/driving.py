@@ -22,6 +22,12 @@ PLACE = """(element => {
     const box = element.getBoundingClientRect();
     return [box.x + 9, box.y + 9];
 })(document.querySelector(%s))"""
+# pastes a file into a field
+PASTE = """{
+    const data = new DataTransfer(), how = { bubbles: true, cancelable: true, clipboardData: data };
+    data.items.add(new File([%s], %s));
+    $(%s).dispatchEvent(new ClipboardEvent("paste", how));
+} 0"""
 # what the viewer reads, with all that it makes when it is asked for
 DATA = "JSON.parse(JSON.stringify(shownData))"
 
@@ -73,6 +79,13 @@ class Tab(Browser):
         self.ask(f"$('{field}').dispatchEvent(new ClipboardEvent('paste')); 0")
         self.wait(IDLE)
         return self.message()
+
+    def paste_file(self, field: str, name: str, text: str) -> bool:
+        """Pastes a file into a field, and waits for the result. Returns whether its name is shown
+        in place of the field."""
+        self.ask(f"{HIDE}; {PASTE % tuple(map(json.dumps, (text, name, field)))}")
+        self.wait(IDLE)
+        return self.text(f"{field}-file").startswith(f"{name}, ")
 
     def opened(self, number: int = 0) -> None:
         """Opens a level, if one is named, and waits until it is drawn, or isn't."""

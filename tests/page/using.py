@@ -331,6 +331,8 @@ def reaching(check: Comparison, tab: Tab) -> None:
     tab.ask("clear(); 0")
     tab.drop("#levels", "one.xsb")
     check.same("a dropped file", LINE, tab.text("lines")[:len(LINE)])
+    check.same("a pasted file", [True, "level 1 missing"], [
+        tab.paste_file("levels", "two.xsb", CORNER), tab.text("lines").splitlines()[0]])
     write("two.xsb", CORNER)
     tab.drop("#page", "two.xsb")
     check.same("a file dropped on the boards", "level 1 missing",

@@ -268,7 +268,12 @@ function listen() {
     const on = (id, does) => $(id).addEventListener("click", does);
     for (const kind in inputs) {
         const { field, box } = inputs[kind];
-        field.addEventListener("paste", () => setTimeout(audit, 0));
+        field.addEventListener("paste", event => {
+            const data = event.clipboardData, isText = !data?.files.length || data.types.includes("text/plain");
+            if (isText) return setTimeout(audit, 0);
+            event.preventDefault();
+            return take(data.files);
+        });
         field.addEventListener("beforeinput", () => {
             const isAll = field.value && field.selectionEnd - field.selectionStart === field.value.length;
             if (isAll && field === inputs.levels.field && areOfLevels()) inputs.answers.field.value = "";
