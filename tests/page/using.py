@@ -450,6 +450,10 @@ def fields(check: Comparison, tab: Tab) -> None:
     tab.wait(f"{IDLE} && $('lines').textContent.includes('level 2')")
     check.same("the example", "total 2 solved 1 unsolvable 0 refused 0 missing 1",
                tab.text("total"))
+    back = "document.execCommand('undo'), $('levels').value"
+    check.same("Ctrl and Z after it", "no level\n", tab.ask(back))
+    tab.click("#clear")
+    check.same("Ctrl and Z after Clear", "no level\n", tab.ask(back))
     tab.ask(f"clear(); $('levels').value = {(CORNER + chr(10) + LEVEL + LETTERS)!r}; dispatchEvent("
             "new KeyboardEvent('keydown', { key: 'Enter', ctrlKey: true })); 0")
     tab.wait(IDLE)

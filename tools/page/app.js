@@ -48,14 +48,23 @@ function remove() {
     inputs.answers.field.value = "";
 }
 
-function clear() {
+// Puts levels into their field. Ctrl+Z brings back what was there.
+function write(levels) {
+    const { field } = inputs.levels;
+    field.focus();
+    field.select();
+    document.execCommand(levels ? "insertText" : "delete", false, levels);
+    if (field.value !== levels) field.value = levels;
+}
+
+function clear(levels = "") {
     begin("");
     remove();
-    for (const kind in inputs) inputs[kind].field.value = "";
+    inputs.answers.field.value = "";
+    write(levels);
     $("each").hidden = $("message").hidden = true;
     $("why").textContent = "";
     hide();
-    inputs.levels.field.focus();
 }
 
 const hasLevels = () => Boolean(pairs.length || (inputs.levels.file ?? inputs.levels.field.value.trim()));
@@ -302,10 +311,9 @@ function listen() {
     on("save-answers", () => save("answers", new Blob([kept.answers])));
     on("save-page", savePage);
     on("choose", () => $("files").click());
-    on("clear", clear);
+    on("clear", () => clear());
     on("example", () => {
-        clear();
-        inputs.levels.field.value = EXAMPLE;
+        clear(EXAMPLE);
         audit();
     });
     $("files").addEventListener("change", () => {
