@@ -1,5 +1,6 @@
 // The page that audits: takes texts, and asks the program's thread.
 
+const MOST_KEPT = 100000;
 const HEADER = /^sokoban-answers/, INNER_HEADER = /\nsokoban-answers [12]\r?\n/;
 const INSTEAD = "Use another browser, or the program sokoaudit on Linux, sokoaudit.exe on Windows, or "
     + "'reference/sokoaudit audit LEVELS ANSWERS', which needs Python alone.";
@@ -48,12 +49,12 @@ function remove() {
     inputs.answers.field.value = "";
 }
 
-// Puts levels into their field. Ctrl+Z brings back what was there.
+// Puts levels into their field. Ctrl+Z brings back what was there, unless that is so long that it takes the browser seconds to keep it.
 function write(levels) {
     const { field } = inputs.levels;
     field.focus();
     field.select();
-    document.execCommand(levels ? "insertText" : "delete", false, levels);
+    if (field.value.length <= MOST_KEPT) document.execCommand(levels ? "insertText" : "delete", false, levels);
     if (field.value !== levels) field.value = levels;
 }
 
