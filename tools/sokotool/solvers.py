@@ -11,7 +11,7 @@ import shutil
 import subprocess
 import tempfile
 import time
-from typing import IO, Callable, Iterator, List, NamedTuple, Optional, Sequence, Tuple
+from typing import Callable, Iterator, List, NamedTuple, Optional, Sequence, Tuple
 
 from . import answers, solver_output, system, texts
 from .formats import exporting
@@ -62,8 +62,7 @@ class Run(Job):
 
     def __init__(self, solver: Solver, words: Sequence[str], level: Level, seconds: float) -> None:
         self.solver, self.level, self.seconds = solver, level, seconds
-        self.fault = ""
-        self.what = NOTHING
+        self.fault, self.what = "", NOTHING
         self.ended: Optional[float] = None  # when it was asked to end
         self.output = tempfile.TemporaryFile()
         self.folder = tempfile.TemporaryDirectory(prefix="sokotool-")
@@ -71,32 +70,24 @@ class Run(Job):
         with open(self.file, "wb") as file:
             file.write("".join(exporting.plain(row) + "\n" for row in level.rows).encode())
         self.began = time.monotonic()
-        self.group = self._started([word.replace(PLACE, self.file) for word in words])
-
-    def _started(self, words: Sequence[str]) -> Optional[system.Group]:
+        self.group: Optional[system.Group] = None
         try:
             with open(self.file, "rb") as given:
-                return system.Group(words, stdin=given, stdout=self.output,
-                                    stderr=subprocess.STDOUT)
+                self.group = system.Group([word.replace(PLACE, self.file) for word in words],
+                                          stdin=given, stdout=self.output, stderr=subprocess.STDOUT)
         except (OSError, ValueError) as error:
             self.what, self.fault = FAILED, f"cannot be run: {error}"
-            return None
 
     def is_over(self) -> bool:
         if self.group is None or self.group.has_ended():
             return True
         now = time.monotonic()
         if self.ended is None:
-            if now - self.began > self.seconds:
-                self._end(LATE)
-            elif os.fstat(self.output.fileno()).st_size > MOST_PRINTED:
-                self._end(LONG)
+            is_late = now - self.began > self.seconds
+            if is_late or os.fstat(self.output.fileno()).st_size > MOST_PRINTED:
+                self.what, self.ended = LATE if is_late else LONG, now
+                self.group.terminate()
         return self.ended is not None and now - self.ended > GRACE
-
-    def _end(self, what: str) -> None:
-        self.what, self.ended = what, time.monotonic()
-        if self.group:
-            self.group.terminate()
 
     def cut(self) -> Result:
         self.what, self.seconds = LATE, min(self.seconds, time.monotonic() - self.began)
@@ -106,16 +97,16 @@ class Run(Job):
         """Ends what is left of the run, removes its files, and returns the outcome."""
         if self.group:
             self.group.kill()
-        heads = [self._beginning(self.output), *self._written()]
+        self.output.seek(0)
+        heads = [self.output.read(MOST_CERTIFIED), *self._written()]
         parts = [*self._printed(heads[0]), *(head[:2 * KEPT] for head in heads[1:])]
         self.output.close()
         with contextlib.suppress(OSError, RecursionError):
             self.folder.cleanup()
         what, record, said = self._answer(parts, heads)
-        if self.fault:
+        if not self.group:
             said.append(self.fault)
-        elif self.group and self.group.process.returncode and self.ended is None:
-            code = self.group.process.returncode
+        elif (code := self.group.process.returncode) and self.ended is None:
             said.append(f"ended by signal {-code}" if code < 0 else f"ended with status {code}")
         return Result(self.level, what, record, self.seconds, self._words_of(what),
                       said if self.solver.is_told else [])
@@ -157,12 +148,7 @@ class Run(Job):
                 path = os.path.join(self.folder.name, name)
                 if path != self.file and os.path.isfile(path) and not os.path.islink(path):
                     with open(path, "rb") as file:
-                        yield self._beginning(file)
-
-    @staticmethod
-    def _beginning(file: IO[bytes]) -> bytes:
-        file.seek(0)
-        return file.read(MOST_CERTIFIED)
+                        yield file.read(MOST_CERTIFIED)
 
 
 def _shown(parts: Sequence[bytes]) -> List[str]:
