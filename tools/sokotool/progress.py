@@ -2,15 +2,14 @@
 import os
 import sys
 
-from . import system
-
 
 class Progress:
     """Messages, and on a terminal a status line, which the next message or status replaces."""
 
     def __init__(self, command: str) -> None:
         self.command = command
-        self.is_terminal = system.takes_status_lines(sys.stderr)
+        # a terminal that goes back to the start of a line
+        self.is_terminal = sys.stderr.isatty() and os.environ.get("TERM") != "dumb"
         self._shown = ""
 
     def keep(self, line: str) -> None:
@@ -24,15 +23,12 @@ class Progress:
             line = f"{self.command}: {line}"[:columns - 1]
             if line != self._shown:
                 self.clear()
-                self._put(line)
+                print(line, end="", file=sys.stderr, flush=True)
                 self._shown = line
 
     def clear(self) -> None:
         """Removes the status line. Blanks do that on every terminal."""
         if self._shown:
-            self._put("\r" + " " * len(self._shown) + "\r")
+            blanks = " " * len(self._shown)
+            print(f"\r{blanks}\r", end="", file=sys.stderr, flush=True)
             self._shown = ""
-
-    @staticmethod
-    def _put(text: str) -> None:
-        print(text, end="", file=sys.stderr, flush=True)

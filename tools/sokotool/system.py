@@ -18,12 +18,9 @@ from typing import IO, Any, Callable, List, Optional, Sequence
 
 try:
     import fcntl
-except ImportError:
-    fcntl = None  # type: ignore[assignment]
-try:
     import resource
 except ImportError:
-    resource = None  # type: ignore[assignment]
+    fcntl = resource = None  # type: ignore[assignment]
 
 IS_WINDOWS = os.sep == "\\"
 # the end of a program's name
@@ -75,11 +72,6 @@ def patiently(work: Callable[..., None], *words: str) -> None:
             if not IS_WINDOWS or time.monotonic() > end:
                 raise
             time.sleep(PATIENCE / 20)
-
-
-def takes_status_lines(stream: Any) -> bool:
-    """Returns whether a stream is a terminal that goes back to the start of a line."""
-    return stream.isatty() and os.environ.get("TERM") != "dumb"
 
 
 def words_of(command: str) -> List[str]:
