@@ -306,7 +306,7 @@ class Time(Check):
         self.assertEqual(kept.due(found, "find", 11), [*found[4:], found[1], found[0], found[3]])
         self.assertEqual(kept.due(found, "other", 1), found)
         kept.keep(found[0].digest, "find", "late", 2)
-        self.assertEqual(kept.kept[found[0].digest]["find"], ("late", 9))
+        self.assertEqual(kept[found[0].digest]["find"], ("late", 9))
 
     def test_name_that_cannot_be_written_is_noticed_first(self) -> None:
         os.mkdir("folder.report")

@@ -62,7 +62,7 @@ def text(memory: Memory) -> bytes:
                sorted(block.typed)] for block in memory.written.collection.blocks]
     data: Dict[str, Any] = {
         "levels": blocks, "places": memory.written.places, "sources": memory.written.sources,
-        "ordered": memory.written.is_ordered, "searched": memory.outcomes.kept,
+        "ordered": memory.written.is_ordered, "searched": memory.outcomes,
         "computed": memory.computed, "exports": memory.exports, "made": {**memory.made}}
     if memory.found:
         data["found"] = [[_spelled(rows), record.decode()] for rows, record in memory.found]

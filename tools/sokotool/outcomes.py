@@ -28,19 +28,17 @@ class Result(NamedTuple):
     said: Sequence[str] = ()
 
 
-class Outcomes:
+class Outcomes(Dict[str, Dict[str, Tuple[str, float]]]):
     """The outcomes of searches. A way is the name of a kind of search, such as `find`.
 
-    `kept` has the ways by the digest of a board, and for each the outcome and the seconds.
+    They are a dictionary of the ways by the digest of a board, and for each the outcome and the
+    seconds.
     """
-
-    def __init__(self, kept: Dict[str, Dict[str, Tuple[str, float]]]) -> None:
-        self.kept = kept
 
     def due(self, forms: Sequence[Form], way: str, seconds: float) -> List[Form]:
         """Returns the boards without an answer that were never searched in this way for so many
         seconds, those with the fewest seconds first."""
-        known = [(form, *self.kept.get(form.digest, {}).get(way, ("", 0.0))) for form in forms]
+        known = [(form, *self.get(form.digest, {}).get(way, ("", 0.0))) for form in forms]
         return [form for form, what, spent in sorted(known, key=lambda it: it[2])
                 if what in _ANSWERED or spent < seconds and what not in FINAL]
 
@@ -48,11 +46,11 @@ class Outcomes:
         """Remembers an outcome of a board and the seconds that the search had. That a solver can't
         be run is none."""
         if what != FAILED:
-            ways = self.kept.setdefault(digest, {})
+            ways = self.setdefault(digest, {})
             ways[way] = what, max(seconds, ways.get(way, ("", 0))[1])
 
     def join(self, others: "Outcomes") -> None:
         """Remembers other outcomes too."""
-        for digest, ways in others.kept.items():
+        for digest, ways in others.items():
             for way, outcome in ways.items():
                 self.keep(digest, way, *outcome)

@@ -1,7 +1,7 @@
 """The summary of a check, which fits a screen."""
 import sys
 from collections import Counter
-from typing import Dict, Iterator, List, Sequence
+from typing import Iterator, List, Sequence
 
 from . import auditor, changes, forms, levels, messages, own_files, report, texts
 from .outcomes import FULL, ILLEGAL, LATE, LONG, MEMORY, NOTHING, Outcomes
@@ -19,7 +19,7 @@ _OUTCOMES = {LATE: "stopped", FULL: "gave up with full tables", MEMORY: "gave up
 
 def lines(run: Run, state: State, problems: Sequence[str]) -> Iterator[str]:
     """Yields the lines of the summary. The problems are what was left out or is wrong."""
-    now, others = state.now, list(state.pool.others)
+    now = state.now
     count = {status: sum(line.status == status for line in now.lines)
              for status in ("solved", "unsolvable", "refused", "missing")}
     yield f"{run.name}: {len(now.lines)} levels, " + ", ".join(
@@ -39,12 +39,11 @@ def lines(run: Run, state: State, problems: Sequence[str]) -> Iterator[str]:
     edited = [number for number, form in enumerate(now.forms, 1)
               if number in state.merged.edited or form.key in run.edited]
     if edited:
-        yield f"edited by hand: {_levels(edited)} {changes.ranges(edited)}"
+        yield f"edited by hand: {_numbered(edited)}"
     elif run.before and not found:
         yield "nothing changed since the last time"
-    if others:
-        yield (f"with fewer pushes in {run.name}.other.answers: {_levels(others)} "
-               f"{changes.ranges(others)}")
+    if others := list(state.pool.others):
+        yield f"with fewer pushes in {run.name}.other.answers: {_numbered(others)}"
     if kept := state.left.reasons(now.forms):
         yield f"kept in {run.name}.kept.xsb: " + ", ".join(kept)
     yield from _some("twins: ", [
@@ -76,8 +75,8 @@ def searched(forms: Sequence[forms.Form], known: Outcomes, new: Outcomes) -> Lis
     """Returns a line for each way in which levels without an answer were searched by earlier runs,
     with their outcomes."""
     ways = texts.grouped((way, outcome) for form in forms
-                         for way, outcome in known.kept.get(form.digest, {}).items()
-                         if way not in new.kept.get(form.digest, {}))
+                         for way, outcome in known.get(form.digest, {}).items()
+                         if way not in new.get(form.digest, {}))
     found = []
     for way, several in sorted(ways.items()):
         words = Counter(_OUTCOMES.get(what, "an answer that is lost") for what, _ in several)
@@ -91,26 +90,26 @@ def searched(forms: Sequence[forms.Form], known: Outcomes, new: Outcomes) -> Lis
 
 def changed(found: Sequence[changes.Change]) -> Iterator[str]:
     """Yields a line for each kind of change."""
-    items: Dict[str, List[str]] = {}
-    plain: Dict[str, List[int]] = {}
-    for run in changes.runs(found):
-        first, last = run[0], run[-1]
-        if first.kind == "renumbered":
-            now, was = (changes.ranges([*range(one, other + 1)])
-                        for one, other in ((first.level, last.level), (first.was, last.was)))
-            items.setdefault(first.kind, []).append(f"{_levels(run)} {now} (formerly {was})")
-        elif first.kind in ("inserted", "solved", "unsolvable", "changed"):
-            plain.setdefault(first.kind, []).append(first.level)
+    runs = texts.grouped((run[0].kind, run) for run in changes.runs(found))
+    for kind, several in sorted(runs.items(), key=lambda it: changes.KINDS.index(it[0])):
+        if kind in ("inserted", "solved", "unsolvable", "changed"):
+            said = _numbered([run[0].level for run in several])
         else:
-            items.setdefault(first.kind, []).append(f"level {first.number} ({first.words})")
-    for kind in changes.KINDS:
-        if kind in plain:
-            yield f"{_NAMES.get(kind, kind)}: {_levels(plain[kind])} {changes.ranges(plain[kind])}"
-        if kind in items:
-            more = len(items[kind]) - MOST_ITEMS
+            more = len(several) - MOST_ITEMS
             tail = [f"and {more} more"] if more > 0 else []
-            yield f"{_NAMES.get(kind, kind)}: " + "; ".join(items[kind][:MOST_ITEMS] + tail)
+            said = "; ".join([*map(_item, several[:MOST_ITEMS]), *tail])
+        yield f"{_NAMES.get(kind, kind)}: {said}"
 
 
-def _levels(several: Sequence[object]) -> str:
-    return "level" if len(several) == 1 else "levels"
+def _item(run: Sequence[changes.Change]) -> str:
+    """Returns a run of changes in words."""
+    first = run[0]
+    if first.kind != "renumbered":
+        return f"level {first.number} ({first.words})"
+    was = changes.ranges([change.was for change in run])
+    return f"{_numbered([change.level for change in run])} (formerly {was})"
+
+
+def _numbered(numbers: Sequence[int]) -> str:
+    """Returns levels by their numbers."""
+    return ("level " if len(numbers) == 1 else "levels ") + changes.ranges(numbers)
