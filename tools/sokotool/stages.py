@@ -1,6 +1,7 @@
 """The stages of a check: the files of NAME are read, what was typed into them is merged with the
 exports, answers are taken over, and the best ones are audited."""
 import argparse
+import contextlib
 from typing import Any, List, Optional, Sequence, Set, Tuple
 
 from . import (answers, auditor, carrying, forms, kept, level_texts, levels, memory, merging,
@@ -56,14 +57,17 @@ class Run:
             for _, answer in several:
                 pool.add_computed(number, answer)
 
-    def keep(self) -> bool:
-        """Keeps what was found in NAME.memory alone. Returns whether there is anything."""
-        if finds := self.without([]):
-            files = own_files.Files(self.name, True)
-            remembered = files.memory()._replace(found=finds)
-            remembered.outcomes.join(self.outcomes)
-            files.remember(memory.text(remembered))
-        return bool(finds)
+    def keep(self) -> str:
+        """Keeps what was found in NAME.memory alone, if that can be written. Returns words that
+        say so, or "" if there is nothing."""
+        with contextlib.suppress(texts.Stop), own_files.alone(self.name, self.shown):
+            if finds := self.without([]):
+                files = own_files.Files(self.name, True)
+                remembered = files.memory()._replace(found=finds)
+                remembered.outcomes.join(self.outcomes)
+                files.remember(memory.text(remembered))
+                return ", and the next run has what was found"
+        return ""
 
 
 class State:

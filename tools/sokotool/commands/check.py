@@ -169,17 +169,8 @@ def settled(given: Run, state: Optional[State] = None) -> State:
             why, state = changed, None
             given.shown.keep(f"{changed}: reading again")
         except texts.Stop as stop:
-            raise texts.Stop(f"{stop}{kept(given)}") from None
-    raise texts.Stop(f"{why}, again and again: the files are as they were{kept(given)}")
-
-
-def kept(given: Run) -> str:
-    """Keeps what was found in NAME.memory alone, if that can be written. Returns words that say
-    so."""
-    with contextlib.suppress(texts.Stop), own_files.alone(given.name, given.shown):
-        if given.keep():
-            return ", and the next run has what was found"
-    return ""
+            raise texts.Stop(f"{stop}{given.keep()}") from None
+    raise texts.Stop(f"{why}, again and again: the files are as they were{given.keep()}")
 
 
 def compared(given: Run) -> int:
