@@ -24,18 +24,15 @@ def run(options: argparse.Namespace) -> int:
     lost = [record for record in read.records if record.level not in
             {read.records[at].level for several in found.values() for at, _ in several}]
     answers_name, new_name = map(texts.shown, (options.answers, options.new))
-    for record in lost:
-        _report(f"{answers_name} line {record.line}: no level of {new_name} has the board of level "
-                f"{record.level}")
+    said = [f"{answers_name} line {record.line}: no level of {new_name} has the board of level "
+            f"{record.level}" for record in lost]
     for number, several in sorted(found.items()):
         if len(several) > 1:
             numbers = [str(read.records[at].level) for at, _ in several]
-            _report(f"level {number} has the board of levels {', '.join(numbers)}: the record of "
-                    f"level {numbers[0]} is printed")
+            said.append(f"level {number} has the board of levels {', '.join(numbers)}: the record "
+                        f"of level {numbers[0]} is printed")
+    for line in said:
+        print(f"carry: {line}", file=sys.stderr)
     chosen = [several[0][1].record(number) for number, several in sorted(found.items())]
     output.put(answers.text(chosen, read.version))
     return int(bool(lost))
-
-
-def _report(line: str) -> None:
-    print(f"carry: {line}", file=sys.stderr)
