@@ -5,6 +5,7 @@ a level that doesn't have exactly one player or isn't closed by walls, as when a
 it."""
 import argparse
 import re
+from itertools import islice
 from typing import Iterator, List, Sequence, Tuple
 
 from .. import levels, output, texts
@@ -25,26 +26,24 @@ def arguments(parser: argparse.ArgumentParser) -> None:
 
 
 def run(options: argparse.Namespace) -> int:
-    return int(sum([_warn_of(name) for name in options.levels]) > 0)
+    return int(any([_warn_of(name) for name in options.levels]))
 
 
-def _warn_of(name: str) -> int:
-    """Prints the warnings about a file, and returns how many there are."""
+def _warn_of(name: str) -> bool:
+    """Prints the warnings about a file, and returns whether there are any."""
     data = texts.unmarked(texts.read(name))
     found: List[Warning] = []
-    count = 0
+    more = 0
     # the first warnings of each kind
     for kind in (_of_levels(data), _of_coding(data), _of_lines(texts.lines(data))):
-        for at, warning in enumerate(kind):
-            count += 1
-            if at < MOST_PRINTED:
-                found.append(warning)
+        found += islice(kind, MOST_PRINTED)
+        more += sum(1 for _ in kind)
     shown = texts.shown(name)
     said = [f"{shown} line {line}: {why}\n" for line, why in sorted(found)]
-    if count > len(found):
-        said.append(f"{shown}: {count - len(found)} more warnings\n")
+    if more:
+        said.append(f"{shown}: {more} more warnings\n")
     output.put("".join(said).encode("utf-8", "replace"))
-    return count
+    return bool(found)
 
 
 def _of_levels(data: bytes) -> Iterator[Warning]:
