@@ -26,10 +26,6 @@ PARTS = {
     "twins": "print levels with the same board as an earlier one",
 }
 COMMANDS = {**MAIN, **PARTS}
-# the commands that print their result
-PRINTING = set(COMMANDS) - {"check", "convert"}
-
-
 _PARTS = "\n".join(f"    {name:<13}{about}" for name, about in PARTS.items())
 ABOUT = ("Tools around sokoaudit for keepers of Sokoban collections. Nobody has to trust them: "
          "sokoaudit checks what they write.")
@@ -59,10 +55,9 @@ def parser_for(words: Sequence[str]) -> argparse.ArgumentParser:
         if name in words[:1]:
             module = importlib.import_module("sokotool.commands." + name)
             command.description = module.__doc__
-            command.set_defaults(run=module.run)
+            command.set_defaults(run=module.run, output=None)
             module.arguments(command)
-            command.set_defaults(output=None)
-            if name in PRINTING:
+            if name not in ("check", "convert"):  # the others print their result
                 command.add_argument("-o", "--output", metavar="FILE",
                                      help="write to this file, whole or not at all")
     return parser
