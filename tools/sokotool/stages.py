@@ -2,15 +2,15 @@
 exports, answers are taken over, and the best ones are audited."""
 import argparse
 import contextlib
-from typing import Any, List, Optional, Sequence, Set, Tuple
+from typing import List, Optional, Sequence, Set, Tuple
 
 from . import (answers, auditor, carrying, forms, kept, level_texts, levels, memory, merging,
                own_files, report, texts)
 from .auditor import Audits
 from .changes import Snapshot
+from .conversion import Conversion
 from .outcomes import Outcomes
 from .own_files import ANSWERS, KEPT_ANSWERS, KEPT_XSB, OTHER, REPORT, XSB, noted
-from .places import Origins
 from .pool import Pool, in_case
 from .progress import Progress
 
@@ -18,22 +18,21 @@ from .progress import Progress
 class Run:
     """What stays if the files of NAME are read again: what a run reads once, and what it found.
 
-    It reads the levels and the records of the exports, whence those come and what was left out of
-    them, and more answers with the names of their files. `conversion` has what NAME.memory keeps of
-    the exports, `found` has answers with the forms of their levels, `made` the boards for which
-    certificates were made, `before` the levels as they were when the run began, and `edited` the
-    boards of those that the keeper had edited when the files were written. `has_backups` is true
-    once the former files were kept, and `written` has the ends of the files that were written.
+    It reads the exports, of which it has the levels and the records, and more answers with the
+    names of their files. `found` has answers with the forms of their levels, `made` the boards for
+    which certificates were made, `before` the levels as they were when the run began, and `edited`
+    the boards of those that the keeper had edited when the files were written. `has_backups` is
+    true once the former files were kept, and `written` has the ends of the files that were written.
     """
 
-    def __init__(self, options: argparse.Namespace, shown: Progress, program: auditor.Auditor
-                 ) -> None:
+    def __init__(self, options: argparse.Namespace, shown: Progress, program: auditor.Auditor,
+                 more: Sequence[Tuple[str, answers.Answers]], conversion: Conversion) -> None:
         self.options, self.shown, self.program = options, shown, program
         self.name: str = options.name
-        self.exports, self.origins = merging.collection([]), Origins([], [])
-        self.conversion: Any = None
-        self.records: List[answers.Record] = []
-        self.more: List[Tuple[str, answers.Answers]] = []
+        self.more, self.conversion = more, conversion
+        text, *exported = conversion.files
+        self.exports = merging.collection(level_texts.read(text))
+        self.records = [record for it in exported for record in answers.read(it).records]
         self.outcomes = Outcomes({})
         self.found: List[Tuple[forms.Form, answers.Answer]] = []
         self.made: Set[forms.Key] = set()

@@ -27,7 +27,7 @@ def lines(run: Run, state: State, problems: Sequence[str]) -> Iterator[str]:
     if run.program.is_reference and not auditor.is_quiet():
         yield auditor.REFERENCE_NOTE
     yield from _some("problem: ", problems, MOST_PROBLEMS)
-    sources = run.origins.sources(state.merged.written.places)
+    sources = run.conversion.origins.sources(state.merged.written.places)
     places = {number: str(place) for number, (place, _) in sources.items()}
     yield from _some("no answer: ", [
         (places.get(level.number) or f"{texts.shown(run.name)}.xsb line {level.line}") + ": "

@@ -18,8 +18,8 @@ import math
 import os
 from typing import Dict, List, Optional, Sequence, Tuple
 
-from .. import (answers, auditor, forms, level_texts, memory, merging, output, own_files, places,
-                sheet, sources, summary, system, texts, transaction)
+from .. import (answers, auditor, forms, memory, output, own_files, places, sheet, sources, summary,
+                system, texts, transaction)
 from ..builder import BOTH, MOVES, PUSHES, Collection
 from ..conversion import Conversion, Reading, code
 from ..outcomes import Result
@@ -87,50 +87,41 @@ def gathered(options: argparse.Namespace) -> Run:
         solvers.words_of(options.solver)
     if not options.best:
         options.best = BOTH if os.path.exists(options.name + OTHER) else MOVES
-    given = Run(options, Progress("check"), auditor.find())
+    shown, program = Progress("check"), auditor.find()
     if options.solver and not system.ENDS_CHILDREN:
-        given.shown.keep("this system ends the solver alone: what it starts may go on")
+        shown.keep("this system ends the solver alone: what it starts may go on")
     for end in () if options.compare else (*own_files.ENDS, *[SHEET] * options.csv, MEMORY):
         output.check_writable(options.name + end)
-    given.more = [(name, answers.read_file(name, rising=False)) for name in options.answers]
-    read_exports(given)
-    return given
+    more = [(name, answers.read_file(name, rising=False)) for name in options.answers]
+    return Run(options, shown, program, more, exports_of(options, shown))
 
 
-def read_exports(given: Run) -> None:
+def exports_of(options: argparse.Namespace, shown: Progress) -> Conversion:
     """Reads the exports, without the files of NAME. Those that didn't change since the last check
     aren't converted again."""
-    given.shown.show("reading")
-    options = given.options
-    is_own = own_files.own(given.name)
+    shown.show("reading")
+    is_own = own_files.own(options.name)
     named = [name for name in options.exports if os.path.isdir(name) or not is_own(name)]
     if not named:
         raise texts.Stop(f"would write over {texts.shown(options.exports[0])}: choose another "
                          "NAME, such as checked")
     reading = Reading(sources.listed(named, is_own), options.best, options.encoding)
-    remembered = memory.exports(own_files.bytes_of(given.name + MEMORY))
-    found = reading.remembered(remembered)
+    found = reading.remembered(memory.exports(own_files.bytes_of(options.name + MEMORY)))
     for place, why in found.notes if found else ():
-        given.shown.keep(place.said(why))
-    found = found or converted(given, reading)
-    given.conversion = found.data()
-    text, exported, others = found.files
-    given.exports = merging.collection(level_texts.read(text))
-    given.origins = found.origins
-    given.records = [record for it in (exported, others) for record in answers.read(it).records]
+        shown.keep(place.said(why))
+    return found or converted(options, shown, reading)
 
 
-def converted(given: Run, reading: Reading) -> Conversion:
+def converted(options: argparse.Namespace, shown: Progress, reading: Reading) -> Conversion:
     # loads all forms of exports
     from . import convert
-    options = given.options
     problems: List[places.Problem] = []
     notes: List[places.Problem] = []
 
     def say(place: places.Place, why: str, is_fault: bool) -> None:
         (problems if is_fault else notes).append((place, why))
         if not is_fault:
-            given.shown.keep(place.said(why))
+            shown.keep(place.said(why))
 
     collection = Collection(options.best, False, options.encoding or "", say, "")
     convert.read_files(collection, reading.listed)
@@ -138,10 +129,10 @@ def converted(given: Run, reading: Reading) -> Conversion:
         whole = " ".join(options.exports)
         quotes = f"; put a name with blanks into quotes: '{texts.shown(whole)}'"
         for place, why in problems:
-            given.shown.keep(place.said(why))
+            shown.keep(place.said(why))
         raise texts.Stop("these files have no level" + quotes * (
             len(options.exports) > 1 and os.path.exists(whole)))
-    files = [*(data for _, data in collection.files(given.name)), collection.other_answers()]
+    files = [*(data for _, data in collection.files(options.name)), collection.other_answers()]
     return Conversion(reading.digest(), files, places.Origins(collection.origins, problems), notes)
 
 
@@ -195,28 +186,29 @@ def contents(given: Run, state: State) -> Dict[str, Optional[bytes]]:
                                        found=given.without(state.now.forms))
     kept_text, kept_answers = state.left.files()
     other = noted(given.program, state.pool.other_answers())
-    own = texts.shown(os.path.basename(given.name)) + XSB
+    names = page_names(given)
+    origins = given.conversion.origins.sources(state.merged.written.places)
     sources: Dict[int, page.Source] = {
         number: {"file": texts.shown(place.published), "line": place.line, "left": left}
-        for number, (place, left) in given.origins.sources(state.merged.written.places).items()}
+        for number, (place, left) in origins.items()}
     table = {SHEET: sheet.text([
         (level, line, it["file"], it["line"])
         for level, line in zip(state.now.levels, state.now.lines)
-        for it in [sources.get(level.number, {"file": own, "line": level.line})]
+        for it in [sources.get(level.number, {"file": names[0], "line": level.line})]
     ])} if given.options.csv else {}
     files = [state.text, state.answers, state.report]
     made_of = texts.digest(b"\n".join([ascii([
-        code(), page.skeleton(), page_names(given), sources]).encode(), *files]))
+        code(), page.skeleton(), names, sources]).encode(), *files]))
     made = state.files.now.get(PAGE) or b""
     if state.memory.made.get(PAGE) != f"{made_of} {texts.digest(made)}":
-        made, fault = page.written(files, page_names(given), sources=sources)
+        made, fault = page.written(files, names, sources=sources)
         if fault:
             raise texts.Stop(f"the report isn't of these levels and answers: {fault}")
     if not given.options.compare:
         digests = {PAGE: f"{made_of} {texts.digest(made)}", OTHER: texts.digest(other)}
         if all(state.now.lines[number - 1].is_answered for number in state.pool.chosen):
             digests[ANSWERS] = texts.digest(state.answers)
-        remembered = remembered._replace(exports=given.conversion, made=digests)
+        remembered = remembered._replace(exports=given.conversion.data(), made=digests)
     return {KEPT_XSB: kept_text, KEPT_ANSWERS: kept_answers, XSB: state.text,
             ANSWERS: state.answers, REPORT: state.report,
             OTHER: other if given.options.best == BOTH else None, PAGE: made, **table,
@@ -251,7 +243,7 @@ def searched(given: Run, state: State) -> State:
 
 def report(given: Run, state: State) -> int:
     """Prints the summary, and returns the status."""
-    problems = given.origins.messages(places.numbers_of(state.merged.written.places))
+    problems = given.conversion.origins.messages(places.numbers_of(state.merged.written.places))
     problems += state.pool.left_out()
     given.shown.clear()
     for line in problems if len(problems) > summary.MOST_PROBLEMS else ():
