@@ -28,6 +28,10 @@ KEPT, MOST_CERTIFIED = 1 << 20, 1 << 24
 MOST_SAID = 100
 # the bytes after which a solver is ended
 MOST_PRINTED = 250_000_000
+# the outcomes in words, with the seconds
+_WORDS = {SOLVED: "found a solution", REFUTED: "found a certificate", NOTHING: "found nothing",
+          LATE: "was stopped after {:.3g} s", FAILED: "cannot be run",
+          LONG: f"was stopped after {MOST_PRINTED // 1_000_000} megabytes of output"}
 # the seconds from SIGTERM to SIGKILL
 GRACE = 1.0
 _BEAT = 0.02
@@ -108,16 +112,9 @@ class Run(Job):
             said.append(self.fault)
         elif (code := self.group.process.returncode) and self.ended is None:
             said.append(f"ended by signal {-code}" if code < 0 else f"ended with status {code}")
-        return Result(self.level, what, record, self.seconds, self._words_of(what),
+        words = "the solver " + _WORDS[what].format(self.seconds)
+        return Result(self.level, what, record, self.seconds, words,
                       said if self.solver.is_told else [])
-
-    def _words_of(self, what: str) -> str:
-        return {SOLVED: "the solver found a solution", REFUTED: "the solver found a certificate",
-                NOTHING: "the solver found nothing",
-                LATE: f"the solver was stopped after {self.seconds:.3g} s",
-                LONG: "the solver was stopped after "
-                      f"{texts.count(MOST_PRINTED // 1_000_000, 'megabyte')} of output",
-                FAILED: "the solver cannot be run"}[what]
 
     def _answer(self, parts: Sequence[bytes], heads: Sequence[bytes]
                 ) -> Tuple[str, bytes, List[str]]:
