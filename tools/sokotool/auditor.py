@@ -42,10 +42,9 @@ class Auditor(NamedTuple):
         no limit: a system can't wait for any number of seconds."""
         command = [sys.executable, "-B", self.path] if self.is_reference else [self.path]
         try:
-            ran = subprocess.run([*command, *words], stdin=subprocess.DEVNULL, check=False,
-                                 stdout=subprocess.PIPE, stderr=subprocess.PIPE,
+            ran = subprocess.run([*command, *words], stdin=subprocess.DEVNULL, capture_output=True,
                                  preexec_fn=system.memory_limit(megabytes) if megabytes else None,
-                                 timeout=seconds if seconds < 1e6 else None)
+                                 timeout=seconds if seconds < 1e6 else None, check=False)
         except subprocess.TimeoutExpired as late:
             return Ran(2, b"", f"stopped after {late.timeout:g} s")
         except OSError as error:

@@ -19,8 +19,7 @@ def text(rows: Sequence[Row]) -> bytes:
     made = io.StringIO()
     writer = csv.writer(made, lineterminator="\n")
     writer.writerow(COLUMNS)
-    for row in rows:
-        writer.writerow(map(_plain, _cells(row)))
+    writer.writerows(map(_plain, _cells(row)) for row in rows)
     return made.getvalue().encode()
 
 
