@@ -130,15 +130,12 @@ def standings(entrants: Sequence[Entrant], best: Sequence[Marks]) -> List[Row]:
         count = Counter(line.status for line in entrant.lines)
         first = [sum(name == entrant.name for _, name in marked) for marked in best]
         score = (-count["solved"] - count["unsolvable"], -first[0], -first[1])
-        numbers = [count[status] for status in STATUSES]
-        ranked.append((bool(entrant.fault), score, entrant, numbers + first))
+        numbers = [*(count[status] for status in STATUSES), *first]
+        cells = [""] * 6 if entrant.fault else [str(number) for number in numbers]
+        ranked.append((bool(entrant.fault), score, (entrant.name, *cells, entrant.fault)))
     ranked.sort(key=lambda one: one[:2])
-    found: List[Row] = []
-    for fault, score, entrant, numbers in ranked:
-        place = 1 + sum(other < score for _, other, *_ in ranked)
-        cells = [""] * 6 if fault else [str(number) for number in numbers]
-        found.append(("" if fault else str(place), entrant.name, *cells, entrant.fault))
-    return found
+    scores = [score for _, score, _ in ranked]
+    return [("" if fault else str(scores.index(score) + 1), *row) for fault, score, row in ranked]
 
 
 # ---- the page
