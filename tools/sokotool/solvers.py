@@ -103,7 +103,10 @@ class Run(Job):
             self.group.kill()
         self.output.seek(0)
         heads = [self.output.read(MOST_CERTIFIED), *self._written()]
-        parts = [*self._printed(heads[0]), *(head[:2 * KEPT] for head in heads[1:])]
+        parts = [head[:2 * KEPT] for head in heads]
+        if len(heads[0]) > 2 * KEPT:  # the beginning and the end of what was printed
+            self.output.seek(-KEPT, os.SEEK_END)
+            parts[:1] = [heads[0][:KEPT], self.output.read()]
         self.output.close()
         with contextlib.suppress(OSError, RecursionError):
             self.folder.cleanup()
@@ -129,14 +132,6 @@ class Run(Job):
                 return REFUTED, answers.certificate(self.level.number, lines), said
             said.append(f"refused: {why}")
         return self.what, b"", said
-
-    def _printed(self, head: bytes) -> List[bytes]:
-        """Returns what the solver printed, whose beginning is this, or the beginning and the end
-        of it."""
-        if len(head) <= 2 * KEPT:
-            return [head]
-        self.output.seek(-KEPT, os.SEEK_END)
-        return [head[:KEPT], self.output.read()]
 
     def _written(self) -> Iterator[bytes]:
         """Yields the beginnings of the files that the solver left beside the level."""
