@@ -1,7 +1,7 @@
 """A collection as a table for spreadsheets, in CSV: a row for each level."""
 import csv
 import io
-from typing import Any, List, Sequence, Tuple
+from typing import Any, Dict, List, Sequence
 
 from . import forms, messages, report
 from .levels import Level
@@ -10,16 +10,17 @@ COLUMNS = ("number", "title", "author", "status", "moves", "pushes", "boxes", "w
            "board", "file", "line", "reason")
 
 
-# a level, its report line, and the file and line from which it comes
-Row = Tuple[Level, report.Line, str, int]
-
-
-def text(rows: Sequence[Row]) -> bytes:
-    """Returns the table in UTF-8. No cell begins like a formula, which a spreadsheet would run."""
+def text(listed: Sequence[Level], lines: Sequence[report.Line], name: str,
+         sources: Dict[int, Dict[str, Any]]) -> bytes:
+    """Returns the table of levels and their report lines in UTF-8. No cell begins like a formula,
+    which a spreadsheet would run. `sources` has the file and the line from which a level comes, by
+    its number; by default that is its line in the file of this name."""
     made = io.StringIO()
     writer = csv.writer(made, lineterminator="\n")
     writer.writerow(COLUMNS)
-    writer.writerows(map(_plain, _cells(row)) for row in rows)
+    for level, said in zip(listed, lines):
+        source = sources.get(level.number, {"file": name, "line": level.line})
+        writer.writerow(map(_plain, _cells(level, said, source)))
     return made.getvalue().encode()
 
 
@@ -27,15 +28,14 @@ def is_begun(data: bytes) -> bool:
     return data.startswith(",".join(COLUMNS).encode() + b"\n")
 
 
-def _cells(row: Row) -> List[Any]:
-    level, said, file, line = row
+def _cells(level: Level, said: report.Line, source: Dict[str, Any]) -> List[Any]:
     drawn = b"".join(level.rows)
     counts = said.counts[:2] or ("", "")
     # the words of a refusal and their sentence
     words = " ".join(said.words) + ": " if said.status == "refused" else ""
     return [level.number, level.title, level.author, said.status, *counts,
             drawn.count(b"$") + drawn.count(b"*"), max(map(len, level.rows)), len(level.rows),
-            forms.form_of(level).digest, file, line,
+            forms.form_of(level).digest, source["file"], source["line"],
             words + messages.reason(level, said)]
 
 

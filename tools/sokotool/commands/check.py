@@ -191,11 +191,8 @@ def contents(given: Run, state: State) -> Dict[str, Optional[bytes]]:
     sources: Dict[int, page.Source] = {
         number: {"file": texts.shown(place.published), "line": place.line, "left": left}
         for number, (place, left) in origins.items()}
-    table = {SHEET: sheet.text([
-        (level, line, it["file"], it["line"])
-        for level, line in zip(state.now.levels, state.now.lines)
-        for it in [sources.get(level.number, {"file": names[0], "line": level.line})]
-    ])} if given.options.csv else {}
+    table = {SHEET: sheet.text(state.now.levels, state.now.lines, names[0], sources)
+             } if given.options.csv else {}
     files = [state.text, state.answers, state.report]
     made_of = texts.digest(b"\n".join([ascii([
         code(), page.skeleton(), names, sources]).encode(), *files]))

@@ -30,8 +30,7 @@ def run(options: argparse.Namespace) -> int:
     name = texts.shown(options.levels)
     if options.csv:
         read = report.demanded(data, options.report, options.levels, len(found), 1)
-        sys.stdout.buffer.write(sheet.text([(level, line, name, level.line)
-                                            for level, line in zip(found, read.lines)]))
+        sys.stdout.buffer.write(sheet.text(found, read.lines, name, {}))
         return 0
     for text in map(texts.shown, texts.lines(data)):
         line = report.line_of(text)
