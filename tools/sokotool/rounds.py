@@ -6,7 +6,7 @@ import math
 import time
 from collections import Counter
 from functools import partial
-from typing import Callable, Dict, List, Sequence, Tuple
+from typing import Callable, Dict, Iterator, List, Sequence, Tuple
 
 from . import auditor, texts
 from .forms import Form
@@ -135,27 +135,23 @@ class Rounds:
 # ---- all ways
 
 def ways(options: argparse.Namespace, program: auditor.Auditor, shown: Progress, known: Outcomes
-         ) -> List[Rounds]:
-    """Returns the ways to search that the options ask for."""
-    found = []
+         ) -> Iterator[Rounds]:
+    """Yields the ways to search that the options ask for."""
     if options.search > 0 and options.seconds > 0:
-        found.append(Rounds(shown, known, WAY,
-                            Limits(options.seconds, options.search, options.jobs), Searches))
+        limits = Limits(options.seconds, options.search, options.jobs)
+        yield Rounds(shown, known, WAY, limits, Searches)
     if options.solver:
         solver = Solver(options.solver, partial(auditor.refusal, program), options.verbose)
         limits = Limits(options.solver_seconds, options.solver_search, options.jobs)
-        found.append(Rounds(shown, known, f"solver {options.solver}", limits,
-                            lambda *rest: Solvers(solver, *rest)))
-    return found
+        yield Rounds(shown, known, f"solver {options.solver}", limits, partial(Solvers, solver))
 
 
 def search(several: Sequence[Rounds], unanswered: Callable[[], Sequence[Form]], take: Take) -> None:
     """Searches the levels without an answer in each way, one after the other, and says first what
     each may take. `take` gets results by the name of their way. An interrupt ends all."""
-    due = [len(way.due(unanswered())) for way in several]
     said = [f"{texts.count(count, 'level')} "
             f"{'to search' if way.name == WAY else 'for the solver'}, {way.limits.words}"
-            for count, way in zip(due, several) if count]
+            for way in several for count in [len(way.due(unanswered()))] if count]
     if said:
         several[0].shown.keep("; ".join(said))
     for way in several:

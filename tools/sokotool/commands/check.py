@@ -231,7 +231,7 @@ def searched(given: Run, state: State) -> State:
 
     # loads the search and the solvers
     from .. import rounds
-    rounds.search(rounds.ways(given.options, given.program, given.shown, known),
+    rounds.search([*rounds.ways(given.options, given.program, given.shown, known)],
                   lambda: state.unanswered(), take)
     return state
 
