@@ -16,10 +16,10 @@ from .search.refute import outcome
 # the seconds after its time limit in which a search may still shorten and write its list
 GRACE = 0.5
 _BEAT = 0.2
-# the outcomes in words
+# the outcomes in words, with the seconds
 WORDS = {FOUND: "found a certificate", SOLVABLE: "found a solution", LONG: "list too long",
          ILLEGAL: "not legal", FULL: "gave up: its tables are full",
-         MEMORY: "gave up: out of memory"}
+         MEMORY: "gave up: out of memory", LATE: "stopped after {:.3g} s"}
 
 
 class _Worker(Job):
@@ -62,8 +62,7 @@ class _Worker(Job):
     def result(self) -> Result:
         assert self._found
         what, record = self._found
-        words = f"stopped after {self.seconds:.3g} s" if what == LATE else WORDS[what]
-        return Result(self.level, what, record, self.seconds, words)
+        return Result(self.level, what, record, self.seconds, WORDS[what].format(self.seconds))
 
     def stop(self) -> None:
         self.has_ended, self.is_ready = True, False
