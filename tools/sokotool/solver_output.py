@@ -1,5 +1,6 @@
 """What a solver printed, read as the letters of a solution or as certificates."""
 import re
+from itertools import groupby
 from typing import Iterator, List, Optional, Sequence, Set, Tuple
 
 from .board import Board
@@ -39,28 +40,22 @@ def solution_in(level: Level, parts: Sequence[bytes]) -> Tuple[Optional[bytes], 
 def _texts(part: bytes) -> Iterator[str]:
     """Yields the texts of letters in an output: lines of letters joined, then each of them, and
     letters among words."""
-    block: List[str] = []
-    for line in [*_COLOURS.sub(b"", part).decode("latin-1").splitlines(), ""]:
-        if letters.are_alone(line):
-            block.append(letters.packed(line))
-            continue
-        if len(block) > 1:
+    lines = _COLOURS.sub(b"", part).decode("latin-1").splitlines()
+    for are_letters, several in groupby(lines, letters.are_alone):
+        if are_letters:
+            block = [letters.packed(line) for line in several]
             yield "".join(block)
-        yield from block
-        block = []
-        yield from letters.among_words(line)
+            yield from block
+        else:
+            for line in several:
+                yield from letters.among_words(line)
 
 
 def certificates_in(parts: Sequence[bytes]) -> Iterator[List[bytes]]:
     """Yields the lines of each certificate in some texts. A line that ends or begins a body ends
     one; other lines between its lines don't count."""
     for part in parts:
-        body: List[bytes] = []
-        for found in _CERTIFIES.finditer(_COLOURS.sub(b"", part)):
-            if found[1] not in (b"unsolvable", b"end"):
-                body.append(found[1].rstrip())
-            elif body:
-                yield body
-                body = []
-        if body:
-            yield body
+        lines = (found[1].rstrip() for found in _CERTIFIES.finditer(_COLOURS.sub(b"", part)))
+        for ends, body in groupby(lines, lambda line: line in (b"unsolvable", b"end")):
+            if not ends:
+                yield [*body]
