@@ -1,7 +1,7 @@
 """The summary of a check, which fits a screen."""
 import sys
 from collections import Counter
-from typing import Iterator, List, Sequence
+from typing import Iterator, Sequence
 
 from . import auditor, changes, forms, levels, messages, own_files, report, texts
 from .outcomes import FULL, ILLEGAL, LATE, LONG, MEMORY, NOTHING, Outcomes
@@ -71,21 +71,19 @@ def _some(head: str, items: Sequence[str], most: int = MOST_LINES) -> Iterator[s
         yield f"{head}and {len(items) - shown} more"
 
 
-def searched(forms: Sequence[forms.Form], known: Outcomes, new: Outcomes) -> List[str]:
-    """Returns a line for each way in which levels without an answer were searched by earlier runs,
+def searched(forms: Sequence[forms.Form], known: Outcomes, new: Outcomes) -> Iterator[str]:
+    """Yields a line for each way in which levels without an answer were searched by earlier runs,
     with their outcomes."""
     ways = texts.grouped((way, outcome) for form in forms
                          for way, outcome in known.get(form.digest, {}).items()
                          if way not in new.get(form.digest, {}))
-    found = []
     for way, several in sorted(ways.items()):
         words = Counter(_OUTCOMES.get(what, "an answer that is lost") for what, _ in several)
         were = "was" if len(several) == 1 else "were"
         by = "" if way == "find" else f" by the {way}"
-        found.append(f"{texts.count(len(several), 'level')} {were} searched before{by}, up to "
-                     f"{max(seconds for _, seconds in several):g} s each: "
-                     + ", ".join(f"{count} {said}" for said, count in words.items()))
-    return found
+        yield (f"{texts.count(len(several), 'level')} {were} searched before{by}, up to "
+               f"{max(seconds for _, seconds in several):g} s each: "
+               + ", ".join(f"{count} {said}" for said, count in words.items()))
 
 
 def changed(found: Sequence[changes.Change]) -> Iterator[str]:

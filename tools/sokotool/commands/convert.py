@@ -12,7 +12,7 @@ import argparse
 import os
 import re
 import sys
-from typing import List, Optional, Sequence, Tuple
+from typing import Iterator, List, Optional, Sequence, Tuple
 
 from .. import answers, builder, levels, output, own_files, sources, texts
 from ..builder import Collection
@@ -59,26 +59,25 @@ def run(options: argparse.Namespace) -> int:
     read_files(collection, listed)
     if said > MOST_MESSAGES:
         print(f"convert: {said - MOST_MESSAGES} more messages", file=sys.stderr)
-    written = _replaced(collection.files(options.name), options.replace)
+    written = [*_replaced(collection.files(options.name), options.replace)]
     _check_inputs(files, [name for name, _ in written])
     output.write_files(written)
     print(f"convert: {collection.summary()}", file=sys.stderr)
     return int(collection.faults > 0)
 
 
-def _replaced(written: Sequence[output.File], may_replace: bool) -> List[output.File]:
-    """Returns the files, after a copy, named NAME~, of each one that is there with other contents.
+def _replaced(written: Sequence[output.File], may_replace: bool) -> Iterator[output.File]:
+    """Yields the files, after a copy, named NAME~, of each one that is there with other contents.
     If none may be replaced, one ends the command."""
-    found = []
     for name, data in written:
         output.check_writable(name)
         former = own_files.bytes_of(name) if os.path.isfile(name) else None
         if former is not None and former != data:
-            found.append((name + "~", former))
+            yield name + "~", former
             if not may_replace:
                 raise texts.Stop(f"{texts.shown(name)} is there already: --replace keeps it as "
                                  f"{texts.shown(name)}~")
-    return [*found, *written]
+    yield from written
 
 
 def _check_inputs(files: Sequence[str], written: Sequence[str]) -> None:

@@ -15,7 +15,7 @@ import os
 import sys
 import tempfile
 from collections import Counter
-from typing import Callable, Dict, List, NamedTuple, Sequence, Tuple
+from typing import Callable, Dict, Iterator, List, NamedTuple, Sequence, Tuple
 
 from .. import answers, auditor, levels, output, report, texts
 from . import above_zero, page
@@ -58,10 +58,10 @@ def run(options: argparse.Namespace) -> int:
         raise texts.Stop("an entrant is named after a file, so - is none")
     data = texts.read(options.levels)
     found = levels.read_within(data, options.levels)
-    entrants = audited(data, len(found), options)
+    entrants = [*audited(data, len(found), options)]
     best = [marks(entrants, lambda counts: counts[:2]),
             marks(entrants, lambda counts: counts[1::-1])]
-    tables = rows(entrants, best, len(found)), standings(entrants, best)
+    tables = [*rows(entrants, best, len(found))], standings(entrants, best)
     if options.page:
         output.write_files([(options.page, page_of(entrants, found, options.levels, *tables))])
     for row in (HEAD, *tables[0], (), STANDINGS_HEAD, *tables[1]):
@@ -69,12 +69,11 @@ def run(options: argparse.Namespace) -> int:
     return int(any(entrant.fault for entrant in entrants))
 
 
-def audited(data: bytes, count: int, options: argparse.Namespace) -> List[Entrant]:
-    """Audits each answers file by itself. `count` is the number of levels."""
+def audited(data: bytes, count: int, options: argparse.Namespace) -> Iterator[Entrant]:
+    """Yields the entrants, each file audited by itself. `count` is the number of levels."""
     program = auditor.find()
     if program.is_reference and not auditor.is_quiet():
         print(f"table: {auditor.REFERENCE_NOTE}", file=sys.stderr)
-    found = []
     with tempfile.TemporaryDirectory() as folder:
         path = os.path.join(folder, "levels")
         output.write_files([(path, data)])
@@ -83,8 +82,7 @@ def audited(data: bytes, count: int, options: argparse.Namespace) -> List[Entran
                               megabytes=options.memory)
             read = report.read(ran.out)
             fault = read.fault(count) and (ran.fault or "no report")
-            found.append(Entrant(name, file, [] if fault else read.lines, fault or ""))
-    return found
+            yield Entrant(name, file, [] if fault else read.lines, fault or "")
 
 
 def names_of(files: Sequence[str]) -> List[str]:
@@ -108,18 +106,17 @@ def marks(entrants: Sequence[Entrant],
     return found
 
 
-def rows(entrants: Sequence[Entrant], best: Sequence[Marks], count: int) -> List[Row]:
-    """Returns the rows of the table: files that couldn't be audited, then level by level."""
-    found: List[Row] = [("", entrant.name, entrant.fault, *[""] * 5)
-                        for entrant in entrants if entrant.fault]
+def rows(entrants: Sequence[Entrant], best: Sequence[Marks], count: int) -> Iterator[Row]:
+    """Yields the rows of the table: files that couldn't be audited, then level by level."""
+    yield from (("", entrant.name, entrant.fault, *[""] * 5)
+                for entrant in entrants if entrant.fault)
     for level in range(1, count + 1):
         for entrant in entrants:
             if not entrant.fault:
                 line, at = entrant.lines[level - 1], (level, entrant.name)
                 counts = [str(number) for number in line.counts] or [""] * 3
-                found.append((str(level), entrant.name, line.status if line.counts else line.said,
-                              *counts, *(marked.get(at, "") for marked in best)))
-    return found
+                yield (str(level), entrant.name, line.status if line.counts else line.said,
+                       *counts, *(marked.get(at, "") for marked in best))
 
 
 def standings(entrants: Sequence[Entrant], best: Sequence[Marks]) -> List[Row]:
