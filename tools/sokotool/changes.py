@@ -3,12 +3,15 @@ the others by title or position."""
 from itertools import groupby
 from types import MappingProxyType
 from typing import (Callable, Dict, Hashable, Iterator, List, Mapping, NamedTuple, Optional,
-                    Sequence, Set)
+                    Sequence)
 
 from . import forms, texts
 from .level_texts import Block
 from .levels import Level
 from .report import Line
+
+# names one of several forms by its index
+Name = Callable[[Sequence[forms.Form], int], Hashable]
 
 
 class Match(NamedTuple):
@@ -57,30 +60,27 @@ class _Pairs:
     def __init__(self, old: Sequence[forms.Form], new: Sequence[forms.Form]) -> None:
         self.forms = old, new
         self.of_new: Dict[int, int] = {}
-        self.old: Set[int] = set(range(len(old)))
-        self.new: Set[int] = set(range(len(new)))
+        self.old, self.new = set(range(len(old))), set(range(len(new)))
 
     def add(self, old: int, new: int) -> None:
         self.of_new[new] = old
         self.old.remove(old)
         self.new.remove(new)
 
-    def match(self, old_name: Callable[[int], Hashable], new_name: Callable[[int], Hashable]
-              ) -> None:
+    def match(self, name: Name) -> None:
         """Pairs the unpaired indices with the same name, in order. None is no name."""
-        waiting = texts.grouped((old_name(index), index)
+        old, new = self.forms
+        waiting = texts.grouped((name(old, index), index)
                                 for index in sorted(self.old, reverse=True))
         for index in sorted(self.new):
-            name = new_name(index)
-            if name is not None and waiting.get(name):
-                self.add(waiting[name].pop(), index)
+            named = name(new, index)
+            if named is not None and waiting.get(named):
+                self.add(waiting[named].pop(), index)
 
     def match_forms(self) -> None:
         """Pairs levels with the same board, first those that aren't turned."""
-        old, new = self.forms
-        self.match(lambda index: (old[index].key, old[index].turn[:4]),
-                   lambda index: (new[index].key, new[index].turn[:4]))
-        self.match(lambda index: old[index].key, lambda index: new[index].key)
+        self.match(lambda forms, index: (forms[index].key, forms[index].turn[:4]))
+        self.match(lambda forms, index: forms[index].key)
 
     def found(self) -> List[Match]:
         """Returns the pairs as matches, in order of the new levels."""
@@ -98,13 +98,13 @@ def matches_of_forms(old: Sequence[forms.Form], new: Sequence[forms.Form]) -> Li
     return pairs.found()
 
 
-def _names(state: Snapshot, beside: Sequence[int]) -> Callable[[int], Hashable]:
+def _with_boards(beside: Sequence[int]) -> Name:
     """Returns a function that names a level by its board, its title, and the boards of some levels
     beside it, by which levels with the same board are told apart."""
-    def name(index: int) -> Hashable:
-        near = [state.forms[index + step].key if 0 <= index + step < len(state.forms) else None
+    def name(forms: Sequence[forms.Form], index: int) -> Hashable:
+        near = [forms[index + step].key if 0 <= index + step < len(forms) else None
                 for step in beside]
-        return (state.forms[index].key, state.levels[index].title, *near)
+        return (forms[index].key, forms[index].level.title, *near)
     return name
 
 
@@ -118,10 +118,9 @@ def matches(old: Snapshot, new: Snapshot, known: Mapping[int, int] = MappingProx
     for was, now in known.items():
         pairs.add(was, now)
     for beside in ((-1, 1), (-1,), (1,), ()):
-        pairs.match(_names(old, beside), _names(new, beside))
+        pairs.match(_with_boards(beside))
     pairs.match_forms()
-    pairs.match(lambda index: old.levels[index].title or None,
-                lambda index: new.levels[index].title or None)
+    pairs.match(lambda forms, index: forms[index].level.title or None)
     for index in sorted(pairs.new):
         before = pairs.of_new.get(index - 1, -1 if index == 0 else None)
         if before is not None and before + 1 in pairs.old and not (
