@@ -113,7 +113,7 @@ def read(data: bytes, most: int = sys.maxsize) -> List[Level]:
 @lru_cache(maxsize=4)
 def _read(data: bytes, most: int) -> Sequence[Level]:
     lines = texts.lines(texts.unmarked(data))
-    kinds = bytes(map(texts.Cache(_kind_of).__getitem__, lines))
+    kinds = bytes(map(texts.cached(_kind_of), lines))
     spans: List[Tuple[int, int]] = []
     for match in _ROWS.finditer(kinds):
         if len(spans) == most:

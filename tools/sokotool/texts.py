@@ -5,9 +5,10 @@ import hashlib
 import os
 import re
 import sys
+from functools import lru_cache
 from itertools import islice
-from typing import (Any, AnyStr, Callable, Dict, Iterable, List, Optional, Sequence, Set, Tuple,
-                    TypeVar, Union)
+from typing import (Any, AnyStr, Dict, Iterable, List, Optional, Sequence, Set, Tuple, TypeVar,
+                    Union)
 
 from . import encodings
 
@@ -16,7 +17,9 @@ Item = TypeVar("Item")
 MOST_BYTES = 33_554_432
 MARK = b"\xef\xbb\xbf"
 # the most lines that a cache keeps
-MOST_KEPT = 1 << 19
+MOST_KEPT = 1 << 18
+# what makes a function keep what it makes of a line
+cached = lru_cache(MOST_KEPT)
 _BLOCK = 1 << 16
 # whole lines of about so many bytes, so that not all lines of a text are in memory
 _BLOCKS = re.compile(rb"(?s:.{1,65536})[^\n]*\n?")
@@ -85,20 +88,6 @@ def _split(data: AnyStr, end: AnyStr) -> List[AnyStr]:
             last = parts[-1:]
     rest = end[:0].join(last)
     return found + [rest] if rest else found
-
-
-class Cache(Dict[Any, Any]):
-    """Maps a line to what a function makes of it, and keeps that for up to MOST_KEPT lines."""
-
-    def __init__(self, function: Callable[[Any], Any]) -> None:
-        super().__init__()
-        self.function = function
-
-    def __missing__(self, line: Any) -> Any:
-        value = self.function(line)
-        if len(self) < MOST_KEPT:
-            self[line] = value
-        return value
 
 
 def shown(text: Union[str, bytes]) -> str:

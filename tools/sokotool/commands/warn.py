@@ -72,8 +72,8 @@ def _kind_of(line: bytes) -> int:
 def _of_lines(lines: Sequence[bytes]) -> Iterator[Warning]:
     """Yields the lines that may be meant as rows and are none to the auditor, or the other way
     round."""
-    decoded = list(map(texts.Cache(texts.decoded).__getitem__, lines))
-    kinds = bytes(map(texts.Cache(_kind_of).__getitem__, lines))
+    decoded = list(map(texts.cached(texts.decoded), lines))
+    kinds = bytes(map(texts.cached(_kind_of), lines))
     read, comments = plain.rows_of(decoded)[:2]
     for match in _STRANGE.finditer(kinds):
         at = match.start()

@@ -47,9 +47,9 @@ class Between:
         # whether the text belongs to a board that was skipped
         self.is_skipping = False
         self.kept = 0
-        self.packed = texts.Cache(letters.packed)
-        self.among_words = texts.Cache(letters.among_words)
-        self.why_no_row = texts.Cache(lambda line: rows.why_no_row(line, False))
+        self.packed = texts.cached(letters.packed)
+        self.among_words = texts.cached(letters.among_words)
+        self.why_no_row = texts.cached(lambda line: rows.why_no_row(line, False))
         self.tried: Dict[str, Attempt] = {}
         # lines whose words solve nothing
         self.idle: Set[str] = set()
@@ -111,7 +111,7 @@ class Between:
 
     def _read_words(self, at: int, kind: int, goes_on: bool) -> None:
         """Tries the letters of a line, and remembers a heading. Other letters may follow."""
-        found, has_level = self.among_words[self.lines[at]], self.collection.board is not None
+        found, has_level = self.among_words(self.lines[at]), self.collection.board is not None
         solved = next((it for it in map(self._attempt, found if has_level else ())
                        if it and it.why is None), None)
         if solved:
@@ -183,7 +183,7 @@ class Between:
         nothing, if that solves nothing."""
         for _ in range(MOST_PARTS):
             end = min(stop, first + MOST_LINES)
-            pieces = list(map(self.packed.__getitem__, self.lines[first:end]))
+            pieces = list(map(self.packed, self.lines[first:end]))
             attempt = self.collection.attempt(front + "".join(pieces))
             used = self._solved_end(front, pieces, attempt, first)
             if not used and front:
@@ -247,7 +247,7 @@ class Between:
         is_between = (0 < at < len(self.found) - 1 and self.found[at - 1] is not None
                       and self.found[at + 1] is not None)
         line = self.lines[at]
-        why = rows.why_no_row(line, True) if is_between else self.why_no_row[line]
+        why = rows.why_no_row(line, True) if is_between else self.why_no_row(line)
         if why:
             self.collection.fault(at + 1, why)
 

@@ -61,8 +61,8 @@ def _shown(line: str) -> str:
 
 def _undress(lines: List[str], read: Callable[[str], Optional[Dressed]]) -> None:
     """Replaces the lines of levels that are dressed in one way."""
-    known = texts.Cache(lambda line: read(line) if "#" in line and len(line) < LONGEST else None)
-    found: List[Optional[Dressed]] = [known[line] for line in lines]
+    known = texts.cached(lambda line: read(line) if "#" in line and len(line) < LONGEST else None)
+    found: List[Optional[Dressed]] = [*map(known, lines)]
     if not any(it.kind for it in {id(it): it for it in found if it}.values()):
         return
     for first, end in list(_pieces(found)):

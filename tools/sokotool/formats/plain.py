@@ -32,7 +32,7 @@ def read(collection: Collection, lines: List[str]) -> None:
     found, comments, reasons = rows_of(lines)
     if rows.MARK in "".join(lines):
         lines = [line.lstrip(rows.MARK) for line in lines]
-    kinds = bytearray(map(texts.Cache(headings.kind_of).__getitem__, lines))
+    kinds = bytearray(map(texts.cached(headings.kind_of), lines))
     for first, end in comments:
         kinds[first:end] = kinds[first:end].translate(_IN_COMMENT)
     reasons.update(_banners(lines, found))
@@ -67,11 +67,11 @@ def read(collection: Collection, lines: List[str]) -> None:
 def rows_of(lines: Sequence[str]) -> Tuple[Rows, List[Span], Reasons]:
     """Returns the row of each line, or None; the spans of comments, which have no rows; and why
     some lines that look like rows are none."""
-    read_row = texts.Cache(rows.read)
-    found = [read_row[line] if "#" in line else None for line in lines]
+    read_row = texts.cached(rows.read)
+    found = [read_row(line) if "#" in line else None for line in lines]
     # Most texts have neither mazes nor comments.
     keys = [line for line in lines if ":" in line and "#" not in line]
-    has_mazes, has_comments = (any(map(texts.Cache(test).__getitem__, keys))
+    has_mazes, has_comments = (any(map(texts.cached(test), keys))
                                for test in (rows.is_maze_head, rows.is_comment_end))
     is_maze = False
     for at, line in enumerate(lines if has_mazes else ()):
@@ -283,7 +283,7 @@ def _add_levels(collection: Collection, run: Rows, first: int) -> None:
 
 def _report_codes(collection: Collection, lines: Sequence[str]) -> None:
     """Reports runs of lines that may have levels in a form that isn't read."""
-    kinds = "".join(map(texts.Cache(_code_in).__getitem__, lines))
+    kinds = "".join(map(texts.cached(_code_in), lines))
     for match in _CODES.finditer(kinds):
         collection.fault(match.start() + 1, _CODE_WORDS[match.group()[0]] + ", which is not read")
 

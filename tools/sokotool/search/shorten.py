@@ -18,7 +18,7 @@ class Cover:
 
     def __init__(self, patterns: Patterns, sizes: Sequence[int]):
         self.patterns, self.sizes = patterns, sizes
-        self.sizes_below = texts.Cache(self._sizes_below)
+        self.sizes_below = texts.cached(self._sizes_below)
 
     def boxes(self, boxes: int, player: int, pushed: int) -> int:
         """Returns the boxes of a pattern that covers the state after a push, or no cell. Patterns
@@ -27,7 +27,7 @@ class Cover:
         if patterns.get(pushed, 0) & player:
             return pushed
         others = list(bits(boxes ^ pushed))
-        for size in self.sizes_below[len(others) + 1]:
+        for size in self.sizes_below(len(others) + 1):
             for some in combinations(others, size - 1):
                 few = sum(some, pushed)
                 if patterns.get(few, 0) & player:
