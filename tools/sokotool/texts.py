@@ -7,8 +7,8 @@ import re
 import sys
 from functools import lru_cache
 from itertools import islice
-from typing import (Any, AnyStr, Dict, Iterable, List, Optional, Sequence, Set, Tuple, TypeVar,
-                    Union)
+from typing import (Any, AnyStr, Dict, Iterable, List, Match, Optional, Sequence, Set, Tuple,
+                    TypeVar, Union)
 
 from . import encodings
 
@@ -20,9 +20,9 @@ MARK = b"\xef\xbb\xbf"
 MOST_KEPT = 1 << 18
 # what makes a function keep what it makes of a line
 cached = lru_cache(MOST_KEPT)
-_BLOCK = 1 << 16
-# whole lines of about so many bytes, so that not all lines of a text are in memory
-_BLOCKS = re.compile(rb"(?s:.{1,65536})[^\n]*\n?")
+# whole lines of about so many characters, so that not all lines of a text are in memory
+_BLOCK = r"(?s:.{1,65536})[^\n]*\n?"
+_BLOCKS, _TEXTS = re.compile(_BLOCK.encode()), re.compile(_BLOCK)
 # From the first CR on: a search from each of a million takes hours.
 _RETURNS = re.compile("(?<!\r)\r\r+\n")
 _INNER_MARK = re.compile("(?<!\n)\ufeff")
@@ -69,25 +69,20 @@ def unmarked(data: bytes) -> bytes:
 def lines(data: bytes) -> List[bytes]:
     """Returns the lines of a text. LF ends a line, and a CR before it belongs to the end. Equal
     short lines are one object, so that a text of many short lines takes little memory."""
-    return _split(data.replace(b"\r\n", b"\n"), b"\n")
+    return _split(_BLOCKS.finditer(data.replace(b"\r\n", b"\n")), b"\n")
 
 
-def _split(data: AnyStr, end: AnyStr) -> List[AnyStr]:
-    """Returns the lines of a text with these ends. Equal short lines are one object, up to the
+def _split(blocks: Iterable[Match[AnyStr]], end: AnyStr) -> List[AnyStr]:
+    """Returns the lines of a text in blocks, with these ends. Equal lines are one object, up to the
     limit of the cache."""
     found: List[AnyStr] = []
-    last: List[AnyStr] = []
     seen: Dict[AnyStr, AnyStr] = {}
-    for at in range(0, len(data), _BLOCK):
-        parts = data[at:at + _BLOCK].split(end)
-        last.append(parts[0])
-        if len(parts) > 1:
-            found.append(end[:0].join(last))
-            share = seen.setdefault if len(seen) < MOST_KEPT else seen.get
-            found += [share(part, part) for part in parts[1:-1]]
-            last = parts[-1:]
-    rest = end[:0].join(last)
-    return found + [rest] if rest else found
+    for block in blocks:
+        share = seen.setdefault if len(seen) < MOST_KEPT else seen.get
+        found += [share(line, line) for line in block[0].split(end)]
+        if not found[-1]:  # after the end of the last line
+            found.pop()
+    return found
 
 
 def shown(text: Union[str, bytes]) -> str:
@@ -168,7 +163,7 @@ def _decoded_line(line: bytes, name: str) -> str:
 
 def lines_of(text: str) -> List[str]:
     """Returns the lines of a text that `text_of` returned. Equal short lines are one object."""
-    return _split(text, "\n")
+    return _split(_TEXTS.finditer(text), "\n")
 
 
 def same_file(first: str, second: str) -> bool:
