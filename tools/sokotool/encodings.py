@@ -4,11 +4,10 @@ import contextlib
 import re
 from typing import Callable, Dict, Iterator, Tuple
 
-# the names that people know, in the order in which equal guesses count
-CP1252, CP1251, KOI8_R, GB18030, SHIFT_JIS, CP437 = (
-    "Windows-1252", "Windows-1251", "KOI8-R", "GB18030", "Shift-JIS", "CP437")
-CODECS = {CP1252: "cp1252", CP1251: "cp1251", KOI8_R: "koi8-r", GB18030: "gb18030",
-          SHIFT_JIS: "cp932", CP437: "cp437"}
+CP1252 = "Windows-1252"
+# Python's names by those that people know, in the order in which equal guesses count
+CODECS = {CP1252: "cp1252", "Windows-1251": "cp1251", "KOI8-R": "koi8-r", "GB18030": "gb18030",
+          "Shift-JIS": "cp932", "CP437": "cp437"}
 # the bytes that are looked at
 MOST = 1 << 16
 # what counts against pairs of bytes, which letters of one byte often are as well
@@ -34,7 +33,7 @@ def guessed(data: bytes) -> str:
     """Returns the encoding in which a text has the most plausible words: Windows-1252 if no other
     one is plausible."""
     data = data[:MOST]
-    found = {name: _score(data, name) for name in CODECS}
+    found = {name: _score(data, codec) for name, codec in CODECS.items()}
     best = max(found, key=lambda name: found[name])
     return best if found[best] >= max(_LEAST, found[CP1252] + _MARGIN) else CP1252
 
@@ -47,15 +46,15 @@ def decoded(line: bytes, name: str) -> str:
     return line.decode("latin-1")
 
 
-def _score(data: bytes, name: str) -> float:
+def _score(data: bytes, codec: str) -> float:
     """Returns how much of a text, but for ASCII, is plausible in an encoding: from 0 to 1."""
     try:
         # The last character of a long text may be cut.
-        text = codecs.getincrementaldecoder(CODECS[name])().decode(data, len(data) < MOST)
+        text = codecs.getincrementaldecoder(codec)().decode(data, len(data) < MOST)
     except UnicodeDecodeError:
         return 0
     good = total = 0.0
-    for word, part in _parts(text, _JUDGES[name]):
+    for word, part in _parts(text, _JUDGES[codec]):
         count = sum(not c.isascii() for c in word)
         good, total = good + count * part, total + count
     return good / total if total else 0
@@ -108,6 +107,6 @@ def _of_pairs(codec: str, *usual: range) -> Callable[[str], float]:
 
 
 _JUDGES: Dict[str, Callable[[str], float]] = {
-    CP1252: _latin, CP437: _latin, CP1251: _cyrillic, KOI8_R: _cyrillic,
-    GB18030: _of_pairs("gb18030", range(0xb0, 0xd8), range(0xa1, 0xa4)),
-    SHIFT_JIS: _of_pairs("cp932", range(0x88, 0x98), range(0x81, 0x84))}
+    "cp1252": _latin, "cp437": _latin, "cp1251": _cyrillic, "koi8-r": _cyrillic,
+    "gb18030": _of_pairs("gb18030", range(0xb0, 0xd8), range(0xa1, 0xa4)),
+    "cp932": _of_pairs("cp932", range(0x88, 0x98), range(0x81, 0x84))}
