@@ -53,9 +53,8 @@ class Pool:
         self._files: Dict[Tuple[str, int], List[Candidate]] = {}
         self._exported: Dict[int, List[Answer]] = {}
         self._before: Tuple[Optional[changes.Snapshot], Dict[int, changes.Match]] = None, {}
-        # the comments between records, each before the next level that is still there
+        # the comments between records, each before the next level that is still there or the end
         self._apart: Dict[int, List[bytes]] = {}
-        self._rest: List[bytes] = []
 
     # ---- candidates
 
@@ -63,12 +62,11 @@ class Pool:
                 computed: Set[str]) -> None:
         """Adds the records of NAME.answers, by the board of the level `before` that each names, and
         by that of the level that has its number now. Some were computed, by their digests."""
-        records = found.records
-        count = len(before.levels)
-        self._own = self._by_board([it for it in records if it.level <= count], before, True)
+        records, count = found.records, len(before.levels)
+        self._own = self._by_board(records, before, True)
         self._own += self._by_board([it for it in records if it.level > count], mine, True)
         if [form.key for form in before.forms] != [form.key for form in mine.forms]:
-            again = [it for it in records if it.level <= min(count, len(mine.levels))]
+            again = [it for it in records if it.level <= count]
             targets = {id(it.record): it.targets for it in self._by_board(again, mine, False)}
             for own in self._own:
                 own.targets.extend(targets.get(id(own.record), ()))
@@ -76,15 +74,12 @@ class Pool:
             if texts.digest(own.record.text) in computed:
                 for it in own.targets:
                     it.is_computed = True
-        nearest, self._rest = 0, found.rest
-        matches = self._matches(before)
+        nearest, matches = len(self.now.levels) + 1, self._matches(before)
+        self._apart[nearest] = found.rest
         for record in reversed(records):
-            match = matches.get(record.level)
-            nearest = match.new + 1 if match else nearest
-            if nearest:
-                self._apart[nearest] = record.apart + self._apart.get(nearest, [])
-            else:
-                self._rest = record.apart + self._rest
+            if match := matches.get(record.level):
+                nearest = match.new + 1
+            self._apart[nearest] = record.apart + self._apart.get(nearest, [])
 
     def add_stored(self, stored: kept.Kept) -> None:
         """Adds the records that were kept without a place."""
@@ -106,8 +101,7 @@ class Pool:
             targets = self._files.setdefault((name, record.line), [])
             if record.level <= len(self.now.levels):
                 targets.append(self._add(record.level, record.answer))
-        for given in self._by_board([it for it in records if it.level <= len(before.levels)],
-                                    before, False):
+        for given in self._by_board(records, before, False):
             self._files[name, given.record.line].extend(given.targets)
 
     def _add(self, number: int, answer: Answer, stays: bool = False) -> Candidate:
@@ -142,8 +136,10 @@ class Pool:
                   had_places: bool = True) -> List[Given]:
         """Adds records to the levels that have the boards of theirs, or that took the place of
         theirs if those had one. One that stays is kept for its own level if no other is accepted.
-        Equal ones have the candidates of the first one too."""
-        found = [Given(it, before.levels[it.level - 1], []) for it in records]
+        Equal ones have the candidates of the first one too. Records of higher levels are left out.
+        """
+        found = [Given(it, before.levels[it.level - 1], []) for it in records
+                 if it.level <= len(before.levels)]
         if not found:
             return found
         matches = self._matches(before) if had_places else {}
@@ -212,7 +208,7 @@ class Pool:
         parts = [answers.spelled(self._apart.get(number, []))
                  + (self.chosen[number].answer.record(number) if number in self.chosen else b"")
                  for number in sorted({*self.chosen, *self._apart})]
-        return answers.text(parts) + answers.spelled(self._rest)
+        return answers.text(parts)
 
     def other_answers(self) -> bytes:
         """Returns the answers file with the others."""
