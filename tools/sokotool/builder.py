@@ -56,7 +56,7 @@ class Collection:
         self.kept: Dict[int, Union[Try, answers.Answer]] = {}
         self.others: Dict[int, Try] = {}
         self.count = self.total = 0
-        self.solutions = self.faults = self.unsolved = self.torn = 0
+        self.faults = self.unsolved = self.torn = 0
         self.file = ""
         # the names of files as they are published, and of those that have nothing to read, by the
         # game that they are for
@@ -103,7 +103,8 @@ class Collection:
         """Returns how much was read and left out."""
         unsolved = f", {self.unsolved} unsolved" if self.unsolved else ""
         files = f" in {len(self.texts)} collections" if len(self.texts) > 1 else ""
-        return (f"{self.total} levels{files}, {self.solutions} solutions, "
+        solutions = sum(isinstance(it, Try) for it in self.kept.values())
+        return (f"{self.total} levels{files}, {solutions} solutions, "
                 f"{self.faults - self.unsolved - self.torn} left out{unsolved}")
 
     # ---- levels and text
@@ -200,7 +201,6 @@ class Collection:
             self.unsolved += it is kept
         if kept:
             self.kept[self.total - 1] = kept
-            self.solutions += 1
         if other:
             self.others[self.total - 1] = other
         self._letters += sum(len(it.attempt.letters) for it in (kept, other) if it)

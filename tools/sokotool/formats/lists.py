@@ -203,7 +203,6 @@ class Lists:
     def _join(self, at: int, several: Sequence[Try]) -> None:
         """Keeps the best of the solutions of the lists and of those that a level has."""
         kept, others = self.collection.kept, self.collection.others
-        self.collection.solutions += at not in kept
         before = [it for it in (kept.get(at), others.pop(at, None))
                   if isinstance(it, Try) and not it.attempt.why]
         kept[at], other = self.collection.choose(self._levels[at][1].number, [*before, *several])
