@@ -17,12 +17,7 @@ TEMPORARY = ".sokotool-"
 def put(data: bytes) -> None:
     """Writes bytes to standard output, all of them, or raises OSError."""
     sys.stdout.flush()
-    left = memoryview(data)
-    while left:
-        # A stream without a buffer may write a part.
-        if not (written := sys.stdout.buffer.write(left)):
-            raise OSError(errno.EAGAIN, os.strerror(errno.EAGAIN))
-        left = left[written:]
+    sys.stdout.buffer.write(data)
     sys.stdout.buffer.flush()
 
 
