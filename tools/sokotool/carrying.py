@@ -15,7 +15,7 @@ def carried(records: Sequence[answers.Record], old: Sequence[forms.Form],
     """Returns the answers that each new level gets, by its number, each with the index of its
     record. If it gets several, the one of the level that it was comes first."""
     before = {match.new: match.old for match in changes.matches_of_forms(old, new)}
-    by_key = forms.by_key(new)
+    by_key = texts.grouped((form.key, index) for index, form in enumerate(new))
     found = texts.grouped((index + 1, (at, turned(record.answer, form, new[index])))
                           for at, record in enumerate(records)
                           for form in [old[record.level - 1]]

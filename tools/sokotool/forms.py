@@ -10,7 +10,6 @@ import hashlib
 from typing import Dict, Iterable, List, NamedTuple, Sequence, Tuple
 
 from .levels import BOXES, GOALS, LARGEST_SIDE, PLAYERS, WALL, Level, OfRows
-from .texts import grouped
 
 Cell = Tuple[int, int]
 Key = Tuple[str, int, bytes]
@@ -166,11 +165,6 @@ _form_like = OfRows(_made)
 
 def forms_of(levels: Iterable[Level]) -> List[Form]:
     return [form_of(level) for level in levels]
-
-
-def by_key(forms: Iterable[Form]) -> Dict[Key, List[int]]:
-    """Returns the indices of forms in a list by their keys."""
-    return grouped((form.key, index) for index, form in enumerate(forms))
 
 
 def duplicates_of(forms: Sequence[Form]) -> List[Tuple[int, int, Turn]]:

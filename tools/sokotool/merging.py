@@ -125,7 +125,7 @@ def _take_back(found: Dict[Hashable, Block], stored: Sequence[Block],
     """Gives stored texts to levels that have their boards again. Returns the indices of the texts.
     `known` has the indices of levels that were there before."""
     back = set()
-    by_key = forms.by_key(theirs)
+    by_key = texts.grouped((form.key, index) for index, form in enumerate(theirs))
     for at, form in enumerate(collection(stored).forms):
         free = [index for index in by_key.get(form.key, ()) if index not in known]
         if free and (stored[at].above or stored[at].below):
