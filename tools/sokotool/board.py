@@ -21,19 +21,16 @@ class Board:
     A board with a side that is too long is left empty."""
 
     def __init__(self, level: Level):
-        rows = level.rows
-        self.width, self.height = max(map(len, rows)), len(rows)
-        is_large = max(self.width, self.height) > LARGEST_SIDE
-        self.fault: Optional[str] = "size" if is_large else None
-        if is_large:
-            rows = []
+        self.width = max(map(len, level.rows))
+        is_large = max(self.width, len(level.rows)) > LARGEST_SIDE
+        rows = [] if is_large else level.rows
         self.stride = self.width + 2 if rows else 2
         self.steps = {"l": -1, "u": -self.stride, "r": 1, "d": self.stride}
         self.walls = bytearray(b"\1") * (self.stride * (len(rows) + 2))
         self._read(rows)
         self.player = self.players[0] if len(self.players) == 1 else None
         self._solved: Optional["Replay"] = None
-        self.fault = self.fault or self._first_fault(level)
+        self.fault = "size" if is_large else self._first_fault(level)
 
     def _read(self, rows: Sequence[bytes]) -> None:
         goals: List[int] = []
@@ -88,11 +85,6 @@ class Board:
                     found.add(near)
                     work.append(near)
         return frozenset(found)
-
-    def place(self, column: int, row: int) -> Optional[int]:
-        """Returns the place of a cell, or None off the board."""
-        is_on_board = 1 <= column <= self.width and 1 <= row <= self.height
-        return row * self.stride + column if is_on_board else None
 
     def cell(self, place: int) -> Tuple[int, int]:
         """Returns the column and the row of a place, both from 1."""

@@ -201,7 +201,7 @@ def _are_outside_room(run: Sequence[Row]) -> bool:
     board = Board(levels.Level(1, [rows.without_marks(text).encode() for text in drawn], 1))
     if board.player is None or board.fault in ("size", "open"):
         return False
-    marked = {board.place(x, y) for y, text in enumerate(drawn, 1)
+    marked = {y * board.stride + x for y, text in enumerate(drawn, 1)
               for x, c in enumerate(text, 1) if c in rows.OUTER}
     return not marked & board.room
 
