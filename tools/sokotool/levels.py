@@ -100,18 +100,14 @@ def _kind_of(line: bytes) -> int:
             else _BY_LINE if _BY.match(line) else _OTHER)
 
 
-def read(data: bytes, most: int = sys.maxsize) -> List[Level]:
+@lru_cache(maxsize=4)
+def read(data: bytes, most: int = sys.maxsize) -> Sequence[Level]:
     """Returns the levels of a text in order, up to `most`: the longest runs of rows.
 
     A byte order mark at the start is skipped. A level's title is what a line 'Title: ..' says, or
     otherwise the last line of text above the level. Its author is what a line 'Author: ..' says
     where its title has its place, or otherwise the first such line above all levels.
     """
-    return list(_read(data, most))
-
-
-@lru_cache(maxsize=4)
-def _read(data: bytes, most: int) -> Sequence[Level]:
     lines = texts.lines(texts.unmarked(data))
     kinds = bytes(map(texts.cached(_kind_of), lines))
     spans: List[Tuple[int, int]] = []
@@ -128,10 +124,11 @@ def _read(data: bytes, most: int) -> Sequence[Level]:
     keyed = titles[:-1] if are_above else titles[1:]
     authors = [_keyed(lines, kinds, gap, (_BY_LINE, _BY)) for gap in zip(ends, firsts)]
     of_all, named = authors[0], authors[:-1] if are_above else authors[1:]
-    return [Level(number, lines[first:end], first + 1,
-                  title or texts.shown(_title_above(lines, kinds, above, first)), author or of_all)
-            for number, ((first, end), title, above, author)
-            in enumerate(zip(spans, keyed, ends, named), 1)]
+    return tuple(
+        Level(number, lines[first:end], first + 1,
+              title or texts.shown(_title_above(lines, kinds, above, first)), author or of_all)
+        for number, ((first, end), title, above, author)
+        in enumerate(zip(spans, keyed, ends, named), 1))
 
 
 def _title_above(lines: List[bytes], kinds: bytes, end: int, first: int) -> bytes:
@@ -193,7 +190,7 @@ def read_file(name: str) -> List[Level]:
 
 def read_within(data: bytes, name: str) -> List[Level]:
     """Returns the levels of a text of this name, within the auditor's limits."""
-    found = read(data, MOST_LEVELS + 1)
+    found = [*read(data, MOST_LEVELS + 1)]
     if len(found) > MOST_LEVELS:
         raise texts.Stop(f"{texts.shown(name)} has more than {MOST_LEVELS} levels")
     return found
