@@ -9,7 +9,7 @@ from typing import FrozenSet, List, Optional, Sequence, Tuple
 
 from . import levels, texts
 from .forms import OPEN, form_of
-from .levels import LARGEST_SIDE, Level, OfRows
+from .levels import LARGEST_SIDE, Level, of_rows
 
 _BLANKS = b" \t\r\n"
 _LETTERS = b"lurdLURD"
@@ -101,7 +101,7 @@ class Board:
         return replay
 
 
-board_of = OfRows(Board)
+board_of = of_rows(Board)
 
 
 class Replay:

@@ -9,7 +9,7 @@ wider than high, moved to the corner, the form is the least in the order of its 
 import hashlib
 from typing import Dict, Iterable, List, NamedTuple, Sequence, Tuple
 
-from .levels import BOXES, GOALS, LARGEST_SIDE, PLAYERS, WALL, Level, OfRows
+from .levels import BOXES, GOALS, LARGEST_SIDE, PLAYERS, WALL, Level, of_rows
 
 Cell = Tuple[int, int]
 Key = Tuple[str, int, bytes]
@@ -140,7 +140,8 @@ def form_of(level: Level) -> Form:
     return _form_like(level)._replace(level=level)
 
 
-def _made(level: Level) -> Form:
+@of_rows
+def _form_like(level: Level) -> Form:
     stride = max(map(len, level.rows)) + 1
     if max(stride - 1, len(level.rows)) > LARGEST_SIDE:
         return _form_of_rows(LARGE, level)
@@ -158,9 +159,6 @@ def _made(level: Level) -> Form:
     codes = int.from_bytes(text.translate(_PLAIN), "big")
     width, best, turn = _turned((mask & codes).to_bytes(size, "big"), stride)
     return Form(kind, width, best, turn, level)
-
-
-_form_like = OfRows(_made)
 
 
 def forms_of(levels: Iterable[Level]) -> List[Form]:

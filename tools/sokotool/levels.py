@@ -3,7 +3,7 @@ with their titles and authors."""
 import re
 import sys
 from functools import lru_cache
-from typing import Callable, Dict, Generic, List, NamedTuple, Pattern, Sequence, Tuple, TypeVar
+from typing import Callable, Dict, List, NamedTuple, Pattern, Sequence, Tuple, TypeVar
 
 from . import texts
 
@@ -64,25 +64,23 @@ class Level(NamedTuple):
     author: str = ""
 
 
-class OfRows(Generic[Made]):
-    """Makes something of the rows of a level, and keeps it for the next level with the same rows,
-    up to MOST_CELLS cells."""
+def of_rows(make: Callable[[Level], Made]) -> Callable[[Level], Made]:
+    """Returns a function that makes something of the rows of a level, and keeps it for the next
+    level with the same rows, up to MOST_CELLS cells."""
+    known: Dict[Tuple[bytes, ...], Made] = {}
+    cells = 0
 
-    def __init__(self, make: Callable[[Level], Made]) -> None:
-        self._make = make
-        self._made: Dict[Tuple[bytes, ...], Made] = {}
-        self._cells = 0
-
-    def __call__(self, level: Level) -> Made:
+    def made(level: Level) -> Made:
+        nonlocal cells
         rows = tuple(level.rows)
-        if (made := self._made.get(rows)) is None:
-            made = self._make(level)
-            self._cells += sum(map(len, rows))
-            if self._cells > MOST_CELLS:
-                self._made.clear()
-                self._cells = 0
-            self._made[rows] = made
-        return made
+        if rows not in known:
+            cells += sum(map(len, rows))
+            if cells > MOST_CELLS:
+                known.clear()
+                cells = 0
+            known[rows] = make(level)
+        return known[rows]
+    return made
 
 
 def is_row(line: bytes) -> bool:
