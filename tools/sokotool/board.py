@@ -5,7 +5,7 @@ adds a number to a place and never leaves the board.
 """
 import re
 from functools import cached_property
-from typing import FrozenSet, List, Optional, Sequence, Tuple
+from typing import FrozenSet, List, Optional, Tuple
 
 from . import levels, texts
 from .forms import OPEN, form_of
@@ -26,29 +26,14 @@ class Board:
         rows = [] if is_large else level.rows
         self.stride = self.width + 2 if rows else 2
         self.steps = {"l": -1, "u": -self.stride, "r": 1, "d": self.stride}
-        self.walls = bytearray(b"\1") * (self.stride * (len(rows) + 2))
-        self._read(rows)
-        self.player = self.players[0] if len(self.players) == 1 else None
+        rim = b"#" * self.stride
+        drawn = b"".join([rim, *(b"#%b#" % row.ljust(self.width) for row in rows), rim])
+        self.walls = bytearray(drawn.translate(_WALLS))
+        self.goals, self.boxes, self.players = (
+            frozenset(match.start() for match in kind.finditer(drawn)) for kind in _KINDS)
+        self.player = next(iter(self.players)) if len(self.players) == 1 else None
         self._solved: Optional["Replay"] = None
         self.fault = "size" if is_large else self._first_fault(level)
-
-    def _read(self, rows: Sequence[bytes]) -> None:
-        goals: List[int] = []
-        boxes: List[int] = []
-        self.players: List[int] = []
-        for y, row in enumerate(rows, 1):
-            start = y * self.stride + 1
-            cells = row.ljust(self.width)
-            self.walls[start:start + self.width] = cells.translate(_WALLS)
-            for found in _MARKS.finditer(cells):
-                x, cell = start + found.start(), found[0]
-                if cell in _GOALS:
-                    goals.append(x)
-                if cell in _BOXES:
-                    boxes.append(x)
-                elif cell in _PLAYERS:
-                    self.players.append(x)
-        self.goals, self.boxes = frozenset(goals), frozenset(boxes)
 
     def _first_fault(self, level: Level) -> Optional[str]:
         if self.player is None:
@@ -162,6 +147,5 @@ class Replay:
 
 
 _WALLS = bytes(cell == ord(levels.WALL) for cell in range(256))
-_GOALS, _BOXES = levels.GOALS.encode(), levels.BOXES.encode()
-_PLAYERS = levels.PLAYERS.encode()
-_MARKS = re.compile(b"[%b]" % re.escape(_GOALS + _BOXES + _PLAYERS))
+_KINDS = [re.compile(b"[%b]" % kind.encode())
+          for kind in (levels.GOALS, levels.BOXES, levels.PLAYERS)]
