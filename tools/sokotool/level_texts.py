@@ -31,20 +31,14 @@ def cut(gap: Sequence[bytes]) -> int:
 
 def read(data: bytes, cut_of: Callable[[Sequence[bytes]], int] = cut) -> List[Block]:
     """Returns the levels of a text with all of its lines."""
-    lines = texts.lines(texts.unmarked(data))
-    found: List[Block] = []
-    end = 0
-    for level in levels.read(data):
-        first = level.line - 1
-        gap = lines[end:first]
-        at = cut_of(gap) if found else 0
-        if found:
-            found[-1] = found[-1]._replace(below=tuple(gap[:at]))
-        end = first + len(level.rows)
-        found.append(Block(tuple(gap[at:]), tuple(lines[first:end]), ()))
-    if found:
-        found[-1] = found[-1]._replace(below=tuple(lines[end:]))
-    return found
+    lines, found = texts.lines(texts.unmarked(data)), levels.read(data)
+    firsts = [level.line - 1 for level in found]
+    ends = [first + len(level.rows) for first, level in zip(firsts, found)]
+    gaps = [tuple(lines[end:first])
+            for end, first in zip([0, *ends], [*firsts, len(lines)])]
+    cuts = [0, *map(cut_of, gaps[1:-1]), len(gaps[-1])]
+    return [Block(above[at:], tuple(level.rows), below[:end])
+            for level, above, at, below, end in zip(found, gaps, cuts, gaps[1:], cuts[1:])]
 
 
 def separated(blocks: Sequence[Block]) -> List[Block]:
