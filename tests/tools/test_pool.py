@@ -54,7 +54,7 @@ class Picked(Case):
         """It names no line of a text that nobody sees."""
         found = Pool(STATE, MOVES)
         found.add_file("a.answers", read(b"level 1\nunsolvable\npattern 3,3 @ *\nend\n"), STATE)
-        found.chosen = {1: found._of[1][0]}
+        found.chosen = {1: [*found._of[1].values()][0]}
         found._refuse(report.read(b"level 1 refused line 4 push 3,3 r\n"), found.chosen)
         self.assertEqual(found.left_out(),
                          ["a.answers line 2: refused for level 1: push 3,3 r"])

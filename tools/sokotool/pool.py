@@ -21,8 +21,6 @@ class Candidate:
     refused, if that is known. One that `stays` is kept if no other is accepted; one that was
     computed gives way."""
 
-    __slots__ = ("number", "answer", "stays", "rank", "counts", "fault", "is_computed")
-
     def __init__(self, number: int, answer: Answer, stays: bool) -> None:
         self.number, self.answer, self.stays, self.is_computed = number, answer, stays, False
         self.rank: Tuple[int, ...] = ()
@@ -47,7 +45,7 @@ class Pool:
         self.now, self.best = now, best
         self.chosen: Dict[int, Candidate] = {}
         self.others: Dict[int, Candidate] = {}
-        self._of: Dict[int, List[Candidate]] = {}
+        self._of: Dict[int, Dict[Answer, Candidate]] = {}
         self._own: List[Given] = []
         self._stored: List[Given] = []
         self._files: Dict[Tuple[str, int], List[Candidate]] = {}
@@ -106,12 +104,8 @@ class Pool:
 
     def _add(self, number: int, answer: Answer, stays: bool = False) -> Candidate:
         """Adds an answer to a level, unless that has it."""
-        several = self._of.setdefault(number, [])
-        found = next((it for it in several if it.answer == answer), None)
-        if not found:
-            found = Candidate(number, answer, stays)
-            several.append(found)
-        return found
+        several = self._of.setdefault(number, {})
+        return several.setdefault(answer, Candidate(number, answer, stays))
 
     def _rank(self, it: Candidate, order: int) -> None:
         """Ranks a candidate, and notes why a replay refuses it. Certificates aren't checked."""
@@ -216,7 +210,7 @@ class Pool:
 
     def _choice(self, number: int) -> Optional[Candidate]:
         """Returns the best answer to a level that isn't known to be refused, or one that stays."""
-        several = self._of[number]
+        several = [*self._of[number].values()]
         if len(several) > 1:
             for order, it in enumerate(several):
                 self._rank(it, order)
@@ -226,7 +220,7 @@ class Pool:
 
     def _other(self, chosen: Candidate) -> Optional[Candidate]:
         """Returns the best solution by pushes of a level, if it has fewer than the chosen one."""
-        several = [it for it in self._of[chosen.number] if it.counts and not it.fault]
+        several = [it for it in self._of[chosen.number].values() if it.counts and not it.fault]
         if self.best != BOTH or not several or chosen not in several:
             return None
         best = min(several, key=lambda it: (it.counts, it.rank))
