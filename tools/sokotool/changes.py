@@ -1,9 +1,8 @@
 """What changed from one state of a collection to another: levels are matched by their boards, and
 the others by title or position."""
 from itertools import groupby
-from types import MappingProxyType
-from typing import (Callable, Dict, Hashable, Iterator, List, Mapping, NamedTuple, Optional,
-                    Sequence)
+from typing import (Callable, Dict, Hashable, Iterable, Iterator, List, NamedTuple, Optional,
+                    Sequence, Tuple)
 
 from . import forms, texts
 from .level_texts import Block
@@ -108,14 +107,14 @@ def _with_boards(beside: Sequence[int]) -> Name:
     return name
 
 
-def matches(old: Snapshot, new: Snapshot, known: Mapping[int, int] = MappingProxyType({})
+def matches(old: Snapshot, new: Snapshot, known: Iterable[Tuple[int, int]] = ()
             ) -> List[Match]:
     """Returns the levels that are the same, in order of the new ones. Of some it is known, by
     indices before. A level that has another board now is found by its title, or otherwise by the
     level before it if it has no title.
     """
     pairs = _Pairs(old.forms, new.forms)
-    for was, now in known.items():
+    for was, now in known:
         pairs.add(was, now)
     for beside in ((-1, 1), (-1,), (1,), ()):
         pairs.match(_with_boards(beside))

@@ -99,15 +99,15 @@ def _marked(written: Sequence[Block], mine: Sequence[Block], was: Dict[int, int]
     return found, fresh
 
 
-def _paired(written: Written, was: Dict[int, int], sources: Sequence[str]) -> Dict[int, int]:
-    """Returns the indices in the exports by the indices now, as the last check paired them, for
+def _paired(written: Written, was: Dict[int, int], sources: Sequence[str]
+            ) -> List[Tuple[int, int]]:
+    """Returns the indices now, each with that in the exports, as the last check paired them, for
     levels whose text in the exports is the same. Otherwise duplicates could change places."""
     waiting = texts.grouped((source, at) for at, source in reversed(list(enumerate(sources))))
     place_of = {place: waiting[source].pop() for place, source in enumerate(written.sources)
                 if waiting.get(source)}
-    now = [place_of.get(place) if place is not None else None for place in written.places]
-    found = {index: now[old] for index, old in was.items() if old < len(now)}
-    return {index: place for index, place in found.items() if place is not None}
+    now = {old: place_of[place] for old, place in enumerate(written.places) if place in place_of}
+    return [(index, now[old]) for index, old in was.items() if old in now]
 
 
 def _over(block: Block, typed: Block) -> Block:
