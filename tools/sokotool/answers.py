@@ -118,34 +118,31 @@ def read(data: bytes, levels: Optional[int] = None, rising: bool = True) -> Answ
     records: List[Record] = []
     above: List[bytes] = []
     apart: List[bytes] = []
-    last = first = 0
-    body: List[bytes] = []
-    kind = ""
-    for number, line in enumerate(lines[1:], 2):
-        if first:
+    last = 0
+    numbered = enumerate(lines[1:], 2)
+    for first, line in numbered:
+        if _is_skipped(line):
+            above.append(line)
+            if not line:
+                apart, above = apart + above, []
+            continue
+        level, kind, body = _level_of(line, first), "", []
+        if rising and level <= last:
+            raise Fault(first, "order")
+        if levels is not None and level > levels:
+            raise Fault(first, "unknown")
+        for number, line in numbered:
             body.append(line)
-            if _is_skipped(line):
-                continue
-            if not kind:
+            if not kind and not _is_skipped(line):
                 if line not in (b"solution", b"unsolvable"):
                     raise Fault(number, "kind")
                 kind = line.decode()
             elif line == b"end":
-                records.append(Record(last, Answer(kind, tuple(above), tuple(body)), first, apart))
-                above, apart, kind, body, first = [], [], "", [], 0
-        elif _is_skipped(line):
-            above.append(line)
-            if not line:
-                apart, above = apart + above, []
+                break
         else:
-            level = _level_of(line, number)
-            if rising and level <= last:
-                raise Fault(number, "order")
-            if levels is not None and level > levels:
-                raise Fault(number, "unknown")
-            last, first = level, number
-    if first:
-        raise Fault(len(lines) + 1, "unclosed")
+            raise Fault(len(lines) + 1, "unclosed")
+        records.append(Record(level, Answer(kind, tuple(above), tuple(body)), first, apart))
+        above, apart, last = [], [], level
     return Answers(int(header.group(1)), records, apart + above)
 
 
