@@ -3,6 +3,7 @@ with their titles and authors."""
 import re
 import sys
 from functools import lru_cache
+from itertools import islice
 from typing import Callable, Dict, List, NamedTuple, Pattern, Sequence, Tuple, TypeVar
 
 from . import texts
@@ -108,11 +109,7 @@ def read(data: bytes, most: int = sys.maxsize) -> Sequence[Level]:
     """
     lines = texts.lines(texts.unmarked(data))
     kinds = bytes(map(texts.cached(_kind_of), lines))
-    spans: List[Tuple[int, int]] = []
-    for match in _ROWS.finditer(kinds):
-        if len(spans) == most:
-            break
-        spans.append(match.span())
+    spans = [match.span() for match in islice(_ROWS.finditer(kinds), most)]
     firsts = [first for first, _ in spans] + [len(lines)]
     ends = [0] + [end for _, end in spans]
     # the last title with its key between two levels; of the keys `Title` comes first
