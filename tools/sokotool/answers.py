@@ -126,11 +126,15 @@ def read(data: bytes, levels: Optional[int] = None, rising: bool = True) -> Answ
             if not line:
                 apart, above = apart + above, []
             continue
-        level, kind, body = _level_of(line, first), "", []
+        if not (match := _LEVEL.fullmatch(line)):
+            raise Fault(first, "level")
+        # Past nine digits a number is above every level, and is not converted.
+        level = int(match[1]) if len(match[1]) < 10 else 10 ** 10
         if rising and level <= last:
             raise Fault(first, "order")
         if levels is not None and level > levels:
             raise Fault(first, "unknown")
+        kind, body = "", []
         for number, line in numbered:
             body.append(line)
             if not kind and not _is_skipped(line):
@@ -193,13 +197,6 @@ def advice(data: bytes, fault: Fault, levels: Optional[int]) -> str:
 def read_file(name: str, levels: Optional[int] = None, rising: bool = True) -> Answers:
     """Reads an answers file; its first fault ends the command."""
     return read_text(name, texts.read(name), levels, rising)
-
-
-def _level_of(line: bytes, number: int) -> int:
-    if not (match := _LEVEL.fullmatch(line)):
-        raise Fault(number, "level")
-    # Past nine digits a number is above every level, and is not converted.
-    return int(match.group(1)) if len(match.group(1)) < 10 else 10 ** 10
 
 
 def solution(level: int, letters: bytes) -> bytes:
