@@ -1,5 +1,6 @@
 """Which of several answers is picked, what is said of the others, and how the files of a collection
 become."""
+import json
 import os
 import unittest.mock
 from typing import Dict, List
@@ -203,8 +204,12 @@ class Read(Case):
             self.assertEqual(text.splitlines()[0], b"sokoban-answers %d" % version)
 
     def test_damaged_memory(self) -> None:
+        empty = {"levels": [], "ordered": True, "searched": {}, "computed": []}
+        memory.read(json.dumps(empty).encode(), "mine.memory")
+        finds = ["", "level x"], [["###"], ""], [[], "level 1\nsolution\nl\nend\n"]
         for data in (b"{", b"{}", b"[]", b"5", b'{"levels": 5}',
-                     b'{"levels": [], "ordered": true, "searched": [], "computed": []}'):
+                     *(json.dumps({**empty, **more}).encode()
+                       for more in ({"searched": []}, *({"found": [it]} for it in finds)))):
             with self.assertRaisesRegex(texts.Stop, "mine.memory is damaged"):
                 memory.read(data, "mine.memory")
 

@@ -4,14 +4,16 @@ import json
 from types import MappingProxyType
 from typing import Any, Dict, List, Mapping, NamedTuple, Optional, Sequence, Tuple
 
-from . import texts
+from . import answers, texts
+from .forms import Form, form_of
 from .level_texts import Block, Lines
+from .levels import Level
 from .merging import Written, collection
 from .outcomes import Outcomes
 
 
-# an answer that was found and has no place yet: the rows of a level, and the record
-Find = Tuple[Lines, bytes]
+# an answer that was found and has no place yet, with the form of its level
+Find = Tuple[Form, answers.Answer]
 
 
 class Memory(NamedTuple):
@@ -42,10 +44,11 @@ def read(data: Optional[bytes], name: str) -> Memory:
         return Memory(written, Outcomes(
             {board: {way: (what, seconds) for way, (what, seconds) in ways.items()}
              for board, ways in found["searched"].items()}), found["computed"],
-                      [(_lines(rows), record.encode())
+                      [(form_of(Level(1, list(_lines(rows)), 1)),
+                        answers.answer_of(record.encode()))
                        for rows, record in found.get("found", [])],
                       found.get("exports"), dict(found.get("made", {})))
-    except (ValueError, TypeError, KeyError, AttributeError):
+    except (ValueError, TypeError, KeyError, AttributeError, IndexError, answers.Fault):
         raise texts.Stop(f"{texts.shown(name)} is damaged: remove it") from None
 
 
@@ -65,7 +68,8 @@ def text(memory: Memory) -> bytes:
         "ordered": memory.written.is_ordered, "searched": memory.outcomes,
         "computed": memory.computed, "exports": memory.exports, "made": {**memory.made}}
     if memory.found:
-        data["found"] = [[_spelled(rows), record.decode()] for rows, record in memory.found]
+        data["found"] = [[_spelled(tuple(form.level.rows)), answer.record(1).decode()]
+                         for form, answer in memory.found]
     return _spread(data).encode() + b"\n"
 
 

@@ -34,7 +34,7 @@ class Run:
         self.exports = merging.collection(level_texts.read(text))
         self.records = [record for it in exported for record in answers.read(it).records]
         self.outcomes = Outcomes({})
-        self.found: List[Tuple[forms.Form, answers.Answer]] = []
+        self.found: List[memory.Find] = []
         self.made: Set[forms.Key] = set()
         self.before: Optional[Snapshot] = None
         self.edited: Set[forms.Key] = set()
@@ -44,8 +44,7 @@ class Run:
     def without(self, forms: Sequence[forms.Form]) -> List[memory.Find]:
         """Returns the answers to boards that none of these forms has."""
         keys = {form.key for form in forms}
-        return [(tuple(form.level.rows), answer.record(number))
-                for number, (form, answer) in enumerate(self.found, 1) if form.key not in keys]
+        return [find for find in self.found if find[0].key not in keys]
 
     def give(self, pool: Pool) -> None:
         """Gives the answers to the levels that have their boards."""
@@ -89,9 +88,7 @@ class State:
         self.most = max(len(self.former.levels), len(self.mine.blocks))
         if not run.is_begun:
             run.is_begun, run.before = True, self._before(run.program)
-            run.found += [
-                (forms.form_of(levels.Level(1, list(rows), 1)), answers.answer_of(record))
-                for rows, record in self.memory.found]
+            run.found += self.memory.found
         self.merged = merging.merged(self.memory.written, self.mine, run.exports,
                                      [entry.block for entry in self.stored.entries])
         self.now = self.merged.written.collection
