@@ -12,6 +12,7 @@ from sokotool.builder import BOTH, MOVES, PUSHES
 from sokotool.board import board_of
 from sokotool.levels import Level
 from sokotool.pool import Pool, in_case
+from sokotool.progress import Progress
 from tests.tools.helping import Case, not_on_windows
 
 # Two steps to the right push the box to the far goal, and walks around it to the near one.
@@ -227,6 +228,13 @@ class Own(Case):
         self.write("mine.xsb", "before")
         own_files.Files("mine", True).write({own_files.XSB: b"after"})
         self.assertFalse(os.path.exists("mine.xsb~"))
+
+    def test_an_interrupt_leaves_no_lock(self) -> None:
+        """It comes after the file is made and before it is locked."""
+        with unittest.mock.patch.object(system, "lock", side_effect=[KeyboardInterrupt, True]):
+            with self.assertRaises(KeyboardInterrupt), own_files.alone("mine", Progress("check")):
+                self.fail("it is no lock")
+        self.assertEqual(os.listdir(), [])
 
     @not_on_windows
     def test_lock_of_a_file_that_is_gone(self) -> None:
