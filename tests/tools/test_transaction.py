@@ -3,6 +3,7 @@ import contextlib
 import itertools
 import json
 import os
+import signal
 import unittest.mock
 from typing import Any, Callable, Dict, Iterator, List
 
@@ -180,6 +181,18 @@ class Transactions(Case):
                 self.assertIn(b"typed", found.pop(name), said)
             self.assertIn(found, [{it: data for it, data in state.items()
                                    if it != name or not there} for state in (OLD, NEW)], said)
+
+    @not_on_windows
+    def test_interrupted_at_any_moment(self) -> None:
+        """The interrupt waits, and nothing is left."""
+        for moment in self.moments():
+            def act(now: int) -> None:
+                if now == moment:
+                    os.kill(os.getpid(), signal.SIGINT)
+            self.start()
+            with at_calls(act):
+                self.assertRaises(KeyboardInterrupt, self.commit)
+            self.assertEqual(self.files(), NEW)
 
     def test_ended_before_the_journal(self) -> None:
         """The next run removes the new files, and none of other writes."""

@@ -65,9 +65,10 @@ def commit(files: Sequence[Tuple[str, Optional[bytes], Optional[bytes]]], journa
         names = {os.path.realpath(name): (_name_of(before), _name_of(after))
                  for name, before, after in files}
         moves = [Move(path, new, output.name_beside(path), *names[path]) for new, path in made]
-        _begin(journal, moves)
-        made.clear()
-        changed = _end(moves, journal, is_new=True)
+        with system.uninterrupted():
+            _begin(journal, moves)
+            made.clear()
+            changed = _end(moves, journal, is_new=True)
     if changed:
         raise Changed(next(name for name, *_ in files if os.path.realpath(name) == changed))
 
