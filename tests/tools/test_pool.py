@@ -2,8 +2,9 @@
 become."""
 import json
 import os
+import signal
 import unittest.mock
-from typing import Dict, List
+from typing import Any, Dict, List
 
 from sokotool import (answers, carrying, changes, forms, kept, memory, own_files, report, system,
                       texts)
@@ -229,12 +230,21 @@ class Own(Case):
         own_files.Files("mine", True).write({own_files.XSB: b"after"})
         self.assertFalse(os.path.exists("mine.xsb~"))
 
+    @not_on_windows
     def test_an_interrupt_leaves_no_lock(self) -> None:
-        """It comes after the file is made and before it is locked."""
-        with unittest.mock.patch.object(system, "lock", side_effect=[KeyboardInterrupt, True]):
-            with self.assertRaises(KeyboardInterrupt), own_files.alone("mine", Progress("check")):
-                self.fail("it is no lock")
-        self.assertEqual(os.listdir(), [])
+        """It comes as the file is locked, or as it is removed."""
+        def interrupted(module: object, name: str) -> Any:
+            def called(*words: Any) -> Any:
+                os.kill(os.getpid(), signal.SIGINT)
+                return real(*words)
+            real = getattr(module, name)
+            return unittest.mock.patch.object(module, name, called)
+
+        for patched in interrupted(system, "lock"), interrupted(os, "unlink"):
+            with patched, self.assertRaises(KeyboardInterrupt), own_files.alone(
+                    "mine", Progress("check")):
+                pass
+            self.assertEqual(os.listdir(), [])
 
     @not_on_windows
     def test_lock_of_a_file_that_is_gone(self) -> None:

@@ -149,25 +149,26 @@ def alone(name: str, shown: Progress) -> Iterator[None]:
     """Keeps other runs of check out of the files of NAME: they wait. The lock ends with this
     process, however that ends."""
     path = os.path.join(os.path.dirname(name), f".sokotool-{os.path.basename(name)}.lock")
-    file = None
+    file, is_told = None, False
     try:
-        file = _locked(path)
-        if not file:
-            shown.keep(f"another check of {texts.shown(name)} is running: waiting for its end")
         while not file:
-            time.sleep(_BEAT)
-            file = _locked(path)
+            with system.uninterrupted():  # the file isn't lost between its making and here
+                file = _locked(path)
+            if not file:
+                if not is_told:
+                    shown.keep(f"another check of {texts.shown(name)} is running: waiting for its "
+                               "end")
+                is_told = True
+                time.sleep(_BEAT)
         yield
     finally:
-        # An interrupt may come after the file is made and before this has it.
-        with contextlib.suppress(texts.Stop):
-            file = file or _locked(path)
-        # Windows removes no open file. Elsewhere the file goes while the lock is held.
-        if file:
-            is_removed = _is_removed(path)
-            file.close()
-            if not is_removed:
-                _is_removed(path)
+        with system.uninterrupted():
+            # Windows removes no open file. Elsewhere the file goes while the lock is held.
+            if file:
+                is_removed = _is_removed(path)
+                file.close()
+                if not is_removed:
+                    _is_removed(path)
 
 
 def _locked(path: str) -> Optional[IO[bytes]]:
