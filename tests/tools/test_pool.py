@@ -208,10 +208,10 @@ class Read(Case):
     def test_damaged_memory(self) -> None:
         empty = {"levels": [], "ordered": True, "searched": {}, "computed": []}
         memory.read(json.dumps(empty).encode(), "mine.memory")
-        finds = ["", "level x"], [["###"], ""], [[], "level 1\nsolution\nl\nend\n"]
+        finds = (["", "level x"], [["###"], ""], [[], "level 1\nsolution\nl\nend\n"])
+        damaged: List[Dict[str, Any]] = [{"searched": []}, *({"found": [it]} for it in finds)]
         for data in (b"{", b"{}", b"[]", b"5", b'{"levels": 5}',
-                     *(json.dumps({**empty, **more}).encode()
-                       for more in ({"searched": []}, *({"found": [it]} for it in finds)))):
+                     *(json.dumps({**empty, **it}).encode() for it in damaged)):
             with self.assertRaisesRegex(texts.Stop, "mine.memory is damaged"):
                 memory.read(data, "mine.memory")
 
