@@ -150,6 +150,15 @@ class Export(Case):
         self.assertEqual(result.err.count("not exported, as it is refused"), refused)
         self.assertIn(f"{name}.answers line", result.err)
 
+    def test_boards_that_are_refused(self) -> None:
+        """The reason is the auditor's."""
+        rows = "#" * 256 + "\n#@$" + " " * 251 + ".#\n" + "#" * 256, "#####\n# $.#\n#####"
+        self.write("mine.xsb", "\n\n".join(rows))
+        self.write("mine.answers", "sokoban-answers 1\n" + "".join(
+            f"level {level}\nsolution\nR\nend\n" for level in (1, 2)))
+        self.assertEqual([it.split(": ")[-1] for it in self.tool(
+            "export", "mine", "--to", "sok").err.splitlines()[:2]], ["board size", "board player"])
+
     def test_generated(self) -> None:
         """Collections come back whole: levels, titles and solutions."""
         with_letters = 0

@@ -63,7 +63,8 @@ def solutions_of(name: str, found: List[levels.Level]
     faults = []
     for record in (it for it in records if it.kind == "solution"):
         board = board_of(found[record.level - 1])
-        why = board.replay(record.letters).fault if board.player is not None else "board player"
+        is_played = board.player is not None
+        why = board.replay(record.letters).fault if is_played else f"board {board.fault}"
         if why:
             faults.append(f"{texts.shown(name)} line {record.line}: not exported, as it is refused "
                           f"for level {record.level}: {why}")
