@@ -128,6 +128,7 @@ class Whole(Case):
                                 self.tool("named", "many.xsb", "many.report").out)):
             result = self.tool(*words, "-o", "out")
             self.assertEqual((result.status, result.out, self.read("out")), (0, b"", printed))
+            self.assertEqual(self.tool(*words, "-o", "-").out, printed)
 
     def test_output_to_an_input(self) -> None:
         self.write("a", HAND)

@@ -31,9 +31,9 @@ def buffered() -> None:
 
 @contextlib.contextmanager
 def into(name: Optional[str]) -> Iterator[None]:
-    """Collects what is printed, and writes it to the file at the end; does nothing without a
-    name."""
-    if name is None:
+    """Collects what is printed, and writes it to the file at the end; does nothing without a name,
+    or for `-`."""
+    if name is None or name == "-":
         yield
         return
     kept = io.TextIOWrapper(io.BytesIO(), "utf-8", errors="replace", newline="\n")
