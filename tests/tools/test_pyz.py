@@ -108,6 +108,20 @@ class Pyz(Case):
         self.assertIn(b"sokotool", self.runs("manual", "README.md").out)
         self.assertEqual(self.runs("manual", "none").status, 2)
 
+    @not_on_windows
+    def test_streams(self) -> None:
+        """The note never joins a report, and what can't be written ends with status 2."""
+        for command, end, said in (
+                ("make a.txt", "2>&-", (0, b"sokoban-answers 1\n", b"")),
+                ("make a.txt", "2>/dev/full", (0, b"sokoban-answers 1\n", b"")),
+                ("manual none", "2>&-", (2, b"", b"")),
+                ("manual rules.md", ">&-", (2, b"", b"manual: cannot write\n")),
+                ("manual", ">/dev/full", (2, b"", b"manual: cannot write\n"))):
+            ran = subprocess.run(["sh", "-c", f'"$0" it.pyz {command} {end}', sys.executable],
+                                 stdout=subprocess.PIPE, stderr=subprocess.PIPE, check=False,
+                                 env={**plain_variables(), "SOKOAUDIT_QUIET": ""})
+            self.assertEqual((ran.returncode, ran.stdout, ran.stderr), said, command + end)
+
     def test_where(self) -> None:
         """The name of the file is printed."""
         self.assertEqual(self.said, ["it.pyz"])
