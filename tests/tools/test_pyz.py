@@ -107,6 +107,9 @@ class Pyz(Case):
             self.assertEqual(self.runs("manual", "keeping.md").out, file.read())
         self.assertIn(b"sokotool", self.runs("manual", "README.md").out)
         self.assertEqual(self.runs("manual", "none").status, 2)
+        version = self.runs("--version").out.decode().split()[1]
+        for page in ("sokoaudit.1", "sokoaudit-answers.5", "sokotool.1"):
+            self.assertIn(f"\nVersion {version}.\n", self.runs("manual", page).out.decode())
 
     @not_on_windows
     def test_streams(self) -> None:
