@@ -110,6 +110,8 @@ case("it needs Python alone", 0, "", "",
      "(cd $it; find . -printf '%m %p\\n' | sort >../$it.modes); done; cmp root.modes alone.modes")
 case("and removes what it installed", 0, "", "",
      f"PATH=none {alone} --remove alone/usr; find alone -type f")
+case("documents are no commands, wherever the prefix is", 0, "4", "",
+     f"PATH=none {alone} alone/bin/usr; find alone -type f -perm 755 | wc -l; rm -r alone/bin")
 case("an installation that fails says where", 1, "", "install-tools: alone/levels/bin: Not a dir",
      f"touch alone/levels; PATH=none {alone} alone/levels")
 case("it installs the reference", 0, "level 1 solved moves 1 pushes 1 changes 1", NOTE,
