@@ -72,6 +72,7 @@ def case(name: str, status: int, line: str, says: str, command: str) -> None:
 
 
 case("help needs no build", 0, help, "", "$run -h && exit $(builds)")
+case("nor does it as a command", 0, help, "", "$run help && exit $(builds)")
 case("nor does the version", 0, version, "", "$run -V && exit $(builds)")
 # without the toolchain the reference runs
 LACKS = "PATH=$tree/../plain"
