@@ -1,8 +1,10 @@
 """Every command of sokotool and of the reference as a user's shell may run it: in another locale,
 with another mask, and with streams that are closed."""
+import contextlib
 import glob
 import os
 import shutil
+import signal
 import subprocess
 import sys
 from typing import Dict, List, Tuple
@@ -86,3 +88,19 @@ class Streams(Case):
             closed = self.ran(words, "exec >&-")
             self.assertEqual((closed[0], closed[1]), (2, b""), words)
             self.assertEqual(closed[2].count(b"\n"), 1, (words, closed[2]))
+
+    def test_interrupt(self) -> None:
+        """An interrupt ends the reference without a word."""
+        os.mkfifo("levels")
+        with subprocess.Popen([sys.executable, f"{TOP}/reference/sokoaudit", "make", "levels"],
+                              stdout=subprocess.PIPE, stderr=subprocess.STDOUT,
+                              # what is in the background would ignore it
+                              preexec_fn=lambda: signal.signal(signal.SIGINT, signal.SIG_DFL)
+                              ) as run:
+            with open("levels", "wb"):  # it opens when the run reads
+                for _ in range(600):  # Python may lose one just before it reads
+                    run.send_signal(signal.SIGINT)
+                    with contextlib.suppress(subprocess.TimeoutExpired):
+                        run.wait(0.1)
+                        break
+                self.assertEqual((run.wait(0), run.communicate()[0]), (130, b""))
