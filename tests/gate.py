@@ -9,7 +9,8 @@ from collections import Counter, defaultdict
 from typing import Dict, List
 
 from tests import mutants
-from tests.runner import TOP, Cases, arguments, call, decode, enter_folder, read, shell, write
+from tests.runner import (TOP, Cases, arguments, call, decode, enter_folder, read, run, shell,
+                          write)
 from tests.tools import dealing
 
 # a part as a command of bash, the least number of its cases, and the numbers that the gate counts
@@ -73,6 +74,18 @@ begin() { shift; [ "$1" != turns ] || shift; echo "$*"; }
 part() { begin "$@"; touch said.0.said; }
 finish() { :; }
 """
+# words that are wrong, and what tests/run says
+WRONG = {
+    "nothing": "tests/run: there is no part nothing; HACKING.md names the parts\nstatus 2\n",
+    "--help": "tests/run: there is no part --help; HACKING.md names the parts\nstatus 2\n",
+    "page /bin/true 3/2": "there is no share 3/2\nstatus 1\n",
+    "mutants /bin/true 0/4": "there is no share 0/4\nstatus 1\n",
+    "mutants /bin/true no.edit": """mutants: FAILED: no.edit can be applied
+    [Errno 2] No such file or directory: 'no.edit'
+0 passed, 1 failed
+status 1
+""",
+}
 GIVEN = {"HOME": "/a b", "PATH": "/usr/bin:/bin", "TERM": '"', "https_proxy": "$x"}
 
 
@@ -155,9 +168,15 @@ def variables(cases: Cases) -> None:
     cases.same("tests/bare", str(sorted(GIVEN.items())), str(sorted(found.items())))
 
 
+def wrong_words(cases: Cases) -> None:
+    """A case for each line of words that are wrong."""
+    for words, wanted in WRONG.items():
+        cases.same(f"tests/run {words}", wanted, run([f"{TOP}/tests/run", *words.split()]))
+
+
 if __name__ == "__main__":
     cases, named, _folder = Cases("gate"), arguments("gate [FUNCTION..]"), enter_folder()
-    for part in (counting, at_once, whole, variables):
+    for part in (counting, at_once, whole, variables, wrong_words):
         if not named or part.__name__ in named:
             part(cases)
     cases.finish()

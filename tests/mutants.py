@@ -223,13 +223,15 @@ def main() -> None:
             edit = read_edit(path)
             texts[edit.name] = apply(edit)
             edits.append(edit)
-        except BadEdit as error:
+        except (BadEdit, OSError) as error:
             cases.holds(f"{os.path.basename(path)} can be applied", False, str(error))
     for edit in edits[:]:
         lacks = [it for it in edit.needs if not shutil.which(it)]
         if lacks:
             cases.skip(edit.name, f"there is no command {lacks[0]}")
             edits.remove(edit)
+    if not edits:
+        cases.finish()
     with tempfile.TemporaryDirectory(prefix="mutants-") as room:
         trees, tests = Trees(program, room), [it.test for it in edits]
         if any(map(is_of_page, tests)):

@@ -216,7 +216,8 @@ def is_share(words: Sequence[str]) -> bool:
 def share_of(every: Sequence[Any], word: str) -> Sequence[Any]:
     """The share that a word such as 2/3 names: each third one, from the second on."""
     number, count = map(int, word.split("/"))
-    assert 0 < number <= count, word
+    if not 0 < number <= count:
+        sys.exit(f"there is no share {word}")
     return every[number - 1::count]
 
 
