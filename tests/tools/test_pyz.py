@@ -129,6 +129,18 @@ class Pyz(Case):
         """The name of the file is printed."""
         self.assertEqual(self.said, ["it.pyz"])
 
+    @not_on_windows
+    def test_words(self) -> None:
+        """Words that name no file, and a file that can't be written."""
+        usage, before = "usage: packaging/pyz [FILE]\n", os.listdir()
+        for words, said in (("-h", usage), ("--help", usage), ("a b", usage),
+                            (".", "packaging/pyz: .: Is a directory\n"),
+                            ("/dev/full", "packaging/pyz: /dev/full: No space left on device\n")):
+            ran = subprocess.run([sys.executable, MAKER, *words.split()], stdout=subprocess.PIPE,
+                                 stderr=subprocess.PIPE, check=False)
+            self.assertEqual((ran.returncode, ran.stdout, ran.stderr.decode()), (1, b"", said))
+        self.assertEqual(os.listdir(), before)
+
     def test_quiet(self) -> None:
         self.assertEqual(self.runs("make", "a.txt", SOKOAUDIT_QUIET="1"),
                          (0, b"sokoban-answers 1\n", ""))
