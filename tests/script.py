@@ -126,6 +126,10 @@ case("it leaves a program that is installed", 0, "1", "",
      f"{tools} install-tools {places} 2>&1; cmp /bin/true root/usr/bin/sokoaudit && echo 1")
 case("and nothing is left by uninstall", 1, "", "",
      f"{tools} uninstall {places}; find root -type f | grep .")
+for name in ("sokoaudit", "sokotool"):
+    case(f"a copy of {name} alone says what it lacks", 2, "",
+         f"{name}: this script needs the files beside it: make a link to it, or install it",
+         f"mkdir lone; cp $top/{name} lone; {LACKS} lone/{name} -V; s=$?; rm -r lone; exit $s")
 # a program that the system can't run
 case("a program that can't be run is no refused level", 2, "", "perhaps of other sources",
      "mkdir -p $tree/crates/sokoaudit/out; printf '#!/other-bin/none\\n' | install -m 755 "
