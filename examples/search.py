@@ -13,8 +13,11 @@ ROWS = re.compile(r"(?m)(?:^(?=.*#)[-#@+$*. _]+(?:\n|\Z))+")
 
 def level_of(name, number):
     """The characters of a level by their cells, which are rows and columns from 1."""
-    with open(name, encoding="latin-1") as file:
-        levels = ROWS.findall(file.read())
+    try:
+        with open(name, encoding="latin-1") as file:
+            levels = ROWS.findall(file.read())
+    except OSError as error:
+        sys.exit(f"{name}: {error.strerror}")
     if not 1 <= number <= len(levels):
         sys.exit(f"{name} has no level {number}")
     return {(row, column): character for row, line in enumerate(levels[number - 1].split("\n"), 1)
@@ -83,4 +86,6 @@ def main(name, number, *named):
 
 
 if __name__ == "__main__":
+    if len(sys.argv) < 3 or not sys.argv[2].isdecimal():
+        sys.exit(__doc__)
     main(*sys.argv[1:])

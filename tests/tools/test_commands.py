@@ -221,6 +221,15 @@ class Merge(Case):
                            "pair")
         self.assertEqual((result.status, result.out), (0, self.sample("deadlocks.answers")))
 
+    def test_words_of_the_search(self) -> None:
+        """The example says how it is called, or which file it can't read."""
+        usage = "search.py LEVELS N [C,R..]: "
+        for words, said in (("", usage), ("--help", usage), ("none one", usage),
+                            ("none 1", "none: No such file or directory\n")):
+            searched = call([SEARCH, *words.split()])
+            self.assertEqual((searched.status, searched.output), (1, b""))
+            self.assertTrue(searched.errors.decode().startswith(said), searched.errors)
+
     def test_comments_and_order(self) -> None:
         self.write("a",
                    "sokoban-answers 2\n; lost\n\n; kept\nlevel 3\nsolution\nr\n; inside\n\nR\n"
