@@ -125,8 +125,11 @@ def main() -> None:
     given = parser.parse_args()
     if not given.program:
         print(run([f"{TOP}/packaging/build"]), end="", file=sys.stderr)
-    program = os.path.realpath(given.program or f"{TOP}/crates/sokoaudit/out/sokoaudit")
-    other = given.other and os.path.realpath(given.other)
+    program = given.program or f"{TOP}/crates/sokoaudit/out/sokoaudit"
+    for word in (program, given.other or program):
+        if not (os.path.isfile(word) and os.access(word, os.X_OK)):
+            sys.exit(f"bench/run: there is no program {word}")
+    program, other = os.path.realpath(program), given.other and os.path.realpath(given.other)
     with enter_folder():
         os.symlink(program, "sokoaudit")
         if other:

@@ -74,13 +74,17 @@ begin() { shift; [ "$1" != turns ] || shift; echo "$*"; }
 part() { begin "$@"; touch said.0.said; }
 finish() { :; }
 """
-# words that are wrong, and what tests/run says
+# words that are wrong, and what the script says
 WRONG = {
-    "nothing": "tests/run: there is no part nothing; HACKING.md names the parts\nstatus 2\n",
-    "--help": "tests/run: there is no part --help; HACKING.md names the parts\nstatus 2\n",
-    "page /bin/true 3/2": "there is no share 3/2\nstatus 1\n",
-    "mutants /bin/true 0/4": "there is no share 0/4\nstatus 1\n",
-    "mutants /bin/true no.edit": """mutants: FAILED: no.edit can be applied
+    "tests/run nothing":
+        "tests/run: there is no part nothing; HACKING.md names the parts\nstatus 2\n",
+    "tests/run --help":
+        "tests/run: there is no part --help; HACKING.md names the parts\nstatus 2\n",
+    "tests/run page /bin/true 3/2": "there is no share 3/2\nstatus 1\n",
+    "tests/run mutants /bin/true 0/4": "there is no share 0/4\nstatus 1\n",
+    "bench/run none": "bench/run: there is no program none\nstatus 1\n",
+    "bench/run /bin/true none": "bench/run: there is no program none\nstatus 1\n",
+    "tests/run mutants /bin/true no.edit": """mutants: FAILED: no.edit can be applied
     [Errno 2] No such file or directory: 'no.edit'
 0 passed, 1 failed
 status 1
@@ -171,7 +175,8 @@ def variables(cases: Cases) -> None:
 def wrong_words(cases: Cases) -> None:
     """A case for each line of words that are wrong."""
     for words, wanted in WRONG.items():
-        cases.same(f"tests/run {words}", wanted, run([f"{TOP}/tests/run", *words.split()]))
+        script, *given = words.split()
+        cases.same(words, wanted, run([f"{TOP}/{script}", *given]))
 
 
 if __name__ == "__main__":
