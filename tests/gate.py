@@ -140,6 +140,8 @@ def whole(cases: Cases) -> None:
     os.mkdir("packaging")
     for name in ("sources", "needs", "build"):
         os.symlink("/bin/true", f"packaging/{name}")
+    usage = "usage: .ci/run; tests/run runs a part\nstatus 2\n"
+    cases.same("an option begins no gate", usage, shell("bash .ci/run --help"))
     said = shell("bash .ci/run").splitlines()
     begun = [it.split()[1:] for it in said if it.startswith("tests/run ")]
     heads = (re.match(r'"""tests/run (\w+)', read(it))
