@@ -121,6 +121,14 @@ class Keys(Page):
         shared.press("p", "ArrowUp")
         self.holds(HASH, "#2:2")
 
+    def test_half_a_pattern_is_the_one_before(self) -> None:
+        self.walk("#2")
+        shared.ask("document.querySelector('input[type=number]').select()")
+        shared.call("Input.insertText", text="1.5")
+        shared.ask("document.querySelector('[aria-label=\"next pattern\"]').click()")
+        errors, shared.errors = shared.errors, []
+        self.assertEqual((self.all("input[type=number]", "value"), errors), (["2"], []))
+
     def test_sliders_keep_their_keys(self) -> None:
         self.walk("#1:0")
         at = self.all(".count b")

@@ -46,7 +46,7 @@ class PatternsView {
     }
     // draws a pattern, counted from 1, and the pushes out of it once they are found
     go(to) {
-        this.now = Math.max(1, Math.min(this.patterns.length, Number(to) || 1));
+        this.now = Math.max(1, Math.min(this.patterns.length, Math.trunc(to) || 1));
         const pattern = this.patterns[this.now - 1];
         const isOnBoard = ![...pattern.boxes].some(box => box < 0);
         if (Number(this.number.value) !== this.now) this.number.value = this.now;
