@@ -302,6 +302,22 @@ def reaching(check: Comparison, tab: Tab) -> None:
     tab.press("Tab", "Tab", "Enter")
     tab.wait("document.activeElement.id === 'total'")
     check.same("an audit by keys", LINE, tab.text("lines")[:len(LINE)])
+    for levels in f"{LEVEL}\n{CORNER}", f"{LEVEL}{LETTERS}\n\n{CORNER}", CORNER:
+        tab.paste("levels", levels)
+        tab.ask("$('make').focus(); 0")
+        tab.press("Enter")
+        tab.wait(f"{IDLE} && $('lines').textContent.includes('unsolvable patterns')")
+        tab.ask("new Promise(done => setTimeout(done, 100))")
+        check.same("the focus after certificates", "make" if LETTERS not in levels and
+                   LEVEL in levels else "total", tab.ask("document.activeElement.id"))
+    for typed, focus in ("", "total"), ("x", "levels"):
+        tab.ask(f"$('levels').focus(); $('levels').value = {LEVEL + LETTERS!r}; $('audit').click();"
+                f" document.execCommand('insertText', false, {typed!r})")
+        tab.wait(f"{IDLE} && $('lines').textContent.includes('moves 33')")
+        tab.ask("new Promise(done => setTimeout(done, 100))")
+        check.same(f"the focus after {typed!r} was typed during an audit", focus,
+                   tab.ask("document.activeElement.id"))
+    tab.paste("levels", LEVEL + LETTERS)
     names = tab.spoken()
     for pair in (("textbox", "Levels, with their solutions"), ("button", "Cancel"),
                  ("heading", "total 1 solved 1 unsolvable 0 refused 0 missing 0")):

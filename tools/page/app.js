@@ -299,9 +299,14 @@ function listen() {
     }
     on("audit", async () => {
         await audit();
-        if (!$("result").hidden) $("total").focus();
+        // a user who types on meanwhile stays in the field
+        if (!$("result").hidden && !$("result").classList.contains("stale")) $("total").focus();
     });
-    on("make", make);
+    on("make", async () => {
+        await make();
+        // the button may be gone, which had the focus
+        if ($("make").disabled && !document.activeElement.matches("textarea")) $("total").focus();
+    });
     on("cancel", () => {
         begin("");
         $("why").textContent = "Cancelled.";
