@@ -60,6 +60,11 @@ def below(check: Comparison, tab: Tab) -> None:
         check.same(f"below: {letters!r}", status, tab.text("lines").split()[2])
     tab.paste("levels", f"{LEVEL}llllllllll\nx\nrrrrrrrrrr\nx\n{LETTERS}\n")
     check.same("letters that aren't read", UNREAD, tab.told())
+    tab.paste("levels", LEVEL + "".join(f"uuuuuuuuuu{'u' * i}\nx\n" for i in range(30)))
+    tab.call("Emulation.setEmulatedMedia", media="print")
+    check.same("all of them on paper", [30, True], tab.ask(
+        "[$('told').children.length, $('told').scrollHeight <= $('told').clientHeight]"))
+    tab.call("Emulation.setEmulatedMedia", media="")
     tab.paste("levels", f"{LEVEL}\nsokoban-answers 1\nlevel 1\nsolution\n{LETTERS}\nend\n")
     check.same("both texts in one", LINE, tab.text("lines")[:len(LINE)])
 

@@ -135,6 +135,17 @@ class Eye(Page):
         self.open()
         self.assertLess(shared.ask("document.querySelector('header').offsetHeight"), 70)
 
+    def test_all_pushes_are_on_paper(self) -> None:
+        boxes = " ".join(f"{column},3" for column in range(3, 20, 2))
+        self.page(f"{'#' * 20}\n#@{' ' * 17}#\n#{' $' * 9}#\n#{' ' * 18}#\n{'#' * 20}\n",
+                  f"level 1\nunsolvable\npattern {boxes} @ 2,2\nend\n")
+        self.open("#1")
+        shared.call("Emulation.setEmulatedMedia", media="print")
+        self.assertEqual(shared.ask("document.querySelector('.pushes').children.length"), 34)
+        self.assertEqual(*shared.ask("['scrollHeight', 'clientHeight'].map(it => "
+                                     "document.querySelector('.pushes')[it])"))
+        shared.call("Emulation.setEmulatedMedia", media="")
+
     def test_no_request(self) -> None:
         self.samples("every")
         self.open()
