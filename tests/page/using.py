@@ -188,6 +188,8 @@ def several(check: Comparison, tab: Tab) -> None:
     write("other.answers", "sokoban-answers 1\n")
     check.same("answers of none of them", ["other.answers: no levels", 3], [
         tab.give("other.answers")[:24], tab.ask("document.querySelectorAll('#each li').length")])
+    tab.click("#levels-file button")
+    check.same("files that are removed can't be clicked", True, tab.ask("$('each').hidden"))
 
 
 def hostile(check: Comparison, tab: Tab) -> None:

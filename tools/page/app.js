@@ -43,6 +43,7 @@ function put(kind, file, words = file && `${file.name}, ${many(file.size, "byte"
 
 function remove() {
     pairs = [];
+    $("each").hidden = true;
     for (const kind in inputs) put(kind, null);
     if (!areOfLevels()) return;
     inputs.levels.field.value += moved;
@@ -63,7 +64,7 @@ function clear(levels = "") {
     remove();
     inputs.answers.field.value = "";
     write(levels);
-    $("each").hidden = $("message").hidden = true;
+    $("message").hidden = true;
     $("why").textContent = "";
     hide();
 }
