@@ -188,6 +188,11 @@ def several(check: Comparison, tab: Tab) -> None:
     write("other.answers", "sokoban-answers 1\n")
     check.same("answers of none of them", ["other.answers: no levels", 3], [
         tab.give("other.answers")[:24], tab.ask("document.querySelectorAll('#each li').length")])
+    write("part.xsb", f"{LEVEL}Solution: up\n\n{LEVEL.replace('*', '=')}\n")
+    tab.choose("part.xsb", "bad.xsb")
+    tab.wait(f"{IDLE} && $('each').children.length === 2")
+    check.same("a file before others that wasn't read whole", [", 2 remarks", "missing 1"], tab.ask(
+        "[...$('each').children].map(it => it.textContent.slice(-11).replace(/^.* m/, 'm'))"))
     tab.click("#levels-file button")
     check.same("files that are removed can't be clicked", True, tab.ask("$('each').hidden"))
 

@@ -263,7 +263,9 @@ async function audit() {
         button.disabled = true;
         button.addEventListener("click", () => auditPair(pair, "Auditing"));
         buttons.push(button);
-        item.append(button, ` ${said.trouble || totalIn(said.report)}`);
+        // what is said of a file is shown only until the next one
+        const unread = (said.said ?? []).filter(({ isNote }) => !isNote).length;
+        item.append(button, ` ${said.trouble || totalIn(said.report)}${unread ? `, ${many(unread, "remark")}` : ""}`);
         $("each").append(item);
     }
     for (const button of buttons) button.disabled = false;
