@@ -435,6 +435,13 @@ def fields(check: Comparison, tab: Tab) -> None:
     check.same("a file that is named answers", "answers line 1 header", tab.message())
     tab.give("one.xsb", "two.xsb", "one.answers", "three.answers")
     check.same("answers without levels", True, "three.answers: no levels" in tab.message())
+    write("one.txt", ANSWERS.replace(LETTERS, "l"))
+    check.same("two answers to one file", "one.txt: one.answers is for the same levels file.",
+               tab.give("one.xsb", "one.answers", "one.txt"))
+    tab.give("one.xsb", "two.xsb", "one.answers")
+    tab.choose("one.txt")
+    tab.wait(f"{IDLE} && $('each').textContent.includes('refused 1')")
+    check.same("other answers in their place", "", tab.message())
     tab.give("one.xsb", "two.xsb")
     tab.wait("document.querySelectorAll('#each li').length === 2")
     tab.click("#levels-file button")

@@ -88,7 +88,7 @@ async function take(files) {
     if (!levels.length || !hasLevels()) lists = [...lists, ...others(inputs.levels.lists)];
     if (!levels.length && pairs.length) {
         levels = pairs.map(it => it.levels);
-        answers = [...answers, ...others(pairs.flatMap(it => it.answers ?? []))];
+        answers = [...answers, ...others(pairs.flatMap(it => it.answers ?? [])).filter(former => !answers.some(it => baseOf(it) === baseOf(former)))];
         lists = [...lists, ...others(pairs[0].lists)];
     }
     if (levels.length < 2 && answers.length < 2) takePair(levels[0], answers[0], lists);
@@ -113,6 +113,11 @@ function takePairs(levels, answers, lists) {
     const ofNone = answers.find(file => !levels.some(it => baseOf(it) === baseOf(file)));
     if (ofNone) {
         complain(`${ofNone.name}: no levels file among these has this name.`);
+        return false;
+    }
+    const twins = answers.map(it => answers.filter(other => baseOf(other) === baseOf(it))).find(({ length }) => length > 1);
+    if (twins) {
+        complain(`${twins[1].name}: ${twins[0].name} is for the same levels file.`);
         return false;
     }
     pairs = levels.map(file => ({ levels: file, lists, answers: answers.find(it => baseOf(it) === baseOf(file)) ?? null }));
