@@ -198,6 +198,13 @@ class Ear(Page):
         shared.press("/", "c", "o", "r")
         self.holds(SAID, "1 level")
 
+    def test_accents_are_found_in_both_spellings(self) -> None:
+        self.page(f"Cafe\u0301\n{ONE}\nOther\n{ONE}\nCaf\u00e9 2\n{ONE}")
+        self.open()
+        shared.press("/")
+        shared.call("Input.insertText", text="caf\u00e9")
+        self.holds(SAID, "2 levels")
+
     def test_names(self) -> None:
         self.walk()
         names = shared.spoken()

@@ -7,8 +7,10 @@ const CARD = { width: 142, height: 200, gap: 8 };
 const $ = id => document.getElementById(id);
 const NO_VERDICT = { line: "not in the report", status: "missing", words: [] };
 for (const level of LEVELS) level.verdict = DATA.verdicts[level.number] ?? NO_VERDICT;
+// words as they are compared: in small letters, and an accent in one spelling
+const plain = words => words.normalize("NFKC").toLowerCase();
 // what a level is found by
-const wordsOf = level => level.words ??= `${level.number} ${level.title} ${level.verdict.line}`.toLowerCase();
+const wordsOf = level => level.words ??= plain(`${level.number} ${level.title} ${level.verdict.line}`);
 // a sentence on why a level or its answer is refused, or ""
 const whyOf = ({ verdict: { status, words } }) => status === "refused" ? refusalWords(words) : "";
 const boardOf = level => level.board ??= new Board(level.rows);
@@ -130,7 +132,7 @@ function chips() {
 // shows the levels of a status, or all for "", that have the words of the field
 function showLevels(status) {
     wanted = status;
-    const words = $("words").value.toLowerCase().split(/\s+/).filter(word => word);
+    const words = plain($("words").value).split(/\s+/).filter(word => word);
     found = LEVELS.filter(level => (!wanted || level.verdict.status === wanted)
         && words.every(word => wordsOf(level).includes(word)));
     $("nothing").hidden = found.length > 0;
