@@ -3,7 +3,7 @@ import base64
 import json
 import os
 import time
-from typing import Sequence
+from typing import Any, Dict, Sequence
 
 from tests.tools.browser import Browser
 
@@ -64,12 +64,15 @@ class Tab(Browser):
 
     def drop(self, selector: str, *names: str) -> None:
         """Drops files at the corner of an element, and waits for the result."""
-        x, y = self.ask(PLACE % json.dumps(selector))
-        data = {"items": [], "files": [os.path.abspath(it) for it in names],
-                "dragOperationsMask": 1}
-        for kind in ("dragEnter", "dragOver", "drop"):
-            self.call("Input.dispatchDragEvent", type=kind, x=x, y=y, data=data)
+        self.drag(selector, {"items": [], "files": [os.path.abspath(it) for it in names]})
         self.wait(IDLE)
+
+    def drag(self, selector: str, data: Dict[str, Any]) -> None:
+        """Drops what a user may drag at the corner of an element."""
+        x, y = self.ask(PLACE % json.dumps(selector))
+        for kind in ("dragEnter", "dragOver", "drop"):
+            self.call("Input.dispatchDragEvent", type=kind, x=x, y=y,
+                      data={**data, "dragOperationsMask": 1})
 
     def paste(self, field: str, text: str) -> str:
         """Pastes a text into a field, and waits for the result. Returns the page's message."""

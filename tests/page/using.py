@@ -359,6 +359,10 @@ def reaching(check: Comparison, tab: Tab) -> None:
     tab.ask("clear(); 0")
     tab.drop("#levels", "one.xsb")
     check.same("a dropped file", LINE, tab.text("lines")[:len(LINE)])
+    tab.ask("clear(); 0")
+    for place in "#levels", "h1":
+        tab.drag(place, {"items": [{"mimeType": "text/plain", "data": "####"}]})
+    check.same("a text that is dragged into the field", "####", tab.ask("$('levels').value"))
     check.same("a pasted file", [True, "level 1 missing"], [
         tab.paste_file("levels", "two.xsb", CORNER), tab.text("lines").splitlines()[0]])
     write("two.xsb", CORNER)

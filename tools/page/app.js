@@ -348,6 +348,8 @@ function listen() {
 // takes the files that are dropped on a window: this one, or the frame
 function takeDrops(view) {
     view.addEventListener("dragover", event => {
+        // a field takes a text itself
+        if (!event.dataTransfer.types.includes("Files") && event.target.closest?.("input, textarea")) return;
         event.preventDefault();
         document.body.classList.add("dropping");
     });
