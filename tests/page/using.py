@@ -97,6 +97,12 @@ def viewing(check: Comparison, tab: Tab) -> None:
     tab.ask("new Promise(done => setTimeout(done, 300))")
     check.same("no dead squares below the list of the keys", "false", tab.ask(
         "$('page').contentDocument.querySelector('#dead').ariaPressed"))
+    tab.paste("levels", f"{LEVEL}{LETTERS}\n\n{CORNER}")
+    tab.ask("$('page').contentWindow.go(2); $('page').contentDocument.body.dispatchEvent("
+            "new KeyboardEvent('keydown', { key: 'd', bubbles: true })); 0")
+    tab.wait("$('page').contentDocument.querySelector('.dead')")
+    check.same("dead squares are said before the level is drawn", ["dead squares 2,3 4,3"], [
+        it[:20] for it in tab.frame("#said")])
 
 
 def making(check: Comparison, tab: Tab) -> None:

@@ -68,9 +68,10 @@
         if (at !== undefined) address.step(`#${level.number}:${at}`);
         routed = null;
         route();
-        $("dead").focus();
+        // a level that isn't judged yet has no button
+        $("dead")?.focus();
         say(words);
-        if (words && !dead.has(level.board)) $("dead").textContent = `dead squares: ${words}`;
+        if ($("dead") && words && !dead.has(level.board)) $("dead").textContent = `dead squares: ${words}`;
     };
     addEventListener("keydown", event => {
         if (event.key !== "d" || event.ctrlKey || event.metaKey || event.altKey || $("keys").open || isTaken(event)) return;
