@@ -394,6 +394,8 @@ def fields(check: Comparison, tab: Tab) -> None:
         write(name, ANSWERS)
     tab.give("one.xsb", "one.answers")
     check.same("levels and answers", LINE, tab.text("lines")[:len(LINE)])
+    check.same("what each button removes", ["Remove levels", "Remove answers"], [
+        name for role, name in tab.spoken() if role == "button" and name.startswith("Remove")])
     check.same("all is answered", "fine", tab.ask("$('total').className"))
     tab.give("two.xsb")
     check.same("new levels drop the former answers", "level 1 missing",
