@@ -157,6 +157,11 @@ def around(check: Comparison, tab: Tab) -> None:
     check.same("the frame has no scroll bar", True, tab.ask(
         "$('page').contentDocument.documentElement.scrollHeight <= $('page').clientHeight"))
     check.same("the keys are in view", True, tab.ask(KEYS_IN_VIEW))
+    tall = "$('page').contentDocument.documentElement.style.getPropertyValue('--tall')"
+    for height in 500, 900:
+        tab.size(1280, height)
+        tab.ask("new Promise(done => setTimeout(done, 100))")
+        check.same("boards know how high the window is", f"{height}px", tab.ask(tall))
     check.same("few cards", True, len(tab.frame(".card")) < 150)
     for link in (".card", "nav a + a"):
         tab.ask(f"$('page').contentDocument.querySelector('{link}').click(); 0")

@@ -339,6 +339,7 @@ function listen() {
         if (event.key === "Enter" && (event.ctrlKey || event.metaKey)) $("audit").click();
     });
     for (const name of ["scroll", "resize"]) addEventListener(name, () => $("page").contentWindow.seen?.(), { passive: true });
+    addEventListener("resize", () => $("page").contentWindow.grow?.());
     addEventListener("beforeprint", () => $("printed").replaceChildren(...$("page").contentWindow.onPaper?.() ?? []));
     addEventListener("afterprint", () => $("printed").replaceChildren());
     addEventListener("popstate", ({ state }) => $("page").contentWindow.visit?.(state?.drawnAt === drawnAt ? state.to : ""));
