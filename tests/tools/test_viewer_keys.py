@@ -198,6 +198,15 @@ class Ear(Page):
         shared.press("/", "c", "o", "r")
         self.holds(SAID, "1 level")
 
+    def test_a_pressed_chip_shows_in_forced_colours(self) -> None:
+        self.walk()
+        shared.call("Emulation.setEmulatedMedia",
+                    features=[{"name": "forced-colors", "value": "active"}])
+        colours = shared.ask("[...document.querySelectorAll('.chip')].slice(0, 2)"
+                             ".map(it => getComputedStyle(it).backgroundColor)")
+        shared.size(1280, 800)
+        self.assertNotEqual(*colours)
+
     def test_accents_are_found_in_both_spellings(self) -> None:
         self.page(f"Cafe\u0301\n{ONE}\nOther\n{ONE}\nCaf\u00e9 2\n{ONE}")
         self.open()
