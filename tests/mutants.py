@@ -112,10 +112,16 @@ def make_page(tree: str) -> None:
 
 class Trees:
     """Copies of this tree, in which tests run: one for each process and one more, since a test
-    often waits for what it started."""
+    often waits for what it started. Their browser is chromium-headless-shell, if that is there:
+    it starts in a third of the time."""
 
     def __init__(self, program: str, room: str):
         self.program, self.free = program, Queue()  # type: ignore[var-annotated]
+        self.variables = {**os.environ}
+        if shell := shutil.which("chromium-headless-shell"):
+            os.makedirs(f"{room}/bin")
+            os.symlink(shell, f"{room}/bin/chromium")
+            self.variables["PATH"] = f"{room}/bin:{os.environ['PATH']}"
         self.running: Set[int] = set()
         self.count = processes() + 1
         for i in range(self.count):
@@ -143,7 +149,7 @@ class Trees:
         its numbers."""
         with tempfile.TemporaryFile() as file:
             ran = subprocess.Popen(words, stdin=subprocess.DEVNULL, stdout=file, stderr=file,
-                                   cwd=tree, start_new_session=True)
+                                   cwd=tree, env=self.variables, start_new_session=True)
             self.running.add(ran.pid)
             with contextlib.suppress(subprocess.TimeoutExpired):
                 ran.wait(LIMIT)
