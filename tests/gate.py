@@ -34,8 +34,8 @@ PLANTED = (
 )
 RUN = f'cd {TOP} && . tests/counts && part "$@" && finish'
 BUSY = "i=0; while [ $i != 200000 ]; do i=$((i + 1)); done; "
-# parts in two lanes in bash, each in a line, and the numbers that the gate prints; those of a
-# part that failed once more at the end. Where it runs one too early or too late, a part has none
+# parts in two lanes in bash, each in a line, and the numbers that the gate prints: of a part that
+# failed, once more at the end. Where it runs one too early or too late, a part has no numbers
 UNTIL = "for it in $(seq 600); do [ ! -e {} ] || break; sleep 0.1; done"
 MEETS = f"touch {{}}; {UNTIL}; {UNTIL.format('go')}; echo 1 passed, 0 failed"
 LOCKS = "mkdir lock && sleep 0.5 && rmdir lock && echo 1 passed, 0 failed"

@@ -20,7 +20,7 @@ MARK = b"\xef\xbb\xbf"
 MOST_KEPT = 1 << 18
 # what makes a function keep what it makes of a line
 cached = lru_cache(MOST_KEPT)
-# whole lines of about so many characters, so that not all lines of a text are in memory
+# whole lines of about 65,536 characters, so that not all lines of a text are in memory
 _BLOCK = r"(?s:.{1,65536})[^\n]*\n?"
 _BLOCKS, _TEXTS = re.compile(_BLOCK.encode()), re.compile(_BLOCK)
 # From the first CR on: a search from each of a million takes hours.
