@@ -115,6 +115,9 @@ case("documents are no commands, wherever the prefix is", 0, "4", "",
      f"PATH=none {alone} alone/bin/usr; find alone -type f -perm 755 | wc -l; rm -r alone/bin")
 case("an installation that fails says where", 1, "", "install-tools: alone/levels/bin: Not a dir",
      f"touch alone/levels; PATH=none {alone} alone/levels")
+# who isn't root could write nothing there
+case("an empty prefix is none", 1, "", "usage: packaging/install-tools",
+     "$nobody $tree/packaging/install-tools ''")
 case("it installs the reference", 0, "level 1 solved moves 1 pushes 1 changes 1", NOTE,
      "root/usr/bin/sokoaudit audit levels answers")
 case("and its help", 0, help, "", "root/usr/bin/sokoaudit --help")
