@@ -194,6 +194,21 @@ class Transactions(Case):
                 self.assertRaises(KeyboardInterrupt, self.commit)
             self.assertEqual(self.files(), NEW)
 
+    @not_on_windows
+    def test_interrupted_while_a_write_is_ended(self) -> None:
+        """The run that ends a write which was cut off lets an interrupt wait too."""
+        for moment in range(1, 9):
+            self.start()
+            with at_calls(kill_at(1, goes_on=False)):
+                self.assertRaises(Killed, self.commit)
+
+            def act(now: int) -> None:
+                if now == moment:
+                    os.kill(os.getpid(), signal.SIGINT)
+            with at_calls(act):
+                self.assertRaises(KeyboardInterrupt, transaction.finish, "journal")
+            self.assertEqual(self.files(), NEW)
+
     def test_ended_before_the_journal(self) -> None:
         """The next run removes the new files, and none of other writes."""
         with unittest.mock.patch.object(transaction, "_begin", side_effect=Killed), \

@@ -82,7 +82,8 @@ def finish(journal: str) -> str:
             moves = [Move(*words) for words in json.load(file)]
     except (FileNotFoundError, ValueError):
         moves = []  # There is no journal, or it was cut off itself.
-    changed = _end(moves, journal, is_new=False)
+    with system.uninterrupted():  # or former files keep their hidden names
+        changed = _end(moves, journal, is_new=False)
     folder = glob.escape(os.path.dirname(journal))
     for left in glob.glob(os.path.join(folder, f"{output.TEMPORARY}{_mark(journal)}*")):
         output.remove(left)
