@@ -2,7 +2,6 @@
 import base64
 import json
 import os
-import time
 from typing import Any, Dict, Sequence
 
 from tests.tools.browser import Browser
@@ -43,11 +42,8 @@ class Tab(Browser):
 
     def wait(self, expression: str, seconds: float = 30) -> None:
         """Waits until an expression holds."""
-        end = time.monotonic() + seconds
-        while not self.ask(f"Boolean({expression})"):
-            if time.monotonic() > end:
-                raise TimeoutError(expression)
-            time.sleep(.01)
+        if not self.until(expression, seconds):
+            raise TimeoutError(expression)
 
     def give(self, *names: str) -> str:
         """Gives the page files, and waits for the result. Returns the page's message, or ''."""

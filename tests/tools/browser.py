@@ -24,6 +24,15 @@ CODES = {"Tab": 9, "Enter": 13, "Escape": 27, " ": 32, "PageUp": 33, "PageDown":
 TEXTS = {"Enter": "\r", " ": " "}
 # how many seconds an answer may take
 LONGEST = 120
+# whether an expression holds in the end; the page looks itself, which is less work than to ask it
+UNTIL = """(async () => {
+    const begun = performance.now(), holds = () => %s;
+    while (!holds()) {
+        if (performance.now() - begun > %d) return false;
+        await new Promise(done => setTimeout(done, 10));
+    }
+    return true;
+})()"""
 # where a click on an element goes
 MIDDLE = """(element => {
     element.scrollIntoView({ block: "nearest" });
@@ -190,11 +199,9 @@ class Browser:
             raise ValueError(str(found["exceptionDetails"]))
         return found["result"].get("value")
 
-    def until(self, expression: str, seconds: float = 60) -> None:
-        """Waits until an expression holds, or the time has run out."""
-        end = time.monotonic() + seconds
-        while not self.ask(expression) and time.monotonic() < end:
-            time.sleep(.02)
+    def until(self, expression: str, seconds: float = 60) -> bool:
+        """Waits until an expression holds, or the time has run out. Returns whether it holds."""
+        return bool(self.ask(UNTIL % (expression, seconds * 1000)))
 
     def longest(self, work: Callable[[], None]) -> float:
         """Does some work, and returns the longest time in milliseconds for which the page's script
