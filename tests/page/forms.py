@@ -6,7 +6,7 @@ import random
 import re
 import zipfile
 from itertools import groupby
-from typing import Dict, List, Tuple
+from typing import Callable, Dict, List, Tuple
 
 from sokotool import answers, levels
 
@@ -14,7 +14,7 @@ from tests.page.comparing import HEADER, Comparison
 from tests.page.driving import Tab
 from tests.page.using import ANSWERS, CORNER, LEFT_OUT, LETTERS, LEVEL, LINE
 from tests.runner import TOP, encode, read, run, write
-from tests.tools.exports import ALL, ALPHA, BETA
+from tests.tools.exports import ALPHA, BETA, GROUPS
 from tests.tools.test_exports import made_by, plain
 
 
@@ -69,6 +69,10 @@ def forms(check: Comparison, tab: Tab) -> None:
     tab.give("more.xsb", "sol.txt")
     check.same("lines of it that solve nothing", [f"sol.txt line {it}" for it in (1, 3, 5)],
                sorted(it.split(":")[0] for it in tab.told()))
+
+
+def beside(check: Comparison, tab: Tab) -> None:
+    """Levels beside answers, and what is left out of them."""
     write("mark.answers", f"\ufeff{ANSWERS}")
     write("one.xsb", LEVEL)
     tab.give("one.xsb", "mark.answers")
@@ -86,6 +90,7 @@ def forms(check: Comparison, tab: Tab) -> None:
     tab.give("coded.xsb", "mark.answers")
     check.same("rows in other forms beside answers", "Rows in other forms than '#@ $.#' are "
                "left out, since there are answers: lines 10, 13.", tab.text("notes"))
+    write("sol.txt", LETTERS)
     tab.give("one.xsb", "sol.txt", "mark.answers")
     check.same("a list beside answers", f"{LEFT_OUT}sol.txt.", tab.text("notes"))
     for name, data in (("both.zip", zipped({"both.xsb": f"{LEVEL}{LETTERS}\n".encode()})),
@@ -102,10 +107,13 @@ def forms(check: Comparison, tab: Tab) -> None:
     began, _ = tab.ask("performance.now()"), tab.give("walls.xsb", "mark.answers")
     check.same("a long line of walls beside answers", ["total 1 solved 1", True], [
         tab.text("total")[:16], tab.ask("performance.now()") - began < 10000])
+
+
+def kept(check: Comparison, tab: Tab) -> None:
+    """Certificates among levels, and what 'sokotool check' wrote."""
     with open("whole.zip", "wb") as file:
         file.write(zipped({"a.xsb": CORNER.encode(),
                            "a.answers": HEADER + b"level 1\nunsolvable\npattern 2,2 @ *\nend\n"}))
-    tab.ask("clear(); 0")
     tab.give("whole.zip")
     check.same("certificates in an archive", ["a.answers: its certificates aren't read from here"],
                [it[:49] for it in tab.told()])
@@ -113,10 +121,10 @@ def forms(check: Comparison, tab: Tab) -> None:
     tab.give("whole.xsb")
     check.same("certificates below levels", ["whole.xsb: its certificates aren't read from here"],
                [it[:49] for it in tab.told()])
-    kept = {"x/my.memory": LEVEL, "x/my.xsb": f"{LEVEL}{LETTERS}\n", "x/my.xsb~": LEVEL,
-            "x/my.kept.xsb": LEVEL, "my.report": LEVEL}
+    names = {"x/my.memory": LEVEL, "x/my.xsb": f"{LEVEL}{LETTERS}\n", "x/my.xsb~": LEVEL,
+             "x/my.kept.xsb": LEVEL, "my.report": LEVEL}
     with open("kept.zip", "wb") as file:
-        file.write(zipped({name: data.encode() for name, data in kept.items()}))
+        file.write(zipped({name: data.encode() for name, data in names.items()}))
     tab.give("kept.zip")
     check.same("what 'sokotool check' wrote beside the levels",
                ["total 2 solved 1", ["x/my.kept.xsb", "x/my.memory", "x/my.xsb~"]], [
@@ -131,10 +139,15 @@ def forms(check: Comparison, tab: Tab) -> None:
     tab.ask("clear(); 0")
     tab.give("my.memory")
     check.same("a memory alone", "total 1 solved 1", tab.text("total")[:16])
-    tab.ask("clear(); 0")
+
+
+def remarks(check: Comparison, tab: Tab) -> None:
+    """What is said of other solutions, and of what isn't read."""
     tab.paste("levels", f"{LEVEL}Solution\n{LETTERS[:-2]}lrUU\n\nSolution\n{LETTERS}\n")
     check.same("the best of two", [LINE, 1], [tab.text("lines")[:len(LINE)], sum(
         "35 moves" in it for it in tab.told())])
+    tab.paste("levels", f"{LEVEL}Solution\n{LETTERS[:-1]}\n\nSolution\n{LETTERS}\n")
+    check.same("letters that leave a box", LINE, tab.text("lines")[:len(LINE)])
     tab.paste("levels", f"{LEVEL}\n{LEVEL.replace('*', '=')}\nSolution: up\n")
     check.same("what isn't read is named", ["line 12: l", "line 17: a"], [
         it[:10] for it in tab.told()])
@@ -154,8 +167,8 @@ PAD = dict(zip("lurdLURD", "48624862"))
 KEYS = dict(zip("lurdLURD", "awdsAWDS"))
 
 
-def others(check: Comparison, tab: Tab) -> None:
-    """Other alphabets, entities, other games, and archives that would fill the memory."""
+def alphabets(check: Comparison, tab: Tab) -> None:
+    """Other alphabets, entities, and other games."""
     for name, alphabet in (("points of the compass", COMPASS), ("the keys of a number pad", PAD),
                            ("the keys W, A, S and D", KEYS)):
         letters = "".join(alphabet[it] for it in LETTERS)
@@ -171,6 +184,10 @@ def others(check: Comparison, tab: Tab) -> None:
     check.same("entities", LINE, tab.text("lines")[:len(LINE)])
     tab.paste("levels", f"Type: Hexoban\n{LEVEL}{LETTERS}\n")
     check.same("another game", True, "names another game, Hexoban" in tab.told()[0])
+
+
+def archives(check: Comparison, tab: Tab) -> None:
+    """Archives that would fill the memory, that are cut, and with hidden files."""
     bomb = zipped({"bomb.txt": b"#" * 40000000})
     for name, data in (("bomb.zip", bomb), ("nested.zip", zipped({"bomb.zip": bomb})),
                        ("bomb.gz", gzip.compress(b"#" * 40000000)),
@@ -188,7 +205,10 @@ def others(check: Comparison, tab: Tab) -> None:
             file.write(data)
         check.same(f"{name}: message", "No level is found." if said else "", tab.give(name))
         check.same(f"{name}: told", said, [it.split(": ")[-1] for it in tab.told()])
-    tab.ask("clear(); 0")
+
+
+def untried(check: Comparison, tab: Tab) -> None:
+    """Letters that are so long that they aren't tried on all levels."""
     lasting = f"{CORNER}Solution: 200000(rl)\n\n" * 18
     tab.paste("levels", f"{LEVEL}Solution: 9000(ud)\n\n{lasting}{LETTERS}\n")
     check.same("letters that weren't tried on all levels",
@@ -213,22 +233,31 @@ def contents(found: bytes, solved: bytes) -> Tuple[List[str], Dict[int, str]]:
                   for it in answers.read(solved or HEADER, len(rows)).records}
 
 
-def exports(check: Comparison, tab: Tab) -> None:
-    """Exports in the forms of many programs are read as they were meant, or something is said."""
-    counts = {"right": 0, "told": 0}
-    for export in ALL:
-        with open(export.file, "wb") as file:
-            file.write(export.text if isinstance(export.text, bytes) else export.text.encode())
-        tab.ask("clear(); 0")
-        found, letters, is_told = found_in(tab, tab.give(export.file))
-        wanted = (export.levels, export.solutions) if export.levels else READ.get(export.name)
-        counts["right" if (found, letters) == wanted else "told"] += 1
-        if wanted:
-            check.same(f"export {export.name}: read", [*wanted], [found, letters])
-        else:
-            check.same(f"export {export.name}: told", True, is_told)
-    print(f"exports: {len(ALL)} tried, {counts}", flush=True)
-    tab.ask("clear(); 0")
+def exports(group: str) -> Callable[[Comparison, Tab], None]:
+    """The part of a group of exports, in the forms of many programs: they are read as they were
+    meant, or something is said. None is drawn."""
+    def part(check: Comparison, tab: Tab) -> None:
+        counts = {"right": 0, "told": 0}
+        check.draws(False)
+        for export in GROUPS[group]:
+            with open(export.file, "wb") as file:
+                file.write(export.text if isinstance(export.text, bytes) else export.text.encode())
+            tab.ask("remove(); 0")
+            found, letters, is_told = found_in(tab, tab.give(export.file))
+            wanted = (export.levels, export.solutions) if export.levels else READ.get(export.name)
+            counts["right" if (found, letters) == wanted else "told"] += 1
+            if wanted:
+                check.same(f"export {export.name}: read", [*wanted], [found, letters])
+            else:
+                check.same(f"export {export.name}: told", True, is_told)
+        print(f"exports, {group}: {len(GROUPS[group])} tried, {counts}", flush=True)
+
+    part.__name__ = f"exports_{group}"
+    return part
+
+
+def titles(check: Comparison, tab: Tab) -> None:
+    """Titles and letters beside rows, and what is no title."""
     for rows, title in (([ALPHA], "One"), ([ALPHA, BETA], "")):
         text = json.dumps([{"title": "One", "rows": it.split("\n")} for it in rows])
         tab.paste("levels", text)
@@ -242,15 +271,20 @@ def exports(check: Comparison, tab: Tab) -> None:
     tab.paste("levels", f"{ALPHA}\n// Sol 1 - r\nRR,\n\n{BETA}\n")
     check.same("a heading of a solution and its letters are no title", ["", ""], tab.ask(
         "shownData.levels.map(({ title }) => title)"))
+    tab.paste("levels", f"{ALPHA}\nSolution: r;R;R\n")
+    check.same("semicolons between letters below a level", "level 1 solved moves 3",
+               tab.text("lines")[:22])
 
 
 def both(check: Comparison, tab: Tab) -> None:
     """The page and `sokotool convert` read the exports in samples/ alike, or the page says
-    something. So it does of random collections like those of convert's tests, or reads them."""
+    something. So it does of random collections like those of convert's tests, or reads them. None
+    is drawn."""
+    check.draws(False)
     for names in ("editor.slc", "forum.txt", "lines.txt", "player.sok", "stairs.sok stairs.sol"):
         paths = [f"{TOP}/samples/exports/{name}" for name in names.split()]
         run([f"{TOP}/sokotool", "convert", "out", *paths, "--replace"])
-        tab.ask("clear(); 0")
+        tab.ask("remove(); 0")
         wanted = contents(encode(read("out.xsb")), encode(read("out.answers")))
         *found, is_told = found_in(tab, tab.give(*paths))
         check.same(f"{names}: as convert reads it", True, [*wanted] == found or is_told)
@@ -274,4 +308,5 @@ READ: Dict[str, Tuple[List[str], Dict[int, str]]] = {
     "two that differ": ([ALPHA], {1: "rRR"}), "rows a line apart": ([ALPHA], {}),
     "number between": ([ALPHA, BETA], {}), "UTF-32": ([ALPHA, BETA], {1: "rRR"}),
     "blocks": ([ALPHA, "#####\n#@$.#\n#####"], {})}
-PARTS = (forms, others, exports, both)
+PARTS = (forms, beside, kept, remarks, alphabets, archives, untried, titles, both,
+         *map(exports, GROUPS))

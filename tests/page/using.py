@@ -385,8 +385,8 @@ def reaching(check: Comparison, tab: Tab) -> None:
     check.same("a folder", "cannot read folder: ", tab.message()[:20])
 
 
-def fields(check: Comparison, tab: Tab) -> None:
-    """What stays in the fields and what goes, the buttons beside them, and the notes."""
+def files(check: Comparison, tab: Tab) -> None:
+    """Levels and answers in files, and which of them go together."""
     write("one.xsb", LEVEL)
     write("two.xsb", CORNER)
     write("plain answers.txt", "R\n")
@@ -410,8 +410,30 @@ def fields(check: Comparison, tab: Tab) -> None:
     tab.give("one.xsb")
     check.same("answers before their levels", LINE, tab.text("lines")[:len(LINE)])
     tab.ask("clear(); 0")
+    tab.give("one.xsb", "plain answers.txt")
+    check.same("a file that is named answers", "answers line 1 header", tab.message())
+    tab.give("one.xsb", "two.xsb", "one.answers", "three.answers")
+    check.same("answers without levels", True, "three.answers: no levels" in tab.message())
+    write("one.txt", ANSWERS.replace(LETTERS, "l"))
+    check.same("two answers to one file", "one.txt: one.answers is for the same levels file.",
+               tab.give("one.xsb", "one.answers", "one.txt"))
+    tab.give("one.xsb", "two.xsb", "one.answers")
+    tab.choose("one.txt")
+    tab.wait(f"{IDLE} && $('each').textContent.includes('refused 1')")
+    check.same("other answers in their place", "", tab.message())
+    tab.give("one.xsb", "two.xsb")
+    tab.wait("document.querySelectorAll('#each li').length === 2")
+    tab.click("#levels-file button")
+    check.same("several files are removed at once", [True, True], tab.ask(
+        "['levels', 'answers'].map(it => $(`${it}-file`).hidden)"))
+
+
+def lists(check: Comparison, tab: Tab) -> None:
+    """Lists of solutions, and the levels that they go with."""
+    for name, text_in in (("one.xsb", LEVEL), ("two.xsb", CORNER), ("one.answers", ANSWERS),
+                          ("list.txt", LETTERS)):
+        write(name, text_in)
     tab.paste("levels", LEVEL)
-    write("list.txt", LETTERS)
     tab.give("list.txt")
     check.same("a list for typed levels", LINE, tab.text("lines")[:len(LINE)])
     for letters, line in (("uuuuuuuuuu", 1), ("\n\nuuuuuuuuuu", 3)):
@@ -435,31 +457,16 @@ def fields(check: Comparison, tab: Tab) -> None:
     tab.give("two.xsb")
     write("two.xsb", LETTERS)
     check.same("a file of the same name is no list", "No level is found.", tab.give("two.xsb"))
-    write("two.xsb", CORNER)
     tab.ask("clear(); 0")
     write("text.txt", "no level\n")
     tab.give("text.txt")
     tab.give("one.xsb")
     check.same("a file without letters before levels", "level 1 missing",
                tab.text("lines").splitlines()[0])
-    tab.ask("clear(); 0")
-    tab.give("one.xsb", "plain answers.txt")
-    check.same("a file that is named answers", "answers line 1 header", tab.message())
-    tab.give("one.xsb", "two.xsb", "one.answers", "three.answers")
-    check.same("answers without levels", True, "three.answers: no levels" in tab.message())
-    write("one.txt", ANSWERS.replace(LETTERS, "l"))
-    check.same("two answers to one file", "one.txt: one.answers is for the same levels file.",
-               tab.give("one.xsb", "one.answers", "one.txt"))
-    tab.give("one.xsb", "two.xsb", "one.answers")
-    tab.choose("one.txt")
-    tab.wait(f"{IDLE} && $('each').textContent.includes('refused 1')")
-    check.same("other answers in their place", "", tab.message())
-    tab.give("one.xsb", "two.xsb")
-    tab.wait("document.querySelectorAll('#each li').length === 2")
-    tab.click("#levels-file button")
-    check.same("several files are removed at once", [True, True], tab.ask(
-        "['levels', 'answers'].map(it => $(`${it}-file`).hidden)"))
-    tab.fresh()
+
+
+def fields(check: Comparison, tab: Tab) -> None:
+    """What is pasted into the fields, and what stays in them."""
     tab.paste("answers", ANSWERS)
     tab.paste("levels", f"{LEVEL}\nsokoban-answers 1\n")
     check.same("typed answers stay", ANSWERS, tab.ask("$('answers').value"))
@@ -485,7 +492,10 @@ def fields(check: Comparison, tab: Tab) -> None:
     tab.ask("audit()")
     check.same("the pasted ones once that is removed", [both, LINE], [
         tab.ask("$('levels').value + $('answers').value"), tab.text("lines")[:len(LINE)]])
-    tab.fresh()
+
+
+def buttons(check: Comparison, tab: Tab) -> None:
+    """The focus, the example, and what a key takes back."""
     tab.ask("$('levels').focus(); 0")
     tab.paste("levels", LEVEL + "Solution\n" + LETTERS)
     tab.opened()
@@ -501,7 +511,11 @@ def fields(check: Comparison, tab: Tab) -> None:
     check.same("Ctrl and Z after it", "no level\n", tab.ask(back))
     tab.click("#clear")
     check.same("Ctrl and Z after Clear", "no level\n", tab.ask(back))
-    tab.ask(f"clear(); $('levels').value = {(CORNER + chr(10) + LEVEL + LETTERS)!r}; dispatchEvent("
+
+
+def stale(check: Comparison, tab: Tab) -> None:
+    """Results of former texts, and the names of what is saved."""
+    tab.ask(f"$('levels').value = {(CORNER + chr(10) + LEVEL + LETTERS)!r}; dispatchEvent("
             "new KeyboardEvent('keydown', { key: 'Enter', ctrlKey: true })); 0")
     tab.wait(IDLE)
     check.same("Ctrl and Enter audit", "level 1 missing", tab.text("lines").splitlines()[0])
@@ -528,5 +542,5 @@ def fields(check: Comparison, tab: Tab) -> None:
                        "saving.then(() => to)"))
 
 
-PARTS = (below, fields, viewing, making, keeping, several, hostile, stopping, growth, browsers,
-         reaching)
+PARTS = (below, files, lists, fields, buttons, stale, viewing, making, keeping, several, hostile,
+         stopping, growth, browsers, reaching)

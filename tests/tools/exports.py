@@ -35,7 +35,7 @@ def reported(name: str, text: Union[str, bytes], file: str = "export.txt") -> No
     ALL.append(Export(name, text, None, {}, file))
 
 
-def _solutions() -> None:
+def _headings() -> None:
     """Headings of solutions, each above or before the letters rRR."""
     for form in (
             "Solution: {}", "Solution {}", "Solution={}", "Solution\n{}", "Solution:\n\n{}",
@@ -60,6 +60,10 @@ def _solutions() -> None:
             "Optimal solution, 3 moves: {}", "1) {}", "Level 1: {}", "Session\n{}",
             "ALPHA,3,2,{}", "Title: Alpha\n\n{}\n", "Comment: nice\n{}", "\t{}", "  {}  "):
         right("heading " + form, f"{A}{form.format('rRR')}\n", s1="rRR")
+
+
+def _solutions() -> None:
+    """Letters in many forms, and those that solve no level."""
     for letters in ("rrr", "RRR", "r2R", "3r", "r(2R)", "1r2R", "r RR", "r,R,R", "r, R, R", "r-R-R",
                     "r R\nR", "r\nR\nR", "r\nRR\n", "\nr\n\nRR", "rR,\nR", "rR\n\nR",
                     "\"rR\"\n\"R\"",
@@ -186,6 +190,10 @@ def _dressed() -> None:
             ("a row between", f'"{one}"\n{two}\n"{three}"\n'),
             ("SokoSolve that is open", "<Row>#######</Row>\n<Row>#P.X.O#</Row>\n")):
         reported("dressed, " + name, text)
+
+
+def _games() -> None:
+    """Files of other games."""
     for name, text in (
             ("Gnu Robbo", f"[name]\nA\n[last_level]\n1\n[level]\n1\n[size]\n7.3\n[data]\n{A}"),
             ("xsok", f";WALLS\n.  1 2\n;OBJECTS\n@  0\n$  1\n-  4\n;LEVEL 1\n{A}"),
@@ -257,8 +265,8 @@ def _slc() -> None:
              file="export.slc")
 
 
-_solutions()
-_boards()
-_dressed()
-_texts()
-_slc()
+GROUPS: Dict[str, List[Export]] = {}
+for group in (_headings, _solutions, _boards, _dressed, _games, _texts, _slc):
+    begun = len(ALL)
+    group()
+    GROUPS[group.__name__.strip("_")] = ALL[begun:]
