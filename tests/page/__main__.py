@@ -116,34 +116,34 @@ def made_anew() -> List[str]:
 
 COMPARED: Sequence[Callable[[Comparison], None]] = (
     samples, hostile.texts, tables, random_cases, bench, limits)
-USED: Sequence[Callable[[Comparison, Tab], None]] = (
-    *using.PARTS, *forms.PARTS, *late.PARTS, *answering.PARTS)
+USED: Dict[bool, Sequence[Callable[[Comparison, Tab], None]]] = {
+    False: (*forms.PARTS, using.below, using.lists, late.late),
+    True: (*using.PARTS, *late.PARTS, *answering.PARTS)}
+TIMED = [part.__name__ for part in answering.PARTS]
+UNTIMED = [it for it in (part.__name__ for part in (*COMPARED, *USED[False], *USED[True]))
+           if it not in TIMED]
 
 
-def test(page: str, wanted: Sequence[str], share: str = "") -> None:
-    """Tests a page in the browser: the parts with these names, a share, what is timed, or all."""
-    tab = Tab()
-    tab.page = page
-    tab.start()
-    tab.size(1280, 900)
-    check = Comparison(cases, tab, program)
-    parts: Dict[str, Callable[[], None]] = {
-        **{part.__name__: partial(part, check) for part in COMPARED},
-        **{part.__name__: partial(part, check, tab) for part in USED}}
-    timed = [part.__name__ for part in answering.PARTS]
-    if share == "timed":
-        wanted = timed
-    elif share:
-        wanted = share_of([it for it in parts if it not in timed], share)
-    for name in parts:
-        if not wanted or name in wanted:
+def test(page: str, wanted: Sequence[str]) -> None:
+    """Tests a page in the browser: the parts with these names, of which the first ones need a tab
+    that isn't painted."""
+    for is_painted, used in USED.items():
+        tab = Tab(is_painted)
+        tab.page = page
+        check = Comparison(cases, tab, program)
+        parts: Dict[str, Callable[[], None]] = {
+            **{part.__name__: partial(part, check) for part in COMPARED if not is_painted},
+            **{part.__name__: partial(part, check, tab) for part in used}}
+        for name in (it for it in parts if it in wanted):
+            tab.start()
+            tab.size(1280, 900)
             tab.fresh()
             try:
                 parts[name]()
             except (TimeoutError, ValueError) as error:
                 cases.holds(f"{name} runs to its end", False, str(error)[:2000])
             check.same(f"{name}: no error of a script", [], tab.errors)
-    tab.close()
+        tab.close()
 
 
 program, *named = arguments("page PROGRAM [SHARE|timed|PAGE [PART..]]")
@@ -152,12 +152,14 @@ cases, _room = Cases("page"), enter_folder()
 given = [os.path.abspath(it) for it in named[:1]]
 if not given and not cases.holds("sokoaudit.html is there", os.path.exists(KEPT)):
     cases.finish()
+# a part may have the name of a folder
+wanted = TIMED if share == "timed" else share_of(UNTIMED, share) if share else [
+    os.path.basename(word) for word in named[1:]] or [*UNTIMED, *TIMED]
 if not browser.PROGRAM:
     cases.skip("sokoaudit.html in a browser", "there is no chromium", NUMBER)
 else:
-    # a part may have the name of a folder
-    test((given or [KEPT])[0], [os.path.basename(word) for word in named[1:]], share)
+    test((given or [KEPT])[0], wanted)
 for it in made_anew() if not given and share[:2] in ("", "1/") else ():
     if browser.PROGRAM:
-        test(it, [])
+        test(it, [*UNTIMED, *TIMED])
 cases.finish()

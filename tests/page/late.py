@@ -234,4 +234,4 @@ def returning(check: Comparison, tab: Tab) -> None:
         ".contentDocument.querySelector('[data-level=\"200\"]').getBoundingClientRect().top)"))
 
 
-PARTS = (judging, late, stopped, around, returning)
+PARTS = (judging, stopped, around, returning)

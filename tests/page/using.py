@@ -542,5 +542,5 @@ def stale(check: Comparison, tab: Tab) -> None:
                        "saving.then(() => to)"))
 
 
-PARTS = (below, files, lists, fields, buttons, stale, viewing, making, keeping, several, hostile,
-         stopping, growth, browsers, reaching)
+PARTS = (files, fields, buttons, stale, viewing, making, keeping, several, hostile, stopping,
+         growth, browsers, reaching)

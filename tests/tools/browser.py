@@ -42,13 +42,15 @@ MIDDLE = """(element => {
 
 
 class Browser:
-    """A browser with one tab.
+    """A browser with one tab. If the tab isn't painted, the page does all but what waits for a
+    frame, at half the work, and gets no keys and clicks.
 
     `requests` has the addresses that it asked for since the last page was opened, and `errors` the
     errors of the page's script."""
 
-    def __init__(self) -> None:
+    def __init__(self, is_painted: bool = True) -> None:
         self.number, self.loaded, self.is_traced, self.is_running = 0, False, False, False
+        self.is_painted = is_painted
         self.session: Optional[str] = None
         self.requests: List[str] = []
         self.errors: List[str] = []
@@ -103,7 +105,10 @@ class Browser:
             shutil.rmtree(self.folder, ignore_errors=True)
 
     def _tab(self) -> str:
-        """Returns the tab that the browser opens with."""
+        """Returns the tab that the browser opens with, or one that no window shows."""
+        if not self.is_painted:
+            made = self.call("Target.createTarget", url="about:blank", hidden=True)
+            return str(made["targetId"])
         while True:
             for target in self.call("Target.getTargets")["targetInfos"]:
                 if target["type"] == "page":
