@@ -6,7 +6,7 @@ import re
 from itertools import permutations
 from typing import Tuple
 
-from bench.measured import crowded
+from bench.measured import NOOK
 from tests.page.comparing import Comparison
 from tests.page.driving import IDLE, Tab
 from tests.runner import TOP, encode, write
@@ -233,7 +233,7 @@ def hostile(check: Comparison, tab: Tab) -> None:
 
 def stopping(check: Comparison, tab: Tab) -> None:
     """A run that is cancelled, and a memory that doesn't grow."""
-    write("slow.xsb", text(crowded(300, 255, 400, True)))
+    write("slow.xsb", text(f"{NOOK}//" * 10000))
     tab.give("slow.xsb")
     tab.ask("make(), 0")
     check.same("the page answers while the program runs", [False, True], tab.ask(
