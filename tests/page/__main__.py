@@ -116,8 +116,9 @@ def made_anew() -> List[str]:
 
 COMPARED: Sequence[Callable[[Comparison], None]] = (
     samples, hostile.texts, tables, random_cases, bench, limits)
+# by whether their tab is painted: what waits for a frame, a key or a click needs that
 USED: Dict[bool, Sequence[Callable[[Comparison, Tab], None]]] = {
-    False: (*forms.PARTS, using.below, using.lists, late.late),
+    False: (*forms.UNPAINTED, *using.UNPAINTED, *late.UNPAINTED),
     True: (*using.PARTS, *late.PARTS, *answering.PARTS)}
 TIMED = [part.__name__ for part in answering.PARTS]
 UNTIMED = [it for it in (part.__name__ for part in (*COMPARED, *USED[False], *USED[True]))
@@ -125,8 +126,8 @@ UNTIMED = [it for it in (part.__name__ for part in (*COMPARED, *USED[False], *US
 
 
 def test(page: str, wanted: Sequence[str]) -> None:
-    """Tests a page in the browser: the parts with these names, of which the first ones need a tab
-    that isn't painted."""
+    """Tests a page in the browser: the parts with these names, first those whose tab isn't painted,
+    as all that is compared."""
     for is_painted, used in USED.items():
         tab = Tab(is_painted)
         tab.page = page

@@ -308,5 +308,5 @@ READ: Dict[str, Tuple[List[str], Dict[int, str]]] = {
     "two that differ": ([ALPHA], {1: "rRR"}), "rows a line apart": ([ALPHA], {}),
     "number between": ([ALPHA, BETA], {}), "UTF-32": ([ALPHA, BETA], {1: "rRR"}),
     "blocks": ([ALPHA, "#####\n#@$.#\n#####"], {})}
-PARTS = (forms, beside, kept, remarks, alphabets, archives, untried, titles, both,
-         *map(exports, GROUPS))
+UNPAINTED = (forms, beside, kept, remarks, alphabets, archives, untried, titles, both,
+             *map(exports, GROUPS))

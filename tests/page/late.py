@@ -234,4 +234,5 @@ def returning(check: Comparison, tab: Tab) -> None:
         ".contentDocument.querySelector('[data-level=\"200\"]').getBoundingClientRect().top)"))
 
 
+UNPAINTED = (late,)
 PARTS = (judging, stopped, around, returning)

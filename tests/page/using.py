@@ -542,5 +542,6 @@ def stale(check: Comparison, tab: Tab) -> None:
                        "saving.then(() => to)"))
 
 
+UNPAINTED = (below, lists)
 PARTS = (files, fields, buttons, stale, viewing, making, keeping, several, hostile, stopping,
          growth, browsers, reaching)
