@@ -116,7 +116,7 @@ def made_anew() -> List[str]:
 
 COMPARED: Sequence[Callable[[Comparison], None]] = (
     samples, hostile.texts, tables, random_cases, bench, limits)
-# by whether their tab is painted: what waits for a frame, a key or a click needs that
+# by whether their tab is painted: it is where something waits for a frame, or a user acts
 USED: Dict[bool, Sequence[Callable[[Comparison, Tab], None]]] = {
     False: (*forms.UNPAINTED, *using.UNPAINTED, *late.UNPAINTED),
     True: (*using.PARTS, *late.PARTS, *answering.PARTS)}

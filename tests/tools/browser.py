@@ -42,8 +42,8 @@ MIDDLE = """(element => {
 
 
 class Browser:
-    """A browser with one tab. If the tab isn't painted, the page does all but what waits for a
-    frame, at half the work, and gets no keys and clicks.
+    """A browser with one tab. If the tab isn't painted, no frame comes: the page does all but what
+    waits for one, at half the work.
 
     `requests` has the addresses that it asked for since the last page was opened, and `errors` the
     errors of the page's script."""
