@@ -12,7 +12,8 @@ from tests.runner import TOP, Cases, call, decode, enter_folder, read, run, shel
 # A repository of three crates with the scripts of this one. Its toolchain writes a line into
 # 'builds' for each build, and into 'lanes' when a library begins, with its words, and when it ends.
 # It fails if the sources have the word 'wrong'. Its program prints its sources, its folder and its
-# words, and ends with status 1 on the word 'refused'.
+# words, and ends with status 1 on the word 'refused'. A library takes LIBRARY seconds, and the
+# program PROGRAM seconds, where these are set.
 TREE = r"""
 mkdir -p tree/samples bin plain bare 'else where' tree/crates/{low,arguments,sokoaudit}/src
 chmod 755 .
@@ -28,10 +29,11 @@ printf 'out/\nbuilds\nlanes\n' >tree/.gitignore
 git -C tree init -q 2>/dev/null && git -C tree add -A
 install -m 755 /dev/stdin bin/rt <<'END'
 #!/usr/bin/env bash
-[ "$1" = run ] || { echo "begin $*" >>../../lanes; sleep 1.5; echo end >>../../lanes; exit; }
+say() { echo "$*" >>../../lanes; }
+[ "$1" = run ] || { say begin "$@"; sleep ${LIBRARY-0}; say end; exit; }
 ! grep -q wrong ../*/src/main.rt || { echo "fn main: not proved"; exit 1; }
 echo "so far: 2 of 3 functions checked; the verdict comes last"
-sleep ${SLEEPS-1.5}
+sleep ${PROGRAM-0}
 echo built >>../../builds
 printf '#!/bin/sh\necho "%s|$PWD|$*"\ntest "$1" != refused\n' \
     "$(echo $(cat ../{low,arguments,sokoaudit}/src/main.rt))" |
@@ -139,7 +141,7 @@ case("a program that can't be run is no refused level", 2, "", "perhaps of other
      f"/dev/stdin $tree/crates/sokoaudit/out/sokoaudit; {LACKS} $run audit levels answers; s=$?; "
      "rm -r $tree/crates/sokoaudit/out; exit $s")
 case("the first run builds", 0, "one one one|HERE|a  b c", "proved sokoaudit, 3 functions, 0:0",
-     "$run 'a  b' c")
+     "LIBRARY=1.5 $run 'a  b' c")
 case("two libraries are proved side by side", 0, "begin begin end end", "",
      "echo $(sed 's/ .*//' $tree/lanes)")
 case("a run with nothing new reports nothing", 1, "one one one|HERE|refused", "", "$run refused")
@@ -150,16 +152,17 @@ asked = "echo $(grep -o 'jobs.*' $tree/lanes | sort)"
 case("in as many jobs as JOBS says, and half as many for what is proved beside", 0, "jobs 2 jobs 3",
      "proved", f"edit six; rm $tree/lanes; JOBS=3 $run a >/dev/null; {asked}")
 case("one after the other, if that is 1", 0, "begin end begin end", "proved",
-     "edit eight; rm $tree/lanes; JOBS=1 $run a >/dev/null; echo $(sed 's/ .*//' $tree/lanes)")
+     "edit eight; rm $tree/lanes; LIBRARY=0.5 JOBS=1 $run a >/dev/null; "
+     "echo $(sed 's/ .*//' $tree/lanes)")
 # what the reference prints while the program is built
 REFERENCE = "not proved: the reference, a second implementation in Python, says:"
 case("the reference prints its report at once", 0, "seven one one|HERE|audit levels answers",
      f"{REFERENCE}\nlevel 1 solved moves 1 pushes 1 changes 1\ntotal 1 ",
-     "edit seven; $run audit levels answers")
+     "edit seven; PROGRAM=3 $run audit levels answers")
 case("and nothing where nothing is built", 0, "seven one one|HERE|audit levels answers", "",
      "$run audit levels answers")
 case("it prints the error that it finds", 0, "", f"{REFERENCE}\nanswers line 1 header",
-     "edit nine; $run audit levels levels >/dev/null")
+     "edit nine; PROGRAM=3 $run audit levels levels >/dev/null")
 for words in ("audit - answers", "make /dev/null", "dead .. 1", "audit levels", "-V",
               "make -- none", "solve levels"):
     case(f"it prints nothing for: {words}", 0, "", "", f"$tree/packaging/preview {words}")
@@ -174,7 +177,7 @@ soon += "; sleeps='echo $$ >$tree/../slept; exec sleep 61'"
 case("it is ended after its time", 0, "",
      "the reference takes over 10 seconds for these words, and was ended",
      f"{soon}; python \"$sleeps\"; $tree/packaging/preview make levels; rm ../bin/timeout")
-waits = ("edit ten; $run make levels >said; python; for it in {1..50}; do "
+waits = ("edit ten; PROGRAM=3 $run make levels >said; python; for it in {1..50}; do "
          "kill -0 $(cat $tree/../slept) 2>/dev/null || break; sleep 0.1; done; [ $it != 50 ]")
 case("it never delays the build, and ends with it", 0, "ten one one|HERE|make levels",
      "proved sokoaudit", f"{waits} && [ $SECONDS -lt 50 ] && cat said")
@@ -186,7 +189,8 @@ case("but not if the sources have changed since", 0, "stale one one|HERE|a", "pr
      "sum=$($tree/packaging/sources); edit stale; $tree/packaging/build --took $sum; $run a")
 for seconds in (0.3, 2.2):
     # an interrupt, as a terminal sends it to all processes in front
-    command = ["bash", "-c", f"{BEFORE} edit stopped{seconds}; exec $run make levels"]
+    slow = "LIBRARY=1.5 PROGRAM=1.5 exec $run make levels"
+    command = ["bash", "-c", f"{BEFORE} edit stopped{seconds}; {slow}"]
     # a gate in the background ignores interrupts, and so would what it starts
     ran = subprocess.Popen(command, cwd=here, stdout=subprocess.PIPE, stderr=subprocess.STDOUT,
                            start_new_session=True, text=True,
@@ -201,7 +205,7 @@ case("and the next run builds", 0, "stopped2.2 one one|HERE|a", "proved sokoaudi
 old = "edit one; touch -d '1 hour ago' $tree/crates/low/src/main.rt"
 case("also where the new file has an old time", 0, "one one one|HERE|a", "proved sokoaudit",
      f"{old}; $run a")
-first = "edit three; rm $tree/builds; { $run first; echo $? >other; } >out 2>&1 & "
+first = "edit three; rm $tree/builds; { PROGRAM=3 $run first; echo $? >other; } >out 2>&1 & "
 first += "for it in {1..600}; do flock -n $tree/crates true || break; sleep 0.1; done"
 case("two first runs at once", 0, "three one one|HERE|second", "waits for another run",
      f"{first}; $run second; s=$?; wait; exit $s")
@@ -228,8 +232,8 @@ case("an old C library", 2, "", "glibc 2.34 or later",
      "edit five; fakes getconf 'glibc 2.31'; $run a")
 case("another system", 2, "", "Linux on x86-64", "fakes uname 'Darwin arm64'; $run a")
 if cases.needs("script", "a run on a terminal"):
-    on_terminal = "rm ../bin/{getconf,uname}; SLEEPS=4 script -qc \"'$run' a\" terminal >/dev/null"
+    on_terminal = "rm ../bin/{getconf,uname}; PROGRAM=2.5 script -qc \"'$run' a\" terminal"
     count = "proving sokoaudit, 2 of 3 functions, 0:(0[1-9]|[1-5])"
     shown = f"grep -Eq '{count}' terminal || cat terminal >&2"
-    case("on a terminal one line shows the progress", 0, "", "", f"{on_terminal} && {shown}")
+    case("on a terminal one line shows the progress", 0, "", "", f"{on_terminal} >said && {shown}")
 cases.finish()
