@@ -8,7 +8,7 @@ from typing import List
 
 from tests.runner import (TOP, Cases, Ran, arguments, call, decode, enter_folder, run, run_in_turn,
                           write)
-from tests.tables.rows import rows, text
+from tests.tables.rows import PLAIN, rows, text
 
 TEST = f"{TOP}/tests/run"
 FUZZ = ["reference.fuzz", "--seed", "7", "--cases", "100", "--keep", f"{TOP}/out/fuzz"]
@@ -22,7 +22,6 @@ MACHINES = {
 TRIES = {"arm64": 1, "windows": 5}
 NUMBER = 310  # about as many cases has each machine
 TABLES = ("certificates", "collections", "made", "maps", "solutions", "zones")
-PLAIN = r"(audit levels answers|make levels|dead levels [+\d]+)"
 LEVEL = "####\n# .#\n#  ###\n#*@  #\n#  $ #\n#  ###\n####\n"
 # words of runs in a folder with samples; the files of some are too long, missing or have odd names
 WORDS = """

@@ -4,6 +4,8 @@ from typing import Any, Dict, Iterator, List
 
 from tests.runner import TOP, decode, read
 
+# the words of a run on its own levels and answers, without anything of a shell
+PLAIN = r"(audit levels answers|make levels|dead levels [+\d]+)"
 GIVEN = {"words": "audit levels answers", "version": 1, "output": "", "faults": "", "status": 0}
 
 
