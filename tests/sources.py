@@ -26,6 +26,18 @@ VERSIONS = {
     "include/sokoaudit.py": '(?m)^VERSION = "(.*)"',
     "include/sokoaudit.h": 'SOKOAUDIT_VERSION "(.*)"',
 }
+# prints the name of each file that compiles, and the error of each other one
+SYNTAX = """
+const { readFileSync } = require("fs"), { compileFunction } = require("vm");
+for (const name of process.argv.slice(1)) {
+    try {
+        compileFunction(readFileSync(name, "utf8"), [], { filename: name });
+        console.log(name);
+    } catch (error) {
+        console.log(error.stack.split("\\n").slice(0, 5).join(" "));
+    }
+}
+"""
 SHELLCHECK = ["shellcheck", "-x", "-P", "SCRIPTDIR", "-S", "warning"]
 # builds without a network, by the setuptools of the system
 PIP = ["-m", "pip", "install", "--quiet", "--no-build-isolation", "--no-deps",
@@ -80,14 +92,18 @@ def compiles(cases: Cases, name: str) -> None:
 
 
 def check_types(cases: Cases, names: Sequence[str]) -> None:
-    """A case for the modules that state every type, one for the other modules, and one for each
-    script, which may have the name of a module."""
+    """A case for the modules that state every type, one for the other modules, one for the scripts,
+    and one for each script that has the name of a module."""
     modules = [it for it in names if it.endswith(".py")]
     strict = [it for it in modules if it.startswith(STRICT)]
     with tempfile.TemporaryDirectory() as cache:
         cases.succeeds("mypy --strict", *MYPY, cache, "--strict", *strict)
         cases.succeeds("mypy", *MYPY, cache, *sorted({*modules} - {*strict}))
-        for script in sorted({*names} - {*modules}):
+        scripts = sorted({*names} - {*modules})
+        shared = [it for it in scripts if os.path.basename(it) in ("sokoaudit", "sokotool")]
+        cases.succeeds("mypy on scripts", *MYPY, cache, "--scripts-are-modules",
+                       *sorted({*scripts} - {*shared}))
+        for script in shared:
             cases.succeeds(f"mypy on {script}", *MYPY, cache, script)
 
 
@@ -141,8 +157,10 @@ def main() -> None:
     if cases.needs("shellcheck", "a check of the shell scripts"):
         cases.succeeds("shellcheck", *SHELLCHECK, *found["shell"])
     if cases.needs("node", "the syntax of the page's scripts"):
+        said = run(["node", "-e", SYNTAX, *found["javascript"]]).splitlines()
         for name in found["javascript"]:
-            cases.succeeds(f"the syntax of {name}", "node", "--check", name)
+            cases.holds(f"the syntax of {name}", name in said,
+                        *(it for it in said if it.startswith(f"{name}:")))
     install(cases)
     cases.finish()
 
