@@ -196,7 +196,7 @@ class Ear(Page):
         self.walk()
         self.assertEqual(shared.ask(SAID), "")
         shared.press("/", "c", "o", "r")
-        self.holds(SAID, "1 level")
+        self.assertEqual(shared.ask(SAID), "1 level")
 
     def test_a_pressed_chip_shows_in_forced_colours(self) -> None:
         self.walk()
@@ -212,7 +212,7 @@ class Ear(Page):
         self.open()
         shared.press("/")
         shared.call("Input.insertText", text="caf\u00e9")
-        self.holds(SAID, "2 levels")
+        self.assertEqual(shared.ask(SAID), "2 levels")
 
     def test_names(self) -> None:
         self.walk()
