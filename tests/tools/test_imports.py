@@ -11,6 +11,16 @@ from tests.tools.helping import TOP
 
 FOLDER = os.path.join(TOP, "tools", "sokotool")
 SEARCHING = {"find"}
+# prints what each command loads, in a process of its own
+LOADED = """
+import importlib, os, sys
+for command in sys.argv[1:]:
+    if not os.fork():
+        importlib.import_module("sokotool.commands." + command)
+        print(command, *(it for it in sys.modules if it.startswith("sokotool.")), flush=True)
+        os._exit(0)
+    os.wait()
+"""
 
 
 def modules() -> Dict[str, str]:
@@ -52,11 +62,11 @@ class Imports(unittest.TestCase):
             left = {name: used for name, used in left.items() if name not in leaves}
 
     def test_search_is_loaded_to_search(self) -> None:
-        for command in sorted(main.COMMANDS):
-            said = subprocess.run(
-                [sys.executable, "-c", f"import sys, sokotool.commands.{command}\n"
-                 "print(*(it for it in sys.modules if it.startswith('sokotool.')))"],
-                stdout=subprocess.PIPE, check=True, cwd=os.path.dirname(FOLDER)).stdout.decode()
-            loaded = {it for it in said.split() if it.startswith("sokotool.search")
+        said = subprocess.run([sys.executable, "-B", "-c", LOADED, *sorted(main.COMMANDS)],
+                              stdout=subprocess.PIPE, check=True, cwd=os.path.dirname(FOLDER))
+        lines = [line.split() for line in said.stdout.decode().splitlines()]
+        self.assertEqual([command for command, *_ in lines], sorted(main.COMMANDS))
+        for command, *names in lines:
+            loaded = {it for it in names if it.startswith("sokotool.search")
                       or it == "sokotool.solvers"}
             self.assertEqual(bool(loaded), command in SEARCHING, f"{command}: {loaded}")

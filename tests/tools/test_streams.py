@@ -7,7 +7,7 @@ import shutil
 import signal
 import subprocess
 import sys
-from typing import Dict, List, Tuple
+from typing import Dict, List, Set, Tuple
 
 from sokotool.main import COMMANDS
 from tests.tools import helping
@@ -43,6 +43,8 @@ audit first.xsb first.xsb
 --version
 solve x""".splitlines()
 Ran = Tuple[int, bytes, bytes, Dict[str, bytes]]
+# runs that are known, with the modes of their files
+PLAIN: Dict[Tuple[str, ...], Tuple[Ran, Set[int]]] = {}
 
 
 @not_on_windows
@@ -63,6 +65,14 @@ class Streams(Case):
         shutil.rmtree("room")
         return ran.returncode, ran.stdout, ran.stderr, files
 
+    def plain(self, words: List[str]) -> Ran:
+        """The same of a run with all streams, which is run once for all tests."""
+        known = tuple(words)
+        if known not in PLAIN:
+            PLAIN[known] = self.ran(words, "umask 022"), self.modes
+        ran, self.modes = PLAIN[known]
+        return ran
+
     def commands(self) -> List[List[str]]:
         """The words of all runs."""
         self.assertEqual({line.split()[0] for line in TOOL} & {*COMMANDS}, {*COMMANDS})
@@ -72,18 +82,18 @@ class Streams(Case):
     def test_locale_and_mask(self) -> None:
         """The locale changes nothing, and the mask only who may read what is made."""
         for words in self.commands():
-            plain = self.ran(words, "umask 022")
+            plain = self.plain(words)
             self.assertNotIn(b"Traceback", plain[2])
             self.assertLessEqual(self.modes, {0o644}, words)
-            self.assertEqual(self.ran(words, LC_ALL="C", PYTHONCOERCECLOCALE="0"), plain, words)
-            self.assertEqual(self.ran(words, "umask 077"), plain, words)
+            bare = self.ran(words, "umask 077", LC_ALL="C", PYTHONCOERCECLOCALE="0")
+            self.assertEqual(bare, plain, words)
             self.assertLessEqual(self.modes, {0o600}, words)
 
     def test_closed_streams(self) -> None:
         """Without standard error the status, the output and the files stay. Without standard output
         a run that would print has status 2 and says why."""
         for words in self.commands():
-            status, output, errors, files = self.ran(words)
+            status, output, errors, files = self.plain(words)
             self.assertEqual(self.ran(words, "exec 2>&-"), (status, output, b"", files), words)
             closed = self.ran(words, "exec >&-")
             self.assertEqual((closed[0], closed[1]), (2, b""), words)
