@@ -1,5 +1,6 @@
 """The command find, and its search."""
 import contextlib
+import glob
 import os
 import random
 import re
@@ -242,6 +243,16 @@ def end_group(group: int) -> None:
         os.killpg(group, signal.SIGKILL)
 
 
+def seconds_of(group: int) -> float:
+    """The processor seconds that the processes of a group have used, where files say so."""
+    ticks = 0
+    for name in glob.glob("/proc/[0-9]*/stat"):
+        with contextlib.suppress(OSError), open(name, "rb") as file:
+            fields = file.read().rpartition(b")")[2].split()
+            ticks += (int(fields[2]) == group) * (int(fields[11]) + int(fields[12]))
+    return ticks / 100
+
+
 class Signs(Case):
     """Messages, interrupts and the processes of a search."""
 
@@ -273,15 +284,15 @@ class Signs(Case):
                          record % 3)
         self.assertEqual(said.decode().splitlines()[-1], total(3, found=2, left=1))
 
-    @not_on_windows
+    @is_slow
     def test_terminal_names_the_level_at_work(self) -> None:
         self.write("levels", hall(60, 60))
         import pty  # which Windows lacks
         ours, theirs = pty.openpty()
-        self.find("levels", "--seconds", "5", stdout=subprocess.DEVNULL, stderr=theirs).wait(600)
+        self.find("levels", "--seconds", "3", stdout=subprocess.DEVNULL, stderr=theirs).wait(600)
         os.close(theirs)
         said = rest_of(ours).decode()
-        self.assertRegex(said, " \rfind: 0 of 1 done, 0 found: level 1 for [1-4] s")
+        self.assertRegex(said, " \rfind: 0 of 1 done, 0 found: level 1 for [12] s")
         self.assertTrue(said.rstrip().endswith(total(1, stopped=1)), said)
 
     def test_searches_end_with_their_parent(self) -> None:
@@ -292,8 +303,14 @@ class Signs(Case):
         self.assertEqual(running.stdout.readline(), b"sokoban-answers 1\n")
         time.sleep(1)
         running.kill()
-        # The pipe ends when no process has it open.
-        self.assertEqual(running.communicate(timeout=30)[0], b"")
+        # The pipe ends when no process has it open. A search that goes on uses its processor.
+        before = seconds_of(running.pid)
+        for _ in range(600):
+            with contextlib.suppress(subprocess.TimeoutExpired):
+                self.assertEqual(running.communicate(timeout=.1)[0], b"")
+                return
+            self.assertLess(seconds_of(running.pid) - before, 3)
+        self.fail("a search goes on")
 
 
 class Search(Case):
