@@ -1,6 +1,8 @@
 """The runner of all tests. A case compares what a command prints with what is wanted, and shows a
 difference as a diff. What this machine can't do is skipped, with a line that names it. The last
 line of each part is 'N passed, M failed', and then ', K skipped' if something was."""
+import atexit
+import contextlib
 import difflib
 import multiprocessing
 import os
@@ -15,6 +17,7 @@ from typing import (Any, Callable, Dict, Iterator, List, Mapping, NamedTuple, Op
                     Tuple)
 
 TOP = os.path.dirname(os.path.dirname(os.path.realpath(__file__)))
+MEMORY = "/dev/shm"
 
 
 class Ran(NamedTuple):
@@ -219,6 +222,18 @@ def share_of(every: Sequence[Any], word: str) -> Sequence[Any]:
     if not 0 < number <= count:
         sys.exit(f"there is no share {word}")
     return every[number - 1::count]
+
+
+def work_in_memory() -> None:
+    """Puts new folders into one in memory, where that has room for large texts and programs may
+    run: there nothing waits for a disk. The folder is removed at the end."""
+    with contextlib.suppress(AttributeError, OSError):  # another system
+        known = os.statvfs(MEMORY)
+        has_room = known.f_bavail * known.f_frsize > 2_000_000_000
+        if has_room and not known.f_flag & os.ST_NOEXEC and "TMPDIR" not in os.environ:
+            folder = tempfile.TemporaryDirectory(prefix="sokoaudit-", dir=MEMORY)
+            os.environ["TMPDIR"] = tempfile.tempdir = folder.name
+            atexit.register(folder.cleanup)
 
 
 def enter_folder() -> "tempfile.TemporaryDirectory[str]":

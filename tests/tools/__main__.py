@@ -4,10 +4,11 @@ test_find, or a share of their classes, such as 2/3. No share has what measures 
 import sys
 import unittest
 
-from tests.runner import Cases, arguments
+from tests.runner import Cases, arguments, work_in_memory
 from tests.tools import dealing, helping
 
 helping.PROGRAM, *names = arguments("tools PROGRAM [TEST..]")
+work_in_memory()
 cases = Cases("tools")
 runner = unittest.TextTestRunner(stream=sys.stdout, verbosity=0, failfast=cases.ends_first)
 result = runner.run(dealing.tests_of(names))

@@ -1,6 +1,9 @@
 """Helpers of the tests: a folder of its own for each test, and runs of sokotool and sokoaudit in
 it."""
+import argparse
 import contextlib
+import functools
+import importlib.util
 import io
 import os
 import shutil
@@ -8,9 +11,11 @@ import sys
 import tempfile
 import time
 import unittest
-from typing import Any, Callable, Dict, List, NamedTuple, Tuple, Union
+import unittest.mock
+from importlib.machinery import SourceFileLoader
+from typing import Any, Callable, Dict, List, NamedTuple, Sequence, Tuple, Union
 
-from sokotool.main import main
+from sokotool import auditor, main
 
 from tests import runner
 
@@ -25,12 +30,33 @@ needs_a_memory_limit = unittest.skipIf(LACKING, "there is no limit of memory")
 PROGRAM = os.path.join(TOP, "crates/sokoaudit/out/sokoaudit")
 SAMPLES = os.path.join(TOP, "samples")
 ONE = "#####\n#@$.#\n#####\n"
+PARSER_OF = functools.lru_cache(None)(main.parser_for)
 PIECE = 0.016  # the processor seconds of a piece of work on an idle machine
 
 
 def plain_variables() -> Dict[str, str]:
     """Returns the variables of this process, without one by which Python keeps nothing back."""
     return {name: it for name, it in os.environ.items() if name != "PYTHONUNBUFFERED"}
+
+
+def known_parser(words: Sequence[str]) -> argparse.ArgumentParser:
+    """Returns the parser of a command, which is made once for all tests."""
+    return PARSER_OF(tuple(words[:1]))
+
+
+def reference_here() -> Any:
+    """Returns a patch by which the reference runs in this process, whatever program is named."""
+    loader = SourceFileLoader("reference_program", os.path.join(TOP, "reference", "sokoaudit"))
+    spec = importlib.util.spec_from_loader(loader.name, loader)
+    assert spec
+    module: Any = importlib.util.module_from_spec(spec)
+    with unittest.mock.patch.object(sys, "path", [os.path.join(TOP, "reference"), *sys.path]):
+        loader.exec_module(module)
+
+    def run(_self: auditor.Auditor, *words: str, **_: object) -> auditor.Ran:
+        out, error, status = module.answer_to(lambda: module.run(words))
+        return auditor.Ran(status, out, error.decode().strip())
+    return unittest.mock.patch.object(auditor.Auditor, "run", run)
 
 
 def pace() -> float:
@@ -92,7 +118,8 @@ class Case(unittest.TestCase):
         try:
             with contextlib.redirect_stdout(out), contextlib.redirect_stderr(err):
                 try:
-                    status = main(list(words))
+                    with unittest.mock.patch.object(main, "parser_for", known_parser):
+                        status = main.main(list(words))
                 except SystemExit as ended:
                     status = ended.code
         finally:

@@ -5,7 +5,7 @@ from typing import Union
 
 from sokotool import auditor, own_files, system
 from tests.tools import helping
-from tests.tools.helping import TOP, Case, Result
+from tests.tools.helping import TOP, Case, Result, reference_here
 
 LEVELS = "Corner\n#####\n#$ .#\n# @ #\n#####\n"
 REFERENCE = os.path.join(TOP, "reference", "sokoaudit")
@@ -28,6 +28,12 @@ class Auditor(Case):
         """Runs check without a search."""
         with unittest.mock.patch.dict(os.environ, variables):
             return self.tool("check", *words, "--seconds", "0")
+
+    def use_reference_here(self) -> None:
+        """Runs no process for an audit by either program."""
+        patch = reference_here()
+        patch.start()
+        self.addCleanup(patch.stop)
 
     def test_places_in_order(self) -> None:
         top = os.path.join(self.folder, "top")
@@ -88,6 +94,7 @@ class Auditor(Case):
 
     def test_the_note_goes_when_the_program_checks(self) -> None:
         """Also if a record was typed below it."""
+        self.use_reference_here()
         self.write("a.txt", LEVELS + "\nOpen\n#####\n#@$.#\n#####\n")
         note, record = auditor.REFERENCE_NOTE.encode(), b"level 2\nsolution\nR\nend\n"
         for between in (b"", b"; mine\n", b"\n"):
@@ -115,6 +122,7 @@ class Auditor(Case):
     def test_comparing_what_the_program_wrote(self) -> None:
         """The reference writes the same files but for its note, and --compare tells where files
         are other than a check would write them, and writes none."""
+        self.use_reference_here()
         self.write("a.txt", LEVELS + "\nSolved\n#####\n#@$.#\n#####\nR\n")
         ends = (".xsb", ".answers", ".report", ".html", ".memory")
         self.check("mine", "a.txt", SOKOAUDIT=helping.PROGRAM)

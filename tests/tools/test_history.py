@@ -8,23 +8,20 @@ interrupted, killed, meets a full disk, or another one runs beside it."""
 import contextlib
 import errno
 import glob
-import importlib.util
 import os
 import random
 import re
 import shutil
 import subprocess
-import sys
 import tempfile
 import unittest.mock
-from importlib.machinery import SourceFileLoader
-from typing import Any, Callable, Dict, List, NamedTuple, Sequence, Set, Tuple
+from typing import Any, Dict, List, NamedTuple, Sequence, Set, Tuple
 
-from sokotool import auditor, levels
+from sokotool import levels
 from tests.tools.ending import EndsEarly, Killed, Meanwhile
-from tests.tools.helping import TOP, Case
+from tests.tools.helping import TOP, Case, reference_here
 
-HISTORIES = 60
+HISTORIES = 25
 RUNS = 6
 # what a keeper may put back from a backup
 ENDS = (".xsb", ".answers", ".report", ".html", ".memory", ".kept.xsb", ".kept.answers")
@@ -56,23 +53,6 @@ class Drawn(NamedTuple):
         else:
             lines = [self.title, *self.rows(), *solution]
         return "\n".join(lines) + "\n\n"
-
-
-def reference() -> Callable[..., auditor.Ran]:
-    """Returns the reference as a function in this process, in place of `Auditor.run`."""
-    folder = os.path.join(TOP, "reference")
-    sys.path.insert(0, folder)
-    loader = SourceFileLoader("reference_program", os.path.join(folder, "sokoaudit"))
-    spec = importlib.util.spec_from_loader("reference_program", loader)
-    assert spec
-    module: Any = importlib.util.module_from_spec(spec)
-    loader.exec_module(module)
-    sys.path.remove(folder)
-
-    def run(_self: auditor.Auditor, *words: str, **_: object) -> auditor.Ran:
-        out, error, status = module.answer_to(lambda: module.run(words))
-        return auditor.Ran(status, out, error.decode().strip())
-    return run
 
 
 class History:
@@ -282,7 +262,7 @@ def words_in(former: bool) -> Set[str]:
 class Histories(Case):
     def setUp(self) -> None:
         super().setUp()
-        self.enter(unittest.mock.patch.object(auditor.Auditor, "run", reference()))
+        self.enter(reference_here())
         path = os.path.join(TOP, "reference", "sokoaudit")
         self.enter(unittest.mock.patch.dict(os.environ, SOKOAUDIT=path))
 
