@@ -19,7 +19,7 @@ import re
 import shutil
 import sys
 
-from tests.runner import TOP, Cases, arguments, run
+from tests.runner import TOP, Cases, arguments, run, work_in_memory
 
 TESTS = [f"test_{it}" for it in (
     "auditor", "beside", "check", "commands", "convert", "files", "find", "friends", "page", "pyz",
@@ -29,7 +29,8 @@ TESTS = [f"test_{it}" for it in (
 def without(cases: Cases, system: str, python: str, *words: str) -> None:
     """The tests in a Python that lacks what the system lacks."""
     paths = [f"{TOP}/{it}" for it in ("tests/lacking", "tools", "reference", "include")]
-    variables = {**os.environ, "LACKING": system, "PYTHONPATH": os.pathsep.join(paths)}
+    variables = {**os.environ, "LACKING": system, "LACKING_TESTS": "yes",
+                 "PYTHONPATH": os.pathsep.join(paths)}
     said = run([python, "-B", "-m", "tests.tools", *words], cwd=TOP, env=variables)
     counts = re.findall(r"(?m)^(\d+) passed, (\d+) failed(?:, (\d+) skipped)?$", said)
     is_whole = cases.holds("the tests run", counts, said)
@@ -51,6 +52,7 @@ def python_of_old() -> str:
 
 if __name__ == "__main__":
     program, *names = arguments("lacking PROGRAM [TEST..]")
+    work_in_memory()
     cases = Cases("lacking")
     python = python_of_old()
     cases.side_by_side({it: (without, it, python, program, *(names or TESTS))

@@ -16,13 +16,16 @@ import types
 from typing import Any, Optional
 
 # what uses os or signal, and is imported before they are cut
-LIBRARY = """argparse asyncio concurrent.futures.process contextlib difflib fileinput gettext glob
-importlib.util inspect json logging mimetypes multiprocessing.connection multiprocessing.context
-multiprocessing.managers multiprocessing.popen_fork multiprocessing.popen_spawn_posix
-multiprocessing.queues multiprocessing.reduction multiprocessing.resource_tracker
-multiprocessing.spawn multiprocessing.synchronize multiprocessing.util pathlib pkgutil pprint random
-runpy selectors shlex shutil socket ssl stat subprocess tempfile threading traceback unittest
-unittest.mock urllib.request xml.etree.ElementTree xml.sax xml.sax.saxutils zipfile""".split()
+LIBRARY = """argparse contextlib fileinput gettext glob importlib.util json
+multiprocessing.connection multiprocessing.context multiprocessing.popen_fork
+multiprocessing.popen_spawn_posix multiprocessing.queues multiprocessing.reduction
+multiprocessing.resource_tracker multiprocessing.spawn multiprocessing.synchronize
+multiprocessing.util pathlib pkgutil random runpy selectors shlex shutil socket stat subprocess
+tempfile threading traceback zipfile""".split()
+# the same that the tests use, and no process that they start
+TESTS = """asyncio concurrent.futures.process difflib inspect logging mimetypes
+multiprocessing.managers pprint ssl unittest unittest.mock urllib.request xml.etree.ElementTree
+xml.sax xml.sax.saxutils""".split()
 # the variable PATHEXT
 ENDS = (".com", ".exe", ".bat", ".cmd")
 LACKS = {
@@ -136,7 +139,7 @@ def refuse_limit() -> None:
 
 def become(system: str) -> None:
     """Makes this process one of that system."""
-    for name in LIBRARY:
+    for name in [*LIBRARY, *(TESTS if os.environ.pop("LACKING_TESTS", "") else [])]:
         importlib.import_module(name)
     if system == "windows":
         lock_as_windows()

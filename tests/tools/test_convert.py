@@ -3,7 +3,7 @@ import base64
 import os
 from typing import Dict, List
 
-from tests.tools.helping import ONE, SAMPLES, Case, Converted
+from tests.tools.helping import ONE, SAMPLES, Case, Converted, is_slow
 from sokotool import answers, levels
 
 OTHER = "######\n#@ $.#\n######\n"
@@ -302,11 +302,13 @@ class Limits(Case):
         self.assertEqual((result.status, letters_of(solved)), (1, {}))
         self.assertIn("is longer than", result.err)
 
+    @is_slow
     def test_too_many_levels(self) -> None:
         result, found, _ = self.convert("\n".join([ONE] * 10001))
         self.assertEqual((result.status, found), (2, None))
         self.assertEqual(self.convert("\n".join([ONE] * 10000))[0].status, 0)
 
+    @is_slow
     def test_many_coded_levels_of_a_folder(self) -> None:
         os.mkdir("inbox")
         self.write("inbox/a.txt", "7#|#@2-$.#|7#\n\n" * 10001)

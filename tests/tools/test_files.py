@@ -108,7 +108,7 @@ class Whole(Case):
             + b"total 3000 solved 3000 unsolvable 0 refused 0 missing 0\n")
         self.write("torn.xsb", "\n\n".join(["####"] * 3000))
 
-    @not_on_windows
+    @is_slow
     def test_a_full_disk(self) -> None:
         """An unbuffered stream may write a part and report nothing."""
         for unbuffered in ("", "1"):
@@ -272,6 +272,7 @@ class Reading(Case):
         self.assertEqual(written[:6] * 3, written[6:])
         self.assertNotIn(os.path.realpath(".").encode(), b"".join(written))
 
+    @is_slow
     def test_encodings(self) -> None:
         """A file that isn't UTF-8 gets a note, and --encoding reads it right."""
         for name, text in (("koi8-r", "\u041f\u0435\u0440\u0432\u044b\u0439"),
@@ -301,6 +302,7 @@ class Reading(Case):
         self.assertEqual(self.tool("convert", "out", "a.sol", "a.xsb").status, 0)
         self.assertIn(b"rR", self.read("out.answers"))
 
+    @is_slow
     def test_too_many_levels(self) -> None:
         self.write("first.txt", ONE)
         self.write("years.txt", "\n".join([ONE] * 9999 + [OTHER + "rR\n", ONE]))
@@ -357,14 +359,15 @@ class Reading(Case):
 
     @needs_a_memory_limit
     def test_hostile_lines(self) -> None:
-        """33 MB of such lines take at most 30 s and 1 GB; some are tried here within 1 GB."""
+        """33 MB of such lines take at most 30 s and 1 GB; some, a quarter of what 1 GB is enough
+        for, are tried here within a quarter."""
         import resource  # which Windows lacks
 
         def bound() -> None:
-            resource.setrlimit(resource.RLIMIT_AS, (1_000_000_000, 1_000_000_000))
-            resource.setrlimit(resource.RLIMIT_CPU, (30, 30))
-        for unit, count in (("r,R,", 5_000_000), ("|#|#|", 2_000_000), ("1#\n", 1_000_000),
-                            ("~#@$.#~\n", 500_000)):
+            resource.setrlimit(resource.RLIMIT_AS, (250_000_000, 250_000_000))
+            resource.setrlimit(resource.RLIMIT_CPU, (5, 5))
+        for unit, count in (("r,R,", 1_250_000), ("|#|#|", 500_000), ("1#\n", 250_000),
+                            ("~#@$.#~\n", 125_000)):
             self.write("a.txt", ONE + unit * count)
             found = subprocess.run([TOOL, "convert", "out", "a.txt", "--replace"], check=False,
                                    stdout=subprocess.PIPE, stderr=subprocess.STDOUT,
@@ -375,11 +378,11 @@ class Reading(Case):
 
     @is_slow
     def test_short_lines(self) -> None:
-        """33 MB of short lines take at most 20 s and 1 GB; a twentieth is tried here."""
+        """33 MB of short lines take at most 20 s and 1 GB; a fortieth is tried here."""
         for unit in ("a\n", "r\n", "#\n", "r a\n"):
-            self.write("a.txt", (OTHER + unit * (1_650_000 // len(unit))))
+            self.write("a.txt", (OTHER + unit * (825_000 // len(unit))))
             for words in (["convert", "out", "a.txt", "--replace"], ["warn", "a.txt"]):
-                self.takes_less(8, lambda words=words: self.tool(*words))  # type: ignore[misc]
+                self.takes_less(3, lambda words=words: self.tool(*words))  # type: ignore[misc]
 
 
 class Words(Case):

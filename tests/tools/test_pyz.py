@@ -11,7 +11,8 @@ import zipfile
 
 from sokotool import auditor
 from tests.tools import helping
-from tests.tools.helping import ONE, TOP, Case, Result, not_on_windows, plain_variables
+from tests.tools.helping import (ONE, TOP, Case, Result, is_slow, not_on_windows,
+                                 plain_variables)
 
 MAKER = os.path.join(TOP, "packaging", "pyz")
 NOTE = "sokoaudit: this is the reference in Python, not the proved program"
@@ -64,6 +65,7 @@ class Pyz(Case):
         self.assertEqual(count, [1] * 5)
 
     @unittest.skipUnless(shutil.which("git"), "there is no git")
+    @is_slow
     def test_build_server(self) -> None:
         """The commands of keeping.md for a service find a collection as the program wrote it,
         also in a clone, and a file that was changed."""
@@ -101,6 +103,7 @@ class Pyz(Case):
         result = self.runs("dead", "a.txt", "2")
         self.assertEqual((result.status, result.err.splitlines()[1:]), (2, ["no such level"]))
 
+    @is_slow
     def test_manual(self) -> None:
         self.assertIn("keeping.md", self.runs("manual").out.decode().split())
         with open(os.path.join(TOP, "docs", "keeping.md"), "rb") as file:
