@@ -1,7 +1,6 @@
 """The command table: the table of a contest, and its page."""
 import os
 import re
-import subprocess
 import unittest
 import unittest.mock
 from typing import List, Optional, Tuple
@@ -11,6 +10,7 @@ from tests.tools import helping
 from tests.tools.browser import PROGRAM as BROWSER
 from tests.tools.helping import Case, Result, is_slow, needs_a_memory_limit, used
 from tests.tools.test_page import data_of
+from tests.tools.viewing import shared
 
 LEVELS = ("Warm-up\n#######\n#@ $ .#\n#######\n\nCorner turn\n######\n#    #\n#@$  #\n#  . #\n"
           "######\n")
@@ -186,6 +186,7 @@ class Table(Case):
         # without the policy, since it lets no other script run
         page = re.sub("<meta http-equiv.*>", "", page)
         self.write("sorted.html", page.replace("</body>", click + "</body>"))
+        shared.start()
         for name, pattern, wanted in (
                 ("sorted.html",
                  r'<td class="number">(\d+)</td><td class="number">\d+</td><td class="number">1</'
@@ -193,9 +194,6 @@ class Table(Case):
                 ("page.html", r'<details id="contest"( open="")?>', [' open=""']),
                 ("page.html#4:end", r'<details id="contest"( open="")?>', [""]),
                 ("page.html#4:end", r'data-name="moves">moves <b>(\d+)', ["6"])):
-            words = [str(BROWSER), "--headless", "--no-sandbox", "--disable-gpu",
-                     f"--user-data-dir={self.folder}/browser",
-                     "--virtual-time-budget=3000", "--dump-dom", f"file://{self.folder}/{name}"]
-            found = subprocess.run(words, stdout=subprocess.PIPE, stderr=subprocess.DEVNULL,
-                                   timeout=120, check=False).stdout.decode()
+            shared.open(f"file://{self.folder}/{name}")
+            found = shared.ask("document.documentElement.outerHTML")
             self.assertEqual(re.findall(pattern, found)[:len(wanted)], wanted, name)
