@@ -197,7 +197,8 @@ class Addresses(Page):
         shared.press("ArrowRight", "n")
         self.holds(HASH, "#2")
         shared.ask("new Promise(done => setTimeout(done, 400))")
-        self.assertEqual((shared.ask(HASH), shared.ask(SAID)), ("#2", ""))
+        # on a busy machine the next level says something itself
+        self.assertEqual((shared.ask(HASH), "Letter" in shared.ask(SAID)), ("#2", False))
 
 
 class Large(Page):
