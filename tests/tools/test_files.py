@@ -376,6 +376,20 @@ class Reading(Case):
             for name in glob.glob("out.*"):
                 os.remove(name)
 
+    @needs_a_memory_limit
+    def test_own_files_within_a_limit(self) -> None:
+        """A run that reads what a former one wrote needs no more memory."""
+        import resource  # which Windows lacks
+
+        def bound() -> None:
+            resource.setrlimit(resource.RLIMIT_AS, (250_000_000, 250_000_000))
+        self.write("a.txt", ONE + "rR\n")
+        for _ in range(2):
+            found = subprocess.run([TOOL, "check", "mine", "a.txt"], check=False,
+                                   stdout=subprocess.PIPE, stderr=subprocess.STDOUT,
+                                   preexec_fn=bound)
+            self.assertEqual(found.returncode, 0, found.stdout)
+
     @is_slow
     def test_short_lines(self) -> None:
         """33 MB of short lines take at most 20 s and 1 GB; a fortieth is tried here."""

@@ -7,14 +7,15 @@ import re
 import sys
 from functools import lru_cache
 from itertools import islice
-from typing import (Any, AnyStr, Dict, Iterable, List, Match, Optional, Sequence, Set, Tuple,
-                    TypeVar, Union)
+from typing import (Any, AnyStr, BinaryIO, Dict, Iterable, List, Match, Optional, Sequence, Set,
+                    Tuple, TypeVar, Union)
 
 from . import encodings
 
 Name = TypeVar("Name")
 Item = TypeVar("Item")
 MOST_BYTES = 33_554_432
+READ_AT_ONCE = 1 << 20
 MARK = b"\xef\xbb\xbf"
 # the most lines that a cache keeps
 MOST_KEPT = 1 << 18
@@ -41,17 +42,26 @@ def read(name: str, most: int = MOST_BYTES) -> bytes:
     try:
         if name != "-":
             with open(name, "rb") as file:
-                data = file.read(most + 1)
+                data = read_up_to(file, most + 1)
         elif sys.stdin is None:
             raise Stop("cannot read -: standard input is closed")
         else:
-            data = sys.stdin.buffer.read(most + 1)
+            data = read_up_to(sys.stdin.buffer, most + 1)
     except (OSError, ValueError) as error:
         why = getattr(error, "strerror", error)
         raise Stop(f"cannot read {shown(name)}: {why}") from None
     if len(data) > most:
         raise Stop(f"{shown(name)} is longer than {most} bytes")
     return data
+
+
+def read_up_to(file: BinaryIO, most: int) -> bytes:
+    """Returns the bytes of a stream, or its first ones. They are read in parts, because a read
+    takes memory for all that it may return."""
+    parts = [file.read(min(READ_AT_ONCE, most))]
+    while len(parts[-1]) == READ_AT_ONCE and len(parts) * READ_AT_ONCE < most:
+        parts.append(file.read(min(READ_AT_ONCE, most - len(parts) * READ_AT_ONCE)))
+    return b"".join(parts)
 
 
 def expanded(names: Sequence[str]) -> List[str]:
