@@ -165,7 +165,7 @@ class Beside(Check):
         self.typed("mine.xsb", "typed\n")()
         runs = [subprocess.Popen([f"{TOP}/sokotool", "check", "mine", ".", "--best", best],
                                  stdout=subprocess.PIPE, stderr=subprocess.PIPE)
-                for best in ("moves", "pushes", "moves", "pushes", "moves")]
+                for best in ("moves", "pushes") * 4]
         for run in runs:
             out, err = run.communicate()
             said = err.replace(b"check: another check of mine is running: waiting for its end\n",

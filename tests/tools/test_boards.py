@@ -189,12 +189,12 @@ class Twins(Case):
     @unittest.skipUnless(os.path.isdir(MAPS), "Debian's cavepacker-data isn't installed")
     def test_maps(self) -> None:
         chance = random.Random(34)
-        names = sorted(name for name in os.listdir(MAPS) if name.endswith(".sok"))[::4]
+        names = sorted(name for name in os.listdir(MAPS) if name.endswith(".sok"))
         self.tool("convert", "maps", *(os.path.join(MAPS, name) for name in names))
         pictures = [[row.decode() for row in level.rows]
                     for level in levels.read(self.read("maps.xsb"))]
-        self.assertGreater(len(pictures), 200)
-        some = chance.sample(pictures, 50)
+        self.assertEqual(len(pictures), 1015)
+        some = chance.sample(pictures, 100)
         self.compare(pictures +
                      [framed(chance, turned(rows, chance.randrange(8))) for rows in some])
 

@@ -110,7 +110,7 @@ class Headings(Case):
     def test_there_and_back(self) -> None:
         chance = random.Random(57)
         counts: Counter[bool] = Counter()
-        for _ in range(75):
+        for _ in range(150):
             text, boards, wanted = made_by(chance)
             result, found, solved = self.convert(text)
             read = [plain(level.rows) for level in levels.read(found)]

@@ -359,15 +359,14 @@ class Reading(Case):
 
     @needs_a_memory_limit
     def test_hostile_lines(self) -> None:
-        """33 MB of such lines take at most 30 s and 1 GB; some, a quarter of what 1 GB is enough
-        for, are tried here within a quarter."""
+        """33 MB of such lines take at most 30 s and 1 GB; some are tried here within 1 GB."""
         import resource  # which Windows lacks
 
         def bound() -> None:
-            resource.setrlimit(resource.RLIMIT_AS, (250_000_000, 250_000_000))
-            resource.setrlimit(resource.RLIMIT_CPU, (5, 5))
-        for unit, count in (("r,R,", 1_250_000), ("|#|#|", 500_000), ("1#\n", 250_000),
-                            ("~#@$.#~\n", 125_000)):
+            resource.setrlimit(resource.RLIMIT_AS, (1_000_000_000, 1_000_000_000))
+            resource.setrlimit(resource.RLIMIT_CPU, (30, 30))
+        for unit, count in (("r,R,", 5_000_000), ("|#|#|", 2_000_000), ("1#\n", 1_000_000),
+                            ("~#@$.#~\n", 500_000)):
             self.write("a.txt", ONE + unit * count)
             found = subprocess.run([TOOL, "convert", "out", "a.txt", "--replace"], check=False,
                                    stdout=subprocess.PIPE, stderr=subprocess.STDOUT,
@@ -392,11 +391,11 @@ class Reading(Case):
 
     @is_slow
     def test_short_lines(self) -> None:
-        """33 MB of short lines take at most 20 s and 1 GB; a fortieth is tried here."""
+        """33 MB of short lines take at most 20 s and 1 GB; a twentieth is tried here."""
         for unit in ("a\n", "r\n", "#\n", "r a\n"):
-            self.write("a.txt", (OTHER + unit * (825_000 // len(unit))))
+            self.write("a.txt", (OTHER + unit * (1_650_000 // len(unit))))
             for words in (["convert", "out", "a.txt", "--replace"], ["warn", "a.txt"]):
-                self.takes_less(3, lambda words=words: self.tool(*words))  # type: ignore[misc]
+                self.takes_less(8, lambda words=words: self.tool(*words))  # type: ignore[misc]
 
 
 class Words(Case):

@@ -21,7 +21,7 @@ from sokotool import levels
 from tests.tools.ending import EndsEarly, Killed, Meanwhile
 from tests.tools.helping import TOP, Case, reference_here
 
-HISTORIES = 25
+HISTORIES = 60
 RUNS = 6
 # what a keeper may put back from a backup
 ENDS = (".xsb", ".answers", ".report", ".html", ".memory", ".kept.xsb", ".kept.answers")

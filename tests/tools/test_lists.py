@@ -159,7 +159,7 @@ class Lists(Case):
         return text, "".join(form.format(n=n, t=t, s=s) for n, t, s in lines), wanted
 
     def test_random(self) -> None:
-        for seed in range(80):
+        for seed in range(200):
             text, listed, wanted = self.listed(seed)
             self.write("a.sok", text)
             self.write("a.txt", listed)

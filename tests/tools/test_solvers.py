@@ -56,7 +56,6 @@ class Solvers(Case):
         (result,) = self.solved(script, **how)
         return result.what
 
-    @is_slow
     def test_letters_are_found_wherever_they_are(self) -> None:
         for printed in ("rRR", "rrr", "Solution: rRR", "r\\nRR", "r R R", "found: r2R", "3r",
                         "Dull rd\\nsolution (3 moves, 2 pushes): rRR in 0.1 s",
@@ -120,15 +119,12 @@ class Solvers(Case):
 
     @is_slow
     def test_a_gigabyte(self) -> None:
-        """Without end, or with the letters at the end; of letters alone, and in one line. A fifth
-        of what counts is enough of some."""
-        fifth = unittest.mock.patch.object(solvers, "MOST_PRINTED", solvers.MOST_PRINTED // 5)
+        """Without end, or with the letters at the end; of letters alone, and in one line."""
         for block in ("b'x' * 65535 + b'\\n'", "b'r' * 65536", "b'l\\n' * 32768"):
             began = used()
-            with fifth:
-                self.assertEqual(self.outcome(f"while True: sys.stdout.buffer.write({block})"),
-                                 outcomes.LONG)
-            self.assertLess(used() - began, 10)
+            self.assertEqual(self.outcome(f"while True: sys.stdout.buffer.write({block})"),
+                             outcomes.LONG)
+            self.assertLess(used() - began, 20)
         self.assertEqual(self.outcome("for _ in range(3000): print('x' * 65535)\nprint('rRR')"),
                          outcomes.SOLVED)
         self.assertEqual(self.outcome("print('rRR')\nwhile True: print('x' * 65535)"),
@@ -139,7 +135,7 @@ class Solvers(Case):
         for ignores in ("", "signal.signal(signal.SIGTERM, signal.SIG_IGN)\n"):
             for printed, what in (("", outcomes.LATE), ("rRR", outcomes.SOLVED)):
                 lines = f"{ignores}print('{printed}', flush=True)\nwhile True: time.sleep(9)"
-                for seconds in (1, 3, 60):  # a Python takes long to start on a busy machine
+                for seconds in (3, 60):  # a Python takes long to start on a busy machine
                     began = time.monotonic()
                     found = self.outcome(lines, seconds=seconds)
                     self.assertLess(time.monotonic() - began, seconds + 40)
@@ -381,11 +377,11 @@ class Checks(Check):
 
     @is_slow
     def test_the_example(self) -> None:
-        """The solver of the examples solves small levels."""
-        boards = [Generator(seed).level()[0] for seed in range(16)]
+        """The solver of the examples solves fifty small levels."""
+        boards = [Generator(seed).level()[0] for seed in range(50)]
         self.write("a.txt", "\n\n".join("\n".join(rows) for rows in boards) + "\n")
         found = levels.read(self.read("a.txt"))
         results = list(solvers.Solvers(solver(f"{sys.executable} {TOP}/examples/solver.py"), found,
                                        Limits(60, 600, 2), Budget(600)).results())
-        self.assertEqual(len(results), 16)
+        self.assertEqual(len(results), 50)
         self.assertEqual({it.what for it in results}, {outcomes.SOLVED})
