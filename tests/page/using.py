@@ -492,6 +492,16 @@ def fields(check: Comparison, tab: Tab) -> None:
     tab.ask("audit()")
     check.same("the pasted ones once that is removed", [both, LINE], [
         tab.ask("$('levels').value + $('answers').value"), tab.text("lines")[:len(LINE)]])
+    tab.fresh()
+    tab.paste("levels", f"{ANSWERS}\nOne\n{LEVEL}\n{CORNER[:-1]}")
+    check.same("answers pasted above their levels", [LINE, "One", ANSWERS], [
+        tab.text("lines")[:len(LINE)], tab.ask("shownData.levels[0].title"),
+        tab.ask("$('answers').value")])
+    tab.give("corner.xsb")
+    tab.click("#levels-file button")
+    tab.ask("audit()")
+    check.same("they stay once a file has come and gone", [LINE, ANSWERS], [
+        tab.text("lines")[:len(LINE)], tab.ask("$('answers').value")])
 
 
 def buttons(check: Comparison, tab: Tab) -> None:

@@ -1,7 +1,7 @@
 // The page that audits: takes texts, and asks the program's thread.
 
 const MOST_KEPT = 100000;
-const HEADER = /^sokoban-answers/, INNER_HEADER = /\nsokoban-answers [12]\r?\n/;
+const HEADER = /^sokoban-answers/, INNER_HEADER = /\nsokoban-answers [12]\r?\n/, INNER_ROW = /\n[-@+$*._ ]*#[-#@+$*._ ]*(?:\n|$)/;
 const INSTEAD = "Use another browser, or the program sokoaudit on Linux, sokoaudit.exe on Windows, or "
     + "'reference/sokoaudit audit LEVELS ANSWERS', which needs Python alone.";
 // the smallest module with a vector of 128 bits, which the program's module has too
@@ -126,6 +126,12 @@ function takePairs(levels, answers, lists) {
     return true;
 }
 
+// where answers end: before the levels that follow their last record, if there are rows
+function endOfAnswers(text) {
+    const row = text.search(INNER_ROW), end = row < 0 ? -1 : text.lastIndexOf("\nend\n", row);
+    return end < 0 ? text.length : end + 5;
+}
+
 // moves pasted answers from the field of the levels to their own, also in place of those that were moved before
 let moved = "", isOfLevels = false;
 function moveAnswers() {
@@ -134,11 +140,12 @@ function moveAnswers() {
     const near = text.indexOf("\nsokoban-answers "), inner = near < 0 ? null : INNER_HEADER.exec(text);
     const at = HEADER.test(text) ? 0 : inner ? inner.index + 1 : -1;
     if (at < 0) return;
-    answers.field.value = text.slice(at);
+    const end = at + endOfAnswers(text.slice(at)), below = text.slice(end);
+    answers.field.value = text.slice(at, end);
     moved = answers.field.value;
-    isOfLevels = at > 0;
     $("more").open = true;
-    levels.field.value = text.slice(0, at);
+    levels.field.value = text.slice(0, at) + (below && `${below}\n`);
+    isOfLevels = Boolean(levels.field.value);
 }
 
 // whether the field of the answers has those that were pasted with the levels
