@@ -139,6 +139,27 @@ def kept(check: Comparison, tab: Tab) -> None:
     tab.ask("clear(); 0")
     tab.give("my.memory")
     check.same("a memory alone", "total 1 solved 1", tab.text("total")[:16])
+    write("own.xsb", LEVEL)
+    write("own.answers", ANSWERS)
+    write("own.report", f"{LINE}total 1 solved 1 unsolvable 0 refused 0 missing 0\n")
+    tab.ask("savePage().then(() => 0)")
+    own = {"own.html": tab.saved("page"), "own.report": encode(read("own.report")),
+           "own.xsb": f"{LEVEL}{LETTERS}\n".encode()}
+    with open("own.html", "wb") as file:
+        file.write(own["own.html"])
+    with open("own.zip", "wb") as file:
+        file.write(zipped(own))
+    tab.give("own.zip")
+    check.same("a report and a page in an archive",
+               ["total 1 solved 1", ["own.html", "own.report"]],
+               [tab.text("total")[:16], [it.split(":")[0] for it in tab.told()]])
+    tab.ask("clear(); 0")
+    tab.give("own.answers", "own.html", "own.report", "own.xsb")
+    check.same("a report and a page beside their levels", ["total 1 solved 1", True, True], [
+        tab.text("total")[:16], tab.ask("$('each').hidden"),
+        "own.html, own.report" in tab.text("notes")])
+    tab.ask("clear(); 0")
+    check.same("a report alone", "No level is found.", tab.give("own.report"))
 
 
 def remarks(check: Comparison, tab: Tab) -> None:

@@ -84,6 +84,7 @@ async function take(files) {
     const again = files.findIndex(it => it.name === inputs.levels.file?.name);
     if (said.kinds[again] === "list") said.kinds[again] = "levels";
     let [levels, answers, lists] = ["levels", "answers", "list"].map(kind => files.filter((_, i) => said.kinds[i] === kind));
+    copies.push(...files.filter((_, i) => said.kinds[i] === "made").map(({ name }) => name));
     // lists may come before their levels, but don't go with others
     if (!levels.length || !hasLevels()) lists = [...lists, ...others(inputs.levels.lists)];
     if (!levels.length && pairs.length) {
@@ -94,7 +95,7 @@ async function take(files) {
     if (levels.length < 2 && answers.length < 2) takePair(levels[0], answers[0], lists);
     else if (!takePairs(levels, answers, lists)) return;
     await audit();
-    if (copies.length) $("notes").append(` Left out, since 'sokotool check' wrote them beside the levels: ${few(copies)}.`);
+    if (copies.length) $("notes").append(` Left out, since they were made from the levels: ${few(copies)}.`);
 }
 
 // Takes one file of levels and one of answers, or either. New levels drop the answers of others.

@@ -182,6 +182,14 @@ function gameOf(text) {
 }
 
 const FORMS = [["an archive", /^(?:PK|7z|Rar)/], ["a picture", /^(?:\x89PNG|\xff\xd8\xff|GIF8)/], ["a document", /^(?:%PDF|\{\\rtf)/]];
+const PAGE = /^<!DOCTYPE html>[^]*<title>sokoaudit report</, REPORT = /^(?:level 1|total \d+) /;
+const TOTAL = /^total \d+ solved \d+ unsolvable \d+ refused \d+ missing \d+\r?\n$/m;
+// Whether a file was made from levels: a page that shows them, or a report.
+function isMade(bytes) {
+    const head = textOf(bytes.subarray(0, 4000));
+    return PAGE.test(head) || REPORT.test(head) && TOTAL.test(textOf(bytes.subarray(-200)));
+}
+
 const note = words => ({ number: 0, words, isNote: true });
 // a file that isn't read, for a reason
 const unread = (name, fault) => ({ name, text: "", lines: [], faults: [fault], encoding: "", isAlone: false });
@@ -191,9 +199,10 @@ async function partsOf(name, bytes, depth = 0, room = { left: MOST_UNPACKED }) {
     const head = textOf(bytes.subarray(0, 8));
     try {
         if (/^PK\x03\x04/.test(head) && depth < MOST_NESTED) {
-            const parts = [], files = await unzipped(bytes, room), copies = copiesIn(files.map(it => it.name));
+            const parts = [], files = await unzipped(bytes, room), made = files.filter(it => isMade(it.bytes));
+            const copies = [...copiesIn(files.map(it => it.name)), ...made.length < files.length ? made.map(it => it.name) : []];
             for (const it of files) {
-                parts.push(...copies.includes(it.name) ? [unread(it.name, note("is left out: 'sokotool check' wrote it beside the levels"))]
+                parts.push(...copies.includes(it.name) ? [unread(it.name, note("is left out, since it was made from the levels"))]
                     : await partsOf(it.name, it.bytes, depth + 1, room));
             }
             return parts;

@@ -105,14 +105,15 @@ function unmarked(bytes) {
     return encoding ? bytesOf(utf8(readBytes(bytes).text)) : bytes.subarray(bytes[0] === 0xef ? 3 : 0);
 }
 
-// Whether a file has letters and no level.
-async function isList(file) {
+// The kind of a file that isn't answers: made from levels, a list of letters without a level, or levels.
+async function kindOf(file) {
     const bytes = await bytesIn(file);
+    if (isMade(bytes)) return "made";
     // a row that isn't a line of walls, which would part solutions
-    if (/(?:^|\n)[-_ ]*#[-#_ ]*[@+$*.][-#@+$*._ ]*(?:\r?\n|$)/.test(textOf(bytes))) return false;
+    if (/(?:^|\n)[-_ ]*#[-#_ ]*[@+$*.][-#@+$*._ ]*(?:\r?\n|$)/.test(textOf(bytes))) return "levels";
     const parts = await partsOf(file.name, bytes);
     parts.forEach(findRows);
-    return !parts.some(({ lines }) => lines.some(({ row }) => row)) && parts.some(({ lines }) => lettersIn(lines).length);
+    return !parts.some(({ lines }) => lines.some(({ row }) => row)) && parts.some(({ lines }) => lettersIn(lines).length) ? "list" : "levels";
 }
 
 const linesIn = bytes => bytes.reduce((count, byte) => count + (byte === 10), 0);
@@ -165,16 +166,16 @@ const tasks = {
         module = await WebAssembly.compile(bytesOf(atob(wasm)));
         return {};
     },
-    // Tells files apart: answers by their first line or else by their names, and lists of letters.
+    // Tells files apart: answers by their first line or else by their names, lists of letters, and what was made from the levels beside it.
     async sort({ files }) {
         const kinds = [];
         for (const file of files) {
             const isAnswers = HEADER.test(readBytes(await bytesIn(file, 256)).text);
-            kinds.push(isAnswers ? "answers" : await isList(file) ? "list" : "levels");
+            kinds.push(isAnswers ? "answers" : await kindOf(file));
         }
         const named = files.findIndex(({ name }) => /answers/i.test(name));
         if (files.length === 2 && !kinds.includes("answers") && named >= 0) kinds[named] = "answers";
-        return { kinds };
+        return { kinds: kinds.includes("levels") ? kinds : kinds.map(it => it === "made" ? "levels" : it) };
     },
     async audit(sources, tell) {
         tell("Reading the levels");
