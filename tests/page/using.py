@@ -108,8 +108,11 @@ def viewing(check: Comparison, tab: Tab) -> None:
 def making(check: Comparison, tab: Tab) -> None:
     """Certificates, and what is saved."""
     tab.paste("levels", f"{LEVEL}{LETTERS}\n\n{CORNER}")
+    tab.opened(2)
     tab.click("#make")
     tab.wait("$('lines').textContent.includes('level 2 unsolvable patterns 4')")
+    check.same("the open level stays open", ["\u2715 level 2 unsolvable patterns 4"],
+               tab.frame("#level:not([hidden]) .verdict"))
     answers = (f"sokoban-answers 1\nlevel 1\nsolution\n{LETTERS}\nend\nlevel 2\nunsolvable\n{MADE}"
                "end\n")
     check.same("made answers", answers, tab.saved("answers").decode())

@@ -247,7 +247,7 @@ async function run(words, task, values) {
     const said = await ask(words, task, values);
     if (!said) return null;
     if (said.trouble) complain(said.trouble);
-    else show(Object.assign(kept, said));
+    else show(Object.assign(kept, said), task === "make");
     tellAll(said.said ?? []);
     return said;
 }

@@ -18,7 +18,8 @@ function tellAll(said) {
     }), ...more ? [`and ${more} more`] : []);
 }
 
-function show({ names, totals, notes, report, status, took, data }) {
+// Shows a result. If its levels are those that are shown, the open one stays open.
+function show({ names, totals, notes, report, status, took, data }, areSame) {
     globalThis.shownData = data;
     $("total").textContent = (pairs.length ? `${names[0]}: ` : "") + totalIn(report);
     $("total").className = status ? "open" : totals.count ? "fine" : "";
@@ -26,7 +27,7 @@ function show({ names, totals, notes, report, status, took, data }) {
     $("lines").textContent = report;
     $("make").disabled = !totals.missing;
     $("result").hidden = false;
-    draw(totals.count === 1);
+    draw(areSame && history.state?.drawnAt === drawnAt ? history.state.to : totals.count === 1 ? "#1" : "");
 }
 
 const START = "<script>start();<\/script>";
@@ -62,8 +63,8 @@ function enter(does, to) {
     history[does]({ to, drawnAt }, "");
 }
 
-// puts the viewer into a new frame, which is as high as its content
-function draw(isSingle) {
+// puts the viewer into a new frame, which is as high as its content, and shows a level there, or all
+function draw(to) {
     const before = document.activeElement, frame = newFrame(), inside = fill(frame.contentWindow);
     const grow = frame.contentWindow.grow = () => {
         frame.style.height = `${Math.ceil(inside.body.getBoundingClientRect().height) + 2}px`;
@@ -73,9 +74,9 @@ function draw(isSingle) {
     new ResizeObserver(grow).observe(inside.body);
     grow();
     drawnAt = Date.now();
-    enter("replaceState", isSingle ? "#1" : "");
+    enter("replaceState", to);
     // A level's page takes the focus, which stays with the user here.
-    if (isSingle) frame.contentWindow.visit("#1");
+    if (to) frame.contentWindow.visit(to);
     before.focus({ preventScroll: true });
 }
 
