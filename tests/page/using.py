@@ -553,6 +553,9 @@ def stale(check: Comparison, tab: Tab) -> None:
     check.same("the name of a page that is saved while another result comes", "levels.html",
                tab.ask("globalThis.saving = savePage(); kept.names = ['next']; "
                        "saving.then(() => to)"))
+    tab.ask("kept.names = ['.hidden']; 0")
+    tab.click("#save-report")
+    check.same("the name of what is saved of a hidden file", ".hidden.report", tab.ask("to"))
 
 
 UNPAINTED = (below, lists)

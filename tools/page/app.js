@@ -70,7 +70,7 @@ function clear(levels = "") {
 }
 
 const hasLevels = () => Boolean(pairs.length || (inputs.levels.file ?? inputs.levels.field.value.trim()));
-const baseOf = ({ name }) => name.replace(/\.[^.]*$/, "");
+const baseOf = ({ name }) => name.replace(/(?!^)\.[^.]*$/, "");
 // Takes files: levels, answers and lists of solutions, which the thread tells apart. Without levels they are for those that are there.
 async function take(files) {
     const copies = copiesIn([...files].map(({ name }) => name));

@@ -104,7 +104,7 @@ async function deadSquares(number, levels = kept.levels) {
 function save(what, blob, name = kept.names[0]) {
     const link = document.createElement("a");
     link.href = URL.createObjectURL(blob);
-    link.download = `${name.replace(/\.[^.]*$/, "")}.${what}`;
+    link.download = `${baseOf({ name })}.${what}`;
     link.click();
     setTimeout(() => URL.revokeObjectURL(link.href), 60000);
 }
