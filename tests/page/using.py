@@ -242,7 +242,11 @@ def stopping(check: Comparison, tab: Tab) -> None:
     check.same("the page answers while the program runs", [False, True], tab.ask(
         "[$('busy').hidden, $('busy').textContent.includes('Looking for certificates')]"))
     tab.click("#cancel")
-    check.same("cancelled", True, tab.ask("$('busy').hidden"))
+    check.same("cancelled", [True, "Cancelled.", False], tab.ask(
+        "[$('busy').hidden, $('why').textContent, $('notes').textContent.includes('ertificate')]"))
+    tab.ask("audit(), document.querySelector('#levels-file button').click(), 0")
+    check.same("the file that is audited is removed", [True, "Cancelled."], tab.ask(
+        "[$('busy').hidden, $('why').textContent]"))
     tab.ask("clear(); 0")
     tab.paste("levels", LEVEL + LETTERS)
     check.same("the next run after that", LINE, tab.text("lines")[:len(LINE)])

@@ -217,6 +217,13 @@ async function inSlices(work) {
     return step.value;
 }
 
+// ends what runs, and says so
+function cancel() {
+    const isRunning = !$("busy").hidden;
+    begin("");
+    if (isRunning) $("why").textContent = "Cancelled.";
+}
+
 function complain(words) {
     hide();
     $("message").textContent = words;
@@ -306,7 +313,7 @@ function listen() {
         });
         field.addEventListener("input", () => $("result").classList.add("stale"));
         box.querySelector("button").addEventListener("click", () => {
-            begin("");
+            cancel();
             if (pairs.length) remove();
             else put(kind, null);
             $("result").classList.add("stale");
@@ -324,8 +331,7 @@ function listen() {
         if ($("make").disabled && !document.activeElement.matches("textarea")) $("total").focus();
     });
     on("cancel", () => {
-        begin("");
-        $("why").textContent = "Cancelled.";
+        cancel();
         $("audit").focus();
     });
     on("save-report", () => save("report", new Blob([kept.report])));
