@@ -401,6 +401,11 @@ def files(check: Comparison, tab: Tab) -> None:
         write(name, ANSWERS)
     tab.give("one.xsb", "one.answers")
     check.same("levels and answers", LINE, tab.text("lines")[:len(LINE)])
+    write("one.xsb", f"{LEVEL}Title: mended\n")
+    for names in ("one.xsb",), ("one.xsb", "one.answers"), ("one.xsb",):
+        tab.give(*names)
+        check.same(f"levels with answers are dropped again, {len(names)}", [LINE, "mended"], [
+            tab.text("lines")[:len(LINE)], tab.ask("shownData.levels[0].title")])
     check.same("what each button removes", ["Remove levels", "Remove answers"], [
         name for role, name in tab.spoken() if role == "button" and name.startswith("Remove")])
     check.same("all is answered", "fine", tab.ask("$('total').className"))
@@ -452,6 +457,8 @@ def lists(check: Comparison, tab: Tab) -> None:
     check.same("a list alone", "No level is found.", tab.give("list.txt"))
     tab.give("one.xsb")
     check.same("a list before its levels", LINE, tab.text("lines")[:len(LINE)])
+    tab.give("one.xsb")
+    check.same("it stays if they are dropped again", LINE, tab.text("lines")[:len(LINE)])
     tab.give("two.xsb")
     check.same("it goes with these levels", [], tab.told())
     for names in (*permutations(("one.xsb", "one.answers", "list.txt")),

@@ -85,8 +85,8 @@ async function take(files) {
     if (said.kinds[again] === "list") said.kinds[again] = "levels";
     let [levels, answers, lists] = ["levels", "answers", "list"].map(kind => files.filter((_, i) => said.kinds[i] === kind));
     copies.push(...files.filter((_, i) => said.kinds[i] === "made").map(({ name }) => name));
-    // lists may come before their levels, but don't go with others
-    if (!levels.length || !hasLevels()) lists = [...lists, ...others(inputs.levels.lists)];
+    // lists may come before their levels, or stay with mended ones, but don't go with others
+    if (!levels.length || !hasLevels() || levels.length === 1 && said.kinds[again] === "levels") lists = [...lists, ...others(inputs.levels.lists)];
     if (!levels.length && pairs.length) {
         levels = pairs.map(it => it.levels);
         answers = [...answers, ...others(pairs.flatMap(it => it.answers ?? [])).filter(former => !answers.some(it => baseOf(it) === baseOf(former)))];
@@ -98,9 +98,9 @@ async function take(files) {
     if (copies.length) $("notes").append(` Left out, since they were made from the levels: ${few(copies)}.`);
 }
 
-// Takes one file of levels and one of answers, or either. New levels drop the answers of others.
+// Takes one file of levels and one of answers, or either. New levels drop the answers of others, but not those of the same file.
 function takePair(levels, answers, lists) {
-    if (pairs.length || levels && hasLevels()) remove();
+    if (pairs.length || levels && hasLevels() && levels.name !== inputs.levels.file?.name) remove();
     if (levels || lists.length) {
         const typed = hasLevels() ? new File([inputs.levels.field.value], "levels") : null, file = levels ?? inputs.levels.file ?? typed;
         put("levels", file, lists.length ? [file, ...lists].filter(it => it).map(({ name }) => name).join(", ") : undefined);
