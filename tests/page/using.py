@@ -202,6 +202,15 @@ def several(check: Comparison, tab: Tab) -> None:
     tab.wait(f"{IDLE} && $('each').children.length === 2")
     check.same("a file before others that wasn't read whole", [", 2 remarks", "missing 1"], tab.ask(
         "[...$('each').children].map(it => it.textContent.slice(-11).replace(/^.* m/, 'm'))"))
+    tab.click("#make")
+    tab.wait(f"{IDLE} && $('total').textContent.includes('unsolvable 1')")
+    total = "$('each').textContent.split(' unsolvable ')[2]"
+    check.same("a file's total after certificates", "1 refused 0 missing 0", tab.ask(total))
+    tab.ask("$('each').querySelector('button').click()")
+    tab.wait(f"{IDLE} && kept.names[0] === 'part.xsb'")
+    tab.ask("$('each').querySelector('li + li button').click()")
+    tab.wait(f"{IDLE} && kept.names[0] === 'bad.xsb'")
+    check.same("and once it is audited anew", "0 refused 0 missing 1", tab.ask(total))
     tab.click("#levels-file button")
     check.same("files that are removed can't be clicked", True, tab.ask("$('each').hidden"))
 

@@ -261,11 +261,20 @@ async function run(words, task, values) {
 
 async function auditPair(pair, words) {
     const sources = sourcesOf(pair);
+    kept.pair = pair;
     hide();
     if (sources.levels) return run(words, "audit", sources);
     begin("");
     complain("There is nothing to audit yet: paste or drop levels.");
     return null;
+}
+
+// says in the list of files what became of one, if there is a list and a result
+function tellTotal(pair, result) {
+    if (!pair || !result) return;
+    // what is said of a file is shown only until the next one
+    const unread = (result.said ?? []).filter(({ isNote }) => !isNote).length;
+    pair.total.textContent = `${result.trouble || totalIn(result.report)}${unread ? `, ${many(unread, "remark")}` : ""}`;
 }
 
 async function audit() {
@@ -278,14 +287,14 @@ async function audit() {
         const said = await auditPair(pair, `File ${i + 1} of ${pairs.length}`);
         if (!said) break;
         const button = document.createElement("button"), item = document.createElement("li");
+        pair.total = document.createElement("span");
         button.textContent = pair.levels.name;
         // a click would end what runs
         button.disabled = true;
-        button.addEventListener("click", () => auditPair(pair, "Auditing"));
+        button.addEventListener("click", async () => tellTotal(pair, await auditPair(pair, "Auditing")));
         buttons.push(button);
-        // what is said of a file is shown only until the next one
-        const unread = (said.said ?? []).filter(({ isNote }) => !isNote).length;
-        item.append(button, ` ${said.trouble || totalIn(said.report)}${unread ? `, ${many(unread, "remark")}` : ""}`);
+        item.append(button, " ", pair.total);
+        tellTotal(pair, said);
         $("each").append(item);
     }
     for (const button of buttons) button.disabled = false;
@@ -293,7 +302,7 @@ async function audit() {
 }
 
 const textsOf = ({ levels, answers, names, slices, said }) => ({ levels, answers, names, slices, said });
-const make = () => run("Looking for certificates", "make", textsOf(kept));
+const make = async () => tellTotal(kept.pair, await run("Looking for certificates", "make", textsOf(kept)));
 
 // ---- what the user does
 
