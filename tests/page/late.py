@@ -3,8 +3,8 @@ from itertools import product
 from typing import Callable, Dict, List, Tuple
 
 from tests.page.comparing import Comparison
-from tests.page.driving import Tab
-from tests.page.using import CORNER, CORRIDOR, LETTERS, LEVEL
+from tests.page.driving import IDLE, Tab
+from tests.page.using import ANSWERS, CORNER, CORRIDOR, LETTERS, LEVEL
 from tests.runner import TOP, write
 
 
@@ -89,6 +89,23 @@ def late(check: Comparison, tab: Tab) -> None:
         tab.wait("$('busy').hidden")
         tab.ask("new Promise(done => setTimeout(done, 400))")
         check.same(f"late: {first}, then {then} after {pause} ms", wanted, tab.ask(SHOWN))
+
+
+def dropping(check: Comparison, tab: Tab) -> None:
+    """Files that are dropped before the page has read those of the drop before."""
+    write("one.xsb", LEVEL)
+    write("slow.txt", LETTERS + "\n" * 600)
+    write("slow.answers", f"{ANSWERS}{'; ' * 300}\n")
+    for first, follow, line in (("slow.txt", "", "solved"), ("slow.answers", "", "solved"),
+                                ("slow.txt", "$('cancel').click(); ", "missing")):
+        tab.fresh()
+        tab.ask(f"{SLOW}; 0")
+        tab.choose(first)
+        tab.ask(f"{follow}0")
+        tab.choose("one.xsb")
+        tab.wait(IDLE)
+        check.same(f"{first}, {follow}and at once its levels", [f"level 1 {line}", "one.xsb", ""],
+                   tab.ask(SHOWN))
 
 
 def stopped(check: Comparison, tab: Tab) -> None:
@@ -234,5 +251,5 @@ def returning(check: Comparison, tab: Tab) -> None:
         ".contentDocument.querySelector('[data-level=\"200\"]').getBoundingClientRect().top)"))
 
 
-UNPAINTED = (late,)
+UNPAINTED = (late, dropping)
 PARTS = (judging, stopped, around, returning)

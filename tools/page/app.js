@@ -71,31 +71,43 @@ function clear(levels = "") {
 
 const hasLevels = () => Boolean(pairs.length || (inputs.levels.file ?? inputs.levels.field.value.trim()));
 const baseOf = ({ name }) => name.replace(/(?!^)\.[^.]*$/, "");
-// Takes files: levels, answers and lists of solutions, which the thread tells apart. Without levels they are for those that are there.
+// the files of each drop that the thread hasn't told apart yet
+let untold = [];
+
+// Takes files: levels, answers and lists of solutions, which the thread tells apart, after those of drops before that it hasn't told apart yet.
 async function take(files) {
-    const copies = copiesIn([...files].map(({ name }) => name));
-    files = [...files].filter(({ name }) => !copies.includes(name));
     if (!files.length) return;
-    const said = await ask("Reading the files", "sort", { files });
+    const drops = [...untold, [...files]], asked = ask("Reading the files", "sort", { drops }), made = [];
+    untold = drops;
+    const said = await asked;
     if (!said) return;
+    untold = [];
     if (said.trouble) return complain(said.trouble);
+    const taken = drops.map((some, i) => place(some, said.kinds[i], made));
+    if (!taken.at(-1)) return;
+    await audit();
+    if (made.length) $("notes").append(` Left out, since they were made from the levels: ${few(made)}.`);
+}
+
+// Takes the files of a drop by their kinds. Without levels they are for those that are there. Notes what was made from levels, and returns
+// whether the files go together.
+function place(files, kinds, made) {
     // a file replaces the one of its name
     const others = former => former.filter(({ name }) => !files.some(it => it.name === name));
     const again = files.findIndex(it => it.name === inputs.levels.file?.name);
-    if (said.kinds[again] === "list") said.kinds[again] = "levels";
-    let [levels, answers, lists] = ["levels", "answers", "list"].map(kind => files.filter((_, i) => said.kinds[i] === kind));
-    copies.push(...files.filter((_, i) => said.kinds[i] === "made").map(({ name }) => name));
+    if (kinds[again] === "list") kinds[again] = "levels";
+    let [levels, answers, lists] = ["levels", "answers", "list"].map(kind => files.filter((_, i) => kinds[i] === kind));
+    made.push(...files.filter((_, i) => kinds[i] === "made").map(({ name }) => name));
     // lists may come before their levels, or stay with mended ones, but don't go with others
-    if (!levels.length || !hasLevels() || levels.length === 1 && said.kinds[again] === "levels") lists = [...lists, ...others(inputs.levels.lists)];
+    if (!levels.length || !hasLevels() || levels.length === 1 && kinds[again] === "levels") lists = [...lists, ...others(inputs.levels.lists)];
     if (!levels.length && pairs.length) {
         levels = pairs.map(it => it.levels);
         answers = [...answers, ...others(pairs.flatMap(it => it.answers ?? [])).filter(former => !answers.some(it => baseOf(it) === baseOf(former)))];
         lists = [...lists, ...others(pairs[0].lists)];
     }
-    if (levels.length < 2 && answers.length < 2) takePair(levels[0], answers[0], lists);
-    else if (!takePairs(levels, answers, lists)) return;
-    await audit();
-    if (copies.length) $("notes").append(` Left out, since they were made from the levels: ${few(copies)}.`);
+    if (levels.length > 1 || answers.length > 1) return takePairs(levels, answers, lists);
+    takePair(levels[0], answers[0], lists);
+    return true;
 }
 
 // Takes one file of levels and one of answers, or either. New levels drop the answers of others, but not those of the same file.
@@ -195,6 +207,7 @@ function busy(words) {
 function begin(words) {
     if (runner.isBusy) runner.stop();
     busy(words);
+    untold = [];
     return ++runs;
 }
 

@@ -105,8 +105,9 @@ function unmarked(bytes) {
     return encoding ? bytesOf(utf8(readBytes(bytes).text)) : bytes.subarray(bytes[0] === 0xef ? 3 : 0);
 }
 
-// The kind of a file that isn't answers: made from levels, a list of letters without a level, or levels.
+// The kind of a file: answers by their first line, what was made from levels, a list of letters without a level, or levels.
 async function kindOf(file) {
+    if (HEADER.test(readBytes(await bytesIn(file, 256)).text)) return "answers";
     const bytes = await bytesIn(file);
     if (isMade(bytes)) return "made";
     // a row that isn't a line of walls, which would part solutions
@@ -114,6 +115,15 @@ async function kindOf(file) {
     const parts = await partsOf(file.name, bytes);
     parts.forEach(findRows);
     return !parts.some(({ lines }) => lines.some(({ row }) => row)) && parts.some(({ lines }) => lettersIn(lines).length) ? "list" : "levels";
+}
+
+// The kinds of files that came together: answers also by their names, and what was made from levels only beside levels.
+async function kindsOf(files) {
+    const copies = copiesIn(files.map(({ name }) => name)), kinds = [];
+    for (const file of files) kinds.push(copies.includes(file.name) ? "made" : await kindOf(file));
+    const named = files.findIndex(({ name }) => /answers/i.test(name));
+    if (files.length === 2 && !kinds.includes("answers") && named >= 0) kinds[named] = "answers";
+    return kinds.includes("levels") ? kinds : kinds.map(it => it === "made" ? "levels" : it);
 }
 
 const linesIn = bytes => bytes.reduce((count, byte) => count + (byte === 10), 0);
@@ -166,16 +176,11 @@ const tasks = {
         module = await WebAssembly.compile(bytesOf(atob(wasm)));
         return {};
     },
-    // Tells files apart: answers by their first line or else by their names, lists of letters, and what was made from the levels beside it.
-    async sort({ files }) {
+    // tells the files of each drop apart
+    async sort({ drops }) {
         const kinds = [];
-        for (const file of files) {
-            const isAnswers = HEADER.test(readBytes(await bytesIn(file, 256)).text);
-            kinds.push(isAnswers ? "answers" : await kindOf(file));
-        }
-        const named = files.findIndex(({ name }) => /answers/i.test(name));
-        if (files.length === 2 && !kinds.includes("answers") && named >= 0) kinds[named] = "answers";
-        return { kinds: kinds.includes("levels") ? kinds : kinds.map(it => it === "made" ? "levels" : it) };
+        for (const files of drops) kinds.push(await kindsOf(files));
+        return { kinds };
     },
     async audit(sources, tell) {
         tell("Reading the levels");
