@@ -155,10 +155,12 @@ class Placed(Case):
 
     def test_kept_files_are_read_as_they_were_written(self) -> None:
         own = answers.read(b"sokoban-answers 1\n; a\n\n; b\n" + record(SHORT) + b"; rest\n")
-        first = Block((b"; above", b"; kept for later"), tuple(ROWS), (b"Title: t",))
+        first = Block((b"; above", b"", b"; kept for later"), tuple(ROWS), (b"Title: t",))
         entries = [kept.Entry(b"; kept from level 3", first, own.records[0]),
                    kept.Entry(b"; kept from level 4", first._replace(above=())),
-                   kept.Entry(b"; kept from level 5, Five", first)]
+                   kept.Entry(b"; kept from level 5, Five", first),
+                   kept.Entry(b"; kept from level 6", first._replace(
+                       above=(b"; kept from level 7", b"; above")))]
         text, records = kept.Kept(entries, own.rest).files()
         assert text is not None and records is not None
         again = kept.read(text, answers.read(records))

@@ -107,7 +107,9 @@ def _trimmed(lines: level_texts.Lines) -> level_texts.Lines:
 
 def _cut(gap: Sequence[bytes]) -> int:
     """Returns how many lines between two levels belong to the upper one: those before the comment
-    of the lower one. What was typed for that one may begin in the same way."""
+    of the lower one, which is written after an empty line. What was typed for either may begin in
+    the same way."""
     heads = ([at for at, line in enumerate(gap) if _WRITTEN.fullmatch(line)]
              or [at for at, line in enumerate(gap) if line.startswith(_HEAD)])
-    return heads[-1] if heads else level_texts.cut(gap)
+    apart = [at for at in heads if at and not gap[at - 1]]
+    return (apart or heads)[-1] if heads else level_texts.cut(gap)
