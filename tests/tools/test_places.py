@@ -149,11 +149,24 @@ class Table(test_check.Check):
         self.assertEqual(self.read("mine.csv"), b"mine,own\n")
         self.assertFalse(os.path.exists("mine.csv~"))
         said = self.check("mine", "a.txt", "--csv").out.decode()
-        self.assertEqual(said.splitlines()[-1], "wrote: mine.csv")
+        self.assertEqual(said.splitlines()[-1], "wrote: mine.csv, mine.memory")
         self.assertEqual(self.read("mine.csv~"), b"mine,own\n")
         self.write("mine.csv", "mine,own\n")
         self.assertEqual(self.check("mine", "a.txt", "--csv", "--compare").out.decode(),
                          "mine.csv line 1 would change\n")
+
+    def test_it_stays_up_to_date(self) -> None:
+        """Later checks write it too, unless the keeper has changed it."""
+        self.write("a.txt", ONE)
+        self.check("mine", "a.txt", "--csv")
+        for title in ("Open", "Shut"):
+            self.write("a.txt", f"{ONE}Title: {title}\n")
+            self.assertIn(", mine.csv, ", self.check("mine", "a.txt").out.decode())
+            self.assertIn(f"\n1,{title},", self.read("mine.csv").decode())
+        self.write("mine.csv", self.read("mine.csv") + b"mine,own\n")
+        self.write("a.txt", ONE)
+        self.assertIn("wrote: mine.html, mine.xsb, ", self.check("mine", "a.txt").out.decode())
+        self.assertTrue(self.read("mine.csv").endswith(b"mine,own\n"))
 
     def test_it_is_no_export(self) -> None:
         self.write("a.txt", ONE)

@@ -19,8 +19,8 @@ Find = Tuple[Form, answers.Answer]
 class Memory(NamedTuple):
     """What the last check wrote, the outcomes of searches, digests of the answers that were
     computed, and what was found and isn't in NAME.answers. `exports` has the conversion of the
-    exports, and `made` digests: of the page and what it is made of, and of answers that were all
-    accepted.
+    exports, and `made` digests: of the page and what it is made of, of the table, and of answers
+    that were all accepted.
     """
 
     written: Written

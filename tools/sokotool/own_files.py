@@ -17,7 +17,7 @@ OTHER, KEPT_XSB, KEPT_ANSWERS, MEMORY = ".other.answers", ".kept.xsb", ".kept.an
 # the files that are kept as NAME.xsb~ and so on when one of them changes
 ENDS = (XSB, ANSWERS, OTHER, REPORT, PAGE, KEPT_XSB, KEPT_ANSWERS)
 JOURNAL = ".unfinished"
-# the table, which is written if it is asked for
+# the table, which is written if it is asked for, or if it is as the last check wrote it
 SHEET = ".csv"
 EVERY = (*ENDS, SHEET, MEMORY, JOURNAL)
 # the files in the order in which a keeper wants to open them

@@ -10,7 +10,7 @@ from .auditor import Audits
 from .changes import Snapshot
 from .conversion import Conversion
 from .outcomes import Outcomes
-from .own_files import ANSWERS, KEPT_ANSWERS, KEPT_XSB, OTHER, REPORT, XSB, noted
+from .own_files import ANSWERS, KEPT_ANSWERS, KEPT_XSB, OTHER, REPORT, SHEET, XSB, noted
 from .pool import Pool, in_case
 from .progress import Progress
 
@@ -70,13 +70,16 @@ class Run:
 
 class State:
     """What is made of the files of NAME as they are: what the last check remembers, what former
-    checks kept, the levels as they are now, and what the collection becomes: its levels with what
-    was typed, their text, the candidates for their answers; and once these are audited, the texts
-    of the answers and of the report, and what has no place in the collection."""
+    checks kept, whether the table is asked for or as it was written, the levels as they are now,
+    and what the collection becomes: its levels with what was typed, their text, the candidates for
+    their answers; and once these are audited, the texts of the answers and of the report, and what
+    has no place in the collection."""
 
     def __init__(self, run: Run) -> None:
         self.files = own_files.Files(run.name, run.has_backups)
         self.memory = self.files.memory()
+        self.has_table = run.options.csv or (
+            texts.digest(self.files.before.get(SHEET, b"")) == self.memory.made.get(SHEET))
         kept_text = self.files.before.get(KEPT_XSB, b"")
         self.stored = self.left = kept.read(
             kept_text, self.files.answers(KEPT_ANSWERS, len(levels.read(kept_text))))

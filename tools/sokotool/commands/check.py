@@ -63,7 +63,8 @@ def arguments(parser: argparse.ArgumentParser) -> None:
                         help="begin no run of the solver after S seconds (no limit by default)")
     parser.add_argument("--verbose", action="store_true", help="print what the solver prints")
     parser.add_argument("--csv", action="store_true",
-                        help="also write NAME.csv, a table with a row for each level")
+                        help="also write NAME.csv, a table with a row for each level; later checks "
+                        "keep it up to date, unless you change it")
     parser.add_argument("--compare", action="store_true",
                         help="search and write nothing, and print which files would change, but "
                         "for the note of the reference; the status is 1 if one would")
@@ -192,7 +193,7 @@ def contents(given: Run, state: State) -> Dict[str, Optional[bytes]]:
         number: {"file": texts.shown(place.published), "line": place.line, "left": left}
         for number, (place, left) in origins.items()}
     table = {SHEET: sheet.text(state.now.levels, state.now.lines, names[0], sources)
-             } if given.options.csv else {}
+             } if state.has_table else {}
     files = [state.text, state.answers, state.report]
     made_of = texts.digest(b"\n".join([ascii([
         code(), page.skeleton(), names, sources]).encode(), *files]))
@@ -202,7 +203,8 @@ def contents(given: Run, state: State) -> Dict[str, Optional[bytes]]:
         if fault:
             raise texts.Stop(f"the report isn't of these levels and answers: {fault}")
     if not given.options.compare:
-        digests = {PAGE: f"{made_of} {texts.digest(made)}", OTHER: texts.digest(other)}
+        digests = {PAGE: f"{made_of} {texts.digest(made)}", **{
+            end: texts.digest(data) for end, data in {OTHER: other, **table}.items()}}
         if all(state.now.lines[number - 1].is_answered for number in state.pool.chosen):
             digests[ANSWERS] = texts.digest(state.answers)
         remembered = remembered._replace(exports=given.conversion.data(), made=digests)
