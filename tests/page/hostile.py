@@ -23,7 +23,7 @@ LINES = (
     b"<b>bold</b>", b"<b>", b"[code]", b"```xsb", b"~~~", b"----", b"=====", b"12", b"###", b"#-_#",
     b"a" * 999, b"b" * 1000, b"Title: " + b"c" * 2000, b"-" * 3000, b"\x00\x01", b"\t", b"  ",
     b"\xc2\xa0", "\ufeffmark".encode(), "\u2028line".encode(), "\u202edrawkcab".encode(),
-    b"\x1b[31mred", b"\x85next",
+    b"\x1b[31mred", b"\x85next", b"; File: other.xsb",
 )
 WIDE = b"#" * 300 + b"\n#@$." + b" " * 295 + b"#\n" + b"#" * 300 + b"\n"
 TALL = b"###\n" + b"# #\n" * 300 + b"###\n"

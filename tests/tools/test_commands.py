@@ -4,6 +4,7 @@ import json
 import os
 import re
 import subprocess
+from itertools import permutations
 from typing import List, Tuple, Union
 
 from tests.runner import call
@@ -132,6 +133,19 @@ class Named(Case):
                           "level 2 missing\ta.xsb:7\tThird"])
         for lines in ("; by Ben\n; Real\n", "; Real\n; by Ben\n"):
             self.assertEqual(levels.read((lines + ONE).encode())[0].title, "Real")
+
+    def test_text_of_one_export_is_about_no_level_of_another(self) -> None:
+        """Neither titles nor authors, above the levels or below them."""
+        exports = (("; File: none\nAuthor: Dan\nRead me\n", ()),
+                   (f"; File: a\n{ONE}Title: One\n\n{ONE}\nBye\n", (("One", ""), ("", ""))),
+                   (f"; File: b\nName: Set\nAuthor: Ben\n\n{ONE}Title: Two\n\n{ONE}"
+                    "Title: Three\nAuthor: Ann\n", (("Two", "Ben"), ("Three", "Ann"))),
+                   (f"; File: c\n{ONE}", (("", ""),)),
+                   (f"; File: d\nTitle: Four\n{ONE}", (("Four", ""),)))
+        for some in permutations(exports):
+            read = levels.read("".join(text for text, _ in some).encode())
+            self.assertEqual([(level.title, level.author) for level in read],
+                             [it for _, wanted in some for it in wanted])
 
     def test_report_of_another_collection(self) -> None:
         self.write("a.xsb", ONE)

@@ -189,6 +189,8 @@ class Export(Case):
                          {"Id": "A & B", "Width": "5", "Height": "3", "Copyright": "C"})
         self.assertEqual([it.firstChild.data for it in level.getElementsByTagName("L")],
                          ONE.split())
+        self.write("mine.xsb", f"{ONE}; File: b\nAuthor: D\n\n{ONE}")
+        self.assertNotIn(b"Copyright", self.tool("export", "mine", "--to", "slc").out)
         self.write("mine.xsb", ONE + "; so ---- it is --\n")  # what XML has in no comment
         self.assertIn(b"<!-- so - - - - it is  -->",
                       self.tool("export", "mine", "--to", "slc").out)

@@ -153,6 +153,9 @@ class Gap {
 
 // ---- levels
 
+// begins a line that names the file whose text follows, as sokotool writes it
+const FILE = "; File: ";
+
 // what a line between levels says: with the key Title, with another key, or as plain text
 function sayingOf(line) {
     const isShort = line.length < MOST_TITLE, low = lowered(isShort ? line : "");
@@ -162,14 +165,17 @@ function sayingOf(line) {
 }
 
 // The levels at these spans of a text: number, first line, title and span. Some lines, given by their numbers, are no titles without a key.
+// The text of each file that was read into this one counts by itself.
 function levelsIn(text, spans, isNoTitle = () => false) {
-    const levels = [], gaps = [new Gap(true)], sayings = new Map();
+    const levels = [], sayings = new Map();
+    let file = { levels: [], gaps: [new Gap(true)] };
     const start = text.startsWith("\xef\xbb\xbf") ? 3 : 0;
     eachLine(text, (line, number, at, _, count) => {
         const next = spans[levels.length];
         if (at === next?.at) {
             levels.push({ number: levels.length + 1, line: number, title: "", ...next });
-            gaps.push(new Gap(false));
+            file.levels.push(levels.at(-1));
+            file.gaps.push(new Gap(false));
         } else if (!(at < levels.at(-1)?.end)) {
             let saying = sayings.get(line);
             if (!saying) {
@@ -177,13 +183,22 @@ function levelsIn(text, spans, isNoTitle = () => false) {
                 if (sayings.size < MOST_CACHED) sayings.set(line, saying);
             }
             const { title, name } = saying;
-            if (title !== null || name !== null || !isNoTitle(number)) gaps.at(-1).add(line, count, saying);
+            if (line.startsWith(FILE)) {
+                nameLevels(file);
+                file = { levels: [], gaps: [new Gap(false)] };
+            }
+            if (title !== null || name !== null || !isNoTitle(number)) file.gaps.at(-1).add(line, count, saying);
         }
     }, start, true);
+    nameLevels(file);
+    return levels;
+}
+
+// Gives the levels of a file their titles, of the gaps above, between and below them.
+function nameLevels({ levels, gaps }) {
     const titles = gaps.map(gap => gap.keyed), last = titles.at(-1);
     const areAbove = titles[0] && !last && (levels.length === 1 || titles.slice(1, -1).some(it => it));
     levels.forEach((level, i) => level.title = titles[areAbove ? i : i + 1] || gaps[i].plain);
-    return levels;
 }
 
 // The rows in a span of bytes, for a drawing: those of a level that is too large are cut.

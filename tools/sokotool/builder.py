@@ -88,7 +88,7 @@ class Collection:
 
     def source(self) -> str:
         """Returns the comment that names the file. With its key it is no title."""
-        return "; File: " + texts.shown(self._place(0).published)
+        return levels.FILE + texts.shown(self._place(0).published)
 
     def report_idle(self) -> None:
         """Reports the files without a level, and those of each other game."""

@@ -4,7 +4,7 @@ import re
 import sys
 from functools import lru_cache
 from itertools import islice
-from typing import Callable, Dict, List, NamedTuple, Pattern, Sequence, Tuple, TypeVar
+from typing import Callable, Dict, Iterator, List, NamedTuple, Pattern, Sequence, Tuple, TypeVar
 
 from . import texts
 
@@ -13,6 +13,8 @@ MOST_LEVELS = 10_000
 LARGEST_SIDE = 255
 # the cells of the levels for which something is kept
 MOST_CELLS = 1 << 22
+# begins a line that names the file whose text follows, as sokotool writes it
+FILE = "; File: "
 # how many bytes a line with a title may have, so that no search in a long line takes long
 MOST_TITLE = 999
 WALL = "#"
@@ -48,10 +50,11 @@ _LETTERS = re.compile(rb"[lurdLURD0-9() \t]*")
 _DIGITS = re.compile(rb"[0-9 \t]*")
 _SOLUTION = re.compile(rb"\W*(?:[A-Za-z'\x80-\xff]+\s+){0,2}solution\b(?:[^:=]*[:=]|\W*[0-9(])",
                        re.I)
-_OTHER, _ROW, _BELOW, _ABOVE, _NAMED, _SHORT, _BY_LINE = range(7)
+_OTHER, _ROW, _BELOW, _ABOVE, _NAMED, _SHORT, _BY_LINE, _FILE = range(8)
 _ROWS = re.compile(b"%b+" % bytes([_ROW]))
 
 Made = TypeVar("Made")
+Span = Tuple[int, int]
 
 
 class Level(NamedTuple):
@@ -90,9 +93,10 @@ def is_row(line: bytes) -> bool:
 
 
 def _kind_of(line: bytes) -> int:
-    """Returns the kind of a line: a row, a title with its key, a title above a level, letters of
-    solutions or digits alone, an author, or neither."""
-    return (_ROW if is_row(line) else _OTHER if len(line) > MOST_TITLE
+    """Returns the kind of a line: a row, the name of a file, a title with its key, a title above a
+    level, letters of solutions or digits alone, an author, or neither."""
+    return (_ROW if is_row(line) else _FILE if line.startswith(FILE.encode())
+            else _OTHER if len(line) > MOST_TITLE
             else _BELOW if _TITLE.match(line) else _NAMED if _NAME.match(line)
             else _ABOVE if title_in(line)
             else _SHORT if line.strip() and _LETTERS.fullmatch(line)
@@ -105,25 +109,39 @@ def read(data: bytes, most: int = sys.maxsize) -> Sequence[Level]:
 
     A byte order mark at the start is skipped. A level's title is what a line 'Title: ..' says, or
     otherwise the last line of text above the level. Its author is what a line 'Author: ..' says
-    where its title has its place, or otherwise the first such line above all levels.
+    where its title has its place, or otherwise the last such line above all levels. The text of
+    each file that was read into this one counts by itself.
     """
     lines = texts.lines(texts.unmarked(data))
     kinds = bytes(map(texts.cached(_kind_of), lines))
-    spans = [match.span() for match in islice(_ROWS.finditer(kinds), most)]
-    firsts = [first for first, _ in spans] + [len(lines)]
-    ends = [0] + [end for _, end in spans]
-    # the last title with its key between two levels; of the keys `Title` comes first
-    titles = [_keyed(lines, kinds, gap, (_BELOW, _TITLE))
-              or _keyed(lines, kinds, gap, (_NAMED, _NAME)) for gap in zip(ends, firsts)]
-    are_above = bool(titles[0]) and not titles[-1] and (len(spans) == 1 or any(titles[1:-1]))
-    keyed = titles[:-1] if are_above else titles[1:]
-    authors = [_keyed(lines, kinds, gap, (_BY_LINE, _BY)) for gap in zip(ends, firsts)]
-    of_all, named = authors[0], authors[:-1] if are_above else authors[1:]
-    return tuple(
-        Level(number, lines[first:end], first + 1,
-              title or texts.shown(_title_above(lines, kinds, above, first)), author or of_all)
-        for number, ((first, end), title, above, author)
-        in enumerate(zip(spans, keyed, ends, named), 1))
+    found: List[Level] = []
+    for spans, gaps in _files(kinds, [it.span() for it in islice(_ROWS.finditer(kinds), most)]):
+        # the last title with its key between two levels; of the keys `Title` comes first
+        titles = [_keyed(lines, kinds, gap, (_BELOW, _TITLE))
+                  or _keyed(lines, kinds, gap, (_NAMED, _NAME)) for gap in gaps]
+        are_above = bool(titles[0]) and not titles[-1] and (len(spans) == 1 or any(titles[1:-1]))
+        keyed = titles[:-1] if are_above else titles[1:]
+        authors = [_keyed(lines, kinds, gap, (_BY_LINE, _BY)) for gap in gaps]
+        of_all, named = authors[0], authors[:-1] if are_above else authors[1:]
+        found += [
+            Level(number, lines[first:end], first + 1,
+                  title or texts.shown(_title_above(lines, kinds, above, first)), author or of_all)
+            for number, ((first, end), title, (above, _), author)
+            in enumerate(zip(spans, keyed, gaps, named), len(found) + 1)]
+    return tuple(found)
+
+
+def _files(kinds: bytes, spans: Sequence[Span]) -> Iterator[Tuple[Sequence[Span], List[Span]]]:
+    """Yields the spans of the levels of each file, and of the text between them."""
+    gaps = list(zip([0, *(end for _, end in spans)], [*(first for first, _ in spans), len(kinds)]))
+    first = 0
+    for last, (top, end) in list(enumerate(gaps))[1:]:
+        at = kinds.find(_FILE, top, end)
+        if at >= 0 or last == len(spans):
+            begin = max(gaps[first][0], kinds.rfind(_FILE, *gaps[first]))
+            yield spans[first:last], [(begin, gaps[first][1]), *gaps[first + 1:last],
+                                      (top, end if at < 0 else at)]
+            first = last
 
 
 def _title_above(lines: List[bytes], kinds: bytes, end: int, first: int) -> bytes:

@@ -1,6 +1,6 @@
 """Prints a report. After each level line it adds, tab-separated, where the level begins, as
 'LEVELS:LINE', and the level's title. The title is what a line 'Title: ..' below the level says, or
-otherwise the last line of text above it that has no key such as 'Author: ..'.
+otherwise the last line of text above it, in the same export, that has no key such as 'Author: ..'.
 
 With --json each level is an object on a line of its own, with the digest of its board, in a form
 that docs/formats.md describes. With --csv each level is a row of a table for spreadsheets. The

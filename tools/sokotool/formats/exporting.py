@@ -7,7 +7,7 @@
 """
 import re
 from functools import partial
-from itertools import groupby
+from itertools import groupby, takewhile
 from typing import (Callable, Container, Dict, Iterator, List, Mapping, NamedTuple, Sequence,
                     Tuple)
 
@@ -177,8 +177,9 @@ def slc(head: Sequence[str], entries: Sequence[Entry]) -> Iterator[str]:
 
 
 def _author(text: Sequence[str]) -> Tuple[str, List[str]]:
-    """Returns the author that a text names, and its other lines."""
-    for at, match in enumerate(map(_AUTHOR.fullmatch, text)):
+    """Returns the author that a text names before that of another file, and its other lines."""
+    own = takewhile(lambda line: not line.startswith(levels.FILE), text)
+    for at, match in enumerate(map(_AUTHOR.fullmatch, own)):
         if match:
             return match.group(2), [*text[:at], *text[at + 1:]]
     return "", list(text)
