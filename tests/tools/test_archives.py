@@ -66,6 +66,20 @@ class Archives(Case):
         self.assertEqual([it.name for it in sources.listed(["a.zip"])],
                          ["a.zip/" + name for name in names])
 
+    def test_names_without_the_flag_of_their_encoding(self) -> None:
+        """macOS writes UTF-8 and doesn't say so, and others write code page 437."""
+        self.write(".sokoignore", "\u00f6.txt\n")
+        for encoding in ("utf-8", "cp437"):
+            data = self.archive("aa.txt", "oo.txt")
+            for letter, other in (("a", "\u00e4"), ("o", "\u00f6")):
+                data = data.replace(2 * letter.encode(), other.encode(encoding).rjust(2, b"_"))
+            self.write("a.zip", data)
+            named = {"utf-8": "\u00e4.txt", "cp437": "_\u00e4.txt"}
+            found = sources.listed(["a.zip"])
+            self.assertEqual(found[0].name, "a.zip/" + named[encoding])
+            self.assertEqual([it.read() for it in found], [ONE.encode()] * len(found))
+            self.assertEqual(len(found), 1 if encoding == "utf-8" else 2)
+
     def test_names_that_begin_with_a_dot(self) -> None:
         """Hidden files are left out, but an archive whose names begin with './' is read."""
         self.write("a.zip", self.archive("./1.txt", "./a/2.txt", "../3.txt", "./.git/4.txt",

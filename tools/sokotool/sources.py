@@ -1,5 +1,6 @@
 """The exports that a command reads: files, and the files in folders and zip archives. A file
 .sokoignore in a folder has names and wildcards of files and folders there that aren't read."""
+import contextlib
 import fnmatch
 import os
 import re
@@ -14,6 +15,8 @@ from . import texts
 MOST_IN_ARCHIVE = 10_000
 MOST_UNPACKED = 8 * texts.MOST_BYTES
 _ZIP = b"PK\3\4"
+# the flag of a name in UTF-8; without it Python takes a name for code page 437
+_UTF8 = 0x800
 IGNORE = ".sokoignore"
 _NUMBER = re.compile("([0-9]+)")
 # Longer numbers in names have any order.
@@ -181,7 +184,7 @@ def _in_file(path: str) -> Iterator[Export]:
             yield Export(path, lambda: texts.read(path))
             return
         with zipfile.ZipFile(path) as archive:
-            members = [it for it in archive.infolist() if not it.is_dir() and not any(
+            members = [it for it in map(_named, archive.infolist()) if not it.is_dir() and not any(
                 part.startswith((".", "__MACOSX")) and part.strip(".")
                 for part in it.filename.split("/"))]
     except MemoryError:
@@ -194,6 +197,15 @@ def _in_file(path: str) -> Iterator[Export]:
         return
     for member in sorted(members, key=lambda it: _order(it.filename)):
         yield _packed(path, member)
+
+
+def _named(member: zipfile.ZipInfo) -> zipfile.ZipInfo:
+    """Gives a file of an archive its name in UTF-8 if it can be that: macOS doesn't say that it is.
+    """
+    if not member.flag_bits & _UTF8:
+        with contextlib.suppress(UnicodeError):
+            member.filename = member.filename.encode("cp437").decode("utf-8")
+    return member
 
 
 def _packed(path: str, member: zipfile.ZipInfo) -> Export:
