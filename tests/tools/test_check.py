@@ -519,6 +519,15 @@ class Typed(Check):
 
 
 class Files(Check):
+    def test_the_name_is_shown_without_control_characters(self) -> None:
+        self.write("a.txt", ONE)
+        self.check("my\x1b", "a.txt")
+        self.write("my\x1b.answers", b"sokoban-answers 1\nlevel 1\nsolution\nR\nend\n")
+        self.write("a.txt", ONE.replace("$", "$ "))
+        said = self.check("my\x1b", "a.txt").out.decode()
+        self.assertEqual(said.partition(":")[0], "my ")
+        self.assertIn("\nkept in my .kept.xsb: 1 answer ", said)
+
     def test_inputs_are_not_written_over(self) -> None:
         self.write("mine.xsb", CORNER)
         os.symlink("mine.xsb", "link")

@@ -19,10 +19,10 @@ _OUTCOMES = {LATE: "stopped", FULL: "gave up with full tables", MEMORY: "gave up
 
 def lines(run: Run, state: State, problems: Sequence[str]) -> Iterator[str]:
     """Yields the lines of the summary. The problems are what was left out or is wrong."""
-    now = state.now
+    now, name = state.now, texts.shown(run.name)
     count = {status: sum(line.status == status for line in now.lines)
              for status in ("solved", "unsolvable", "refused", "missing")}
-    yield f"{run.name}: {len(now.lines)} levels, " + ", ".join(
+    yield f"{name}: {len(now.lines)} levels, " + ", ".join(
         f"{number} {status}" for status, number in count.items())
     if run.program.is_reference and not auditor.is_quiet():
         yield auditor.REFERENCE_NOTE
@@ -30,7 +30,7 @@ def lines(run: Run, state: State, problems: Sequence[str]) -> Iterator[str]:
     sources = run.conversion.origins.sources(state.merged.written.places)
     places = {number: str(place) for number, (place, _) in sources.items()}
     yield from _some("no answer: ", [
-        (places.get(level.number) or f"{texts.shown(run.name)}.xsb line {level.line}") + ": "
+        (places.get(level.number) or f"{name}.xsb line {level.line}") + ": "
         + _unanswered(level, line)
         for level, line in zip(now.levels, now.lines) if not line.is_answered])
     yield from searched(state.unanswered(), state.memory.outcomes, run.outcomes)
@@ -43,14 +43,14 @@ def lines(run: Run, state: State, problems: Sequence[str]) -> Iterator[str]:
     elif run.before and not found:
         yield "nothing changed since the last time"
     if others := list(state.pool.others):
-        yield f"with fewer pushes in {run.name}.other.answers: {_numbered(others)}"
+        yield f"with fewer pushes in {name}.other.answers: {_numbered(others)}"
     if kept := state.left.reasons(now.forms):
-        yield f"kept in {run.name}.kept.xsb: " + ", ".join(kept)
+        yield f"kept in {name}.kept.xsb: " + ", ".join(kept)
     yield from _some("twins: ", [
         f"level {later + 1} is level {first + 1}, {turn.words}"
         for later, first, turn in forms.duplicates_of(now.forms)])
     if run.written:
-        names = [texts.shown(run.name) + end for end in own_files.LISTED if end in run.written]
+        names = [name + end for end in own_files.LISTED if end in run.written]
         if sys.stdout.isatty() and own_files.PAGE in run.written:
             names[0] += " (open it in a browser)"
         yield "wrote: " + ", ".join(names)
