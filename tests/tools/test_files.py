@@ -24,6 +24,18 @@ print(flush=True)
 sys.argv.pop(0)
 runpy.run_path(sys.argv[0], run_name="__main__")
 """
+# the same, with an interrupt while a command is loaded, where Python may lose it
+LOADING = """
+import importlib
+load = importlib.import_module
+def interrupted(name):
+    try:
+        signal.raise_signal(signal.SIGINT)
+    except KeyboardInterrupt:
+        print("lost", file=sys.stderr)
+    return load(name)
+importlib.import_module = interrupted
+"""
 HAND = "sokoban-answers 1\nlevel 1\nsolution\nR\nend\n"
 
 
@@ -159,6 +171,13 @@ class Whole(Case):
     def test_output_to_a_device(self) -> None:
         self.assertEqual(self.tool("merge", "many.answers", "-o", "/dev/null").status, 0)
         self.assertFalse(os.path.isfile("/dev/null"))
+
+    @not_on_windows
+    def test_an_interrupt_of_the_loading(self) -> None:
+        script = STARTED.replace("sys.argv.pop", LOADING + "sys.argv.pop")
+        ran = subprocess.run([sys.executable, "-c", script, TOOL, "warn", "many.xsb"], check=False,
+                             stdout=subprocess.PIPE, stderr=subprocess.PIPE)
+        self.assertEqual((ran.returncode, ran.stderr), (130, b""))
 
     @not_on_windows
     def test_interrupts(self) -> None:

@@ -1,5 +1,6 @@
 """The command line. Only the module of the command that is run is imported."""
 import argparse
+import contextlib
 import importlib
 import io
 import os
@@ -109,6 +110,10 @@ def start() -> int:
     if isinstance(sys.stderr, io.TextIOWrapper):
         sys.stderr.reconfigure(encoding="utf-8", errors="replace")
     try:
+        # An interrupt still ends the process here: Python may lose one while it loads a command.
+        with contextlib.suppress(MemoryError, OSError):  # which `main` meets again and reports
+            if sys.argv[1:] and sys.argv[1] in COMMANDS:
+                importlib.import_module("sokotool.commands." + sys.argv[1])
         signal.signal(signal.SIGINT, signal.default_int_handler)
         status = main(sys.argv[1:])
     except KeyboardInterrupt:
