@@ -35,6 +35,9 @@ HINDERED = {
     '"$0" make -l 2>&1 | grep -c usage': "1\nstatus 0\n",
     '"$0" make -- 2>&1 | grep -c usage': "1\nstatus 0\n",
     '"$0" -- make -l 2>&1 | grep -c usage': "1\nstatus 0\n",
+    '"$0" audit levels -- -a': ONE,
+    '"$0" dead levels ١ 2>&1 | grep -c usage': "1\nstatus 0\n",
+    '"$0" -V --none': "sokoaudit 0.2.0\nstatus 0\n",
     'cp levels grün; "$0" make grün': "sokoban-answers 1\nstatus 0\n",
     '"$0" make .': "cannot read levels\nstatus 2\n",
     '"$0" make levels >/dev/full': "cannot write\nstatus 2\n",
@@ -50,18 +53,29 @@ HINDERED = {
     '"$0" make many | wc -l': "1\nstatus 0\n",
     '"$0" make too-many': "too many levels\nstatus 2\n",
 }
+# words that print help with status 0, and words that are a usage error, as of the program
+HELP = ("-h", "--help", "help", "help dead", "-h --none", "audit --help", "audit levels -h",
+        "audit levels answers --help", "dead levels 1 -h", "dead levels --help 0", "make - -h")
+NO_HELP = ("", "help solve", "help -h", "help make make", "solve -h", "--none -h", "-- -h",
+           "audit -- -h", "make levels levels -h", "dead levels 0 -h", "make '' -h", "make -V")
 
 
 def hindered(cases: Cases) -> None:
-    """A case for each way in which a run of the reference is hindered."""
+    """A case for each way in which a run of the reference is hindered, and for its help."""
     write("levels", text(LEVELS["straight"]))
-    write("answers", "sokoban-answers 1\n")
+    for name in ("answers", "-a"):
+        write(name, "sokoban-answers 1\n")
     write("most", " " * 33554432)
     write("more", " " * 33554433)
     write("many", "#\n\n" * 10000)
     write("too-many", "#\n\n" * 10001)
     for command, wanted in HINDERED.items():
         cases.prints(command, wanted, command, f"{TOP}/reference/sokoaudit")
+    for status, stream, every in ((0, "2>&-", HELP), (2, "2>&1 >&-", NO_HELP)):
+        for words in every:
+            cases.prints(f"usage for: {words}", f"usage\nstatus {status}\n",
+                         f'said=$("$0" {words} {stream}); s=$?; echo "${{said%%:*}}"; exit $s',
+                         f"{TOP}/reference/sokoaudit")
 
 
 def samples(cases: Cases) -> None:
