@@ -1,6 +1,7 @@
 """tests/run manual PROGRAM: compares the man pages with the program. They have every text that its
 sources can print, and their examples show what it prints; mandoc, if it is installed, finds no
-fault in them. The files that HACKING.md names exist. Ends in 'N passed, M failed'."""
+fault in them. The files that HACKING.md names exist, and the definitions and lemmas that pages name
+in brackets. Ends in 'N passed, M failed'."""
 import glob
 import os
 import re
@@ -25,6 +26,16 @@ def texts() -> List[str]:
             parts = re.split(r"\{[^}]*\}", re.sub(r"\\x..|\\n", "", text))
             found.update(it.strip() for it in parts)
     return sorted(it for it in found - {"the device failed"} if re.search("[A-Za-z]", it))
+
+
+def named(cases: Cases) -> None:
+    """A case for each page that names definitions or lemmas in brackets: they exist."""
+    files = glob.glob(f"{TOP}/crates/*/[sp]*/**/*.antt", recursive=True)
+    known = {it for file in files for it in re.findall(r"\w+", read(file))}
+    for page in ("argument", "formats", "proofs", "rules"):
+        brackets = re.findall(r"\(([^()]*)\)", read(f"{TOP}/docs/{page}.md"))
+        names = {it for text in brackets for it in re.findall(r"`(\w+)`", text)}
+        cases.same(f"the names of {page}.md", "", " ".join(sorted(names - known)))
 
 
 def examples(cases: Cases, program: str) -> None:
@@ -64,6 +75,7 @@ for text in found:
 for name in sorted(set(re.findall(r"[A-Za-z]+\.antt", read(f"{TOP}/HACKING.md"))) - {"NAME.antt"}):
     cases.holds(f"HACKING.md names {name}",
                 glob.glob(f"{TOP}/crates/*/[sp]*/**/{name}", recursive=True))
+named(cases)
 examples(cases, program)
 lint = """{ mandoc -T lint $0 || true; } |
     sed '/referenced manual not found: Xr soko/d' | diff - /dev/null"""
