@@ -10,7 +10,7 @@ from sokotool.main import COMMANDS, parser_for
 from tests.runner import TOP, Cases, enter_folder, read, run
 
 # what bash offers for the last word of a line, in a folder with some files
-OFFERS = """. $0/completions/$1.bash
+OFFERS = """. "$0/completions/$1.bash"
 eval "COMP_WORDS=($1 $2)" && COMP_CWORD=$((${#COMP_WORDS[@]} - 1))
 "$(complete -p $1 | sed 's/.*-F \\([^ ]*\\) .*/\\1/')"; printf '%s\\n' "${COMPREPLY[*]}" """
 # of sokoaudit, whose words are few

@@ -6,6 +6,7 @@ import os
 import re
 import signal
 from collections import Counter, defaultdict
+from shlex import quote
 from typing import Dict, List
 
 from tests import mutants
@@ -32,7 +33,7 @@ PLANTED = (
     ("echo Traceback; exit 1", 0, "0 passed, 1 failed"),
     ("kill -KILL $PPID; exit 0", 0, "0 passed, 1 failed"),
 )
-RUN = f'cd {TOP} && . tests/counts && part "$@" && finish'
+RUN = f'cd {quote(TOP)} && . tests/counts && part "$@" && finish'
 BUSY = "i=0; while [ $i != 200000 ]; do i=$((i + 1)); done; "
 # parts in two lanes in bash, each in a line, and the numbers that the gate prints: of a part that
 # failed, once more at the end. Where it runs one too early or too late, a part has no numbers
@@ -111,7 +112,7 @@ def counting(cases: Cases) -> None:
 
 def at_once(cases: Cases) -> None:
     """A case for each of the runs of several parts, and one for an interrupt."""
-    source = f". {TOP}/tests/counts; lanes=2"
+    source = f". {quote(TOP)}/tests/counts; lanes=2"
     for name, (lines, wanted) in AT_ONCE.items():
         os.mkdir(name)
         said = shell(f"{source}\n{lines}\nfinish", cwd=name).splitlines()

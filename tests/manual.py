@@ -77,7 +77,7 @@ for name in sorted(set(re.findall(r"[A-Za-z]+\.antt", read(f"{TOP}/HACKING.md"))
                 glob.glob(f"{TOP}/crates/*/[sp]*/**/{name}", recursive=True))
 named(cases)
 examples(cases, program)
-lint = """{ mandoc -T lint $0 || true; } |
+lint = """{ mandoc -T lint "$0" || true; } |
     sed '/referenced manual not found: Xr soko/d' | diff - /dev/null"""
 for page in PAGES if cases.needs("mandoc", "a check of the man pages") else ():
     cases.prints(f"mandoc on {os.path.basename(page)}", "status 0\n", lint, page)

@@ -34,6 +34,8 @@ from tests.runner import (TOP, Cases, arguments, decode, is_share, processes, re
                           share_of, write)
 
 COUNTS = re.compile(r"(\d+) passed, (\d+) failed(?:, (\d+) skipped)?")
+# a clone may be below any folder
+HARD = """mutants 'o"k' $x ü """
 LIMIT = 1200  # seconds, on a machine that others keep busy too
 # the page is made of these
 PAGE_PARTS = ("tools/page/", "tools/sokotool/viewer/", "packaging/ports/inline")
@@ -248,7 +250,7 @@ def main() -> None:
             edits.remove(edit)
     if not edits:
         cases.finish()
-    with tempfile.TemporaryDirectory(prefix="mutants-") as room:
+    with tempfile.TemporaryDirectory(prefix=HARD) as room:
         trees, tests = Trees(program, room), [it.test for it in edits]
         if any(map(is_of_page, tests)):
             make_page(f"{room}/0")

@@ -11,7 +11,7 @@ from typing import Dict, Iterator, List
 
 from tests.runner import TOP, Cases, arguments, call, decode, enter_folder, read, shell, write
 
-COPY = "git -C {0} ls-files -coz --exclude-standard | tar -C {0} --null -T - -cf - | tar -xf -"
+COPY = 'git -C "$0" ls-files -coz --exclude-standard | tar -C "$0" --null -T - -cf - | tar -xf -'
 NOTE = "sokoaudit: this is the reference in Python, not the proved program"
 PICTURE = "docs/pictures/terminal.svg"
 # on Windows this starts Python
@@ -97,7 +97,7 @@ def main() -> None:
         variables = {"PATH": f"{os.getcwd()}/bin", "HOME": os.getcwd(), "LC_ALL": "C.UTF-8"}
         os.mkdir("copy")
         os.chdir("copy")
-        shell(COPY.format(TOP))
+        shell(COPY, TOP)
         cases.holds("the copy has README.md and nothing that was built",
                     os.path.exists("README.md") and not os.path.exists("out"))
         blocks(cases, page, variables)

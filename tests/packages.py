@@ -10,8 +10,8 @@ from tests.runner import TOP, Cases, arguments, enter_folder, run
 
 # commands of bash that have to succeed, by their names
 SOURCES = {
-    "the version of CHANGELOG.md": "grep -E \"^## $version, 20..-..-..$\" $top/CHANGELOG.md",
-    "installation": "$top/packaging/install $built/sokoaudit root/usr",
+    "the version of CHANGELOG.md": "grep -E \"^## $version, 20..-..-..$\" \"$top/CHANGELOG.md\"",
+    "installation": "\"$top/packaging/install\" $built/sokoaudit root/usr",
 }
 # at a prefix
 PREFIX = {
@@ -28,8 +28,8 @@ INSTALLED = {
     "the notices": "grep '^==== clap: LICENSE-MIT' share/doc/sokoaudit/NOTICES",
     "no file of the tests": "! find share/sokoaudit -name 'test*' -o -name '*.pyc' | grep .",
     "the commands of make":
-        "make -s -C $top -n install dist deb uninstall DESTDIR=$PWD/.. PREFIX=/usr",
-    "uninstall": "make -s -C $top uninstall DESTDIR=$PWD/.. PREFIX=/usr",
+        "make -s -C \"$top\" -n install dist deb uninstall DESTDIR=$PWD/.. PREFIX=/usr",
+    "uninstall": "make -s -C \"$top\" uninstall DESTDIR=$PWD/.. PREFIX=/usr",
     "no file is left": "! find . -type f | grep .",
 }
 UNTAR = "mkdir archive && tar -C archive --strip-components=1 -xf dist/*"
@@ -57,7 +57,7 @@ ${{CC:-cc}} share/doc/sokoaudit/examples/check.c $(pkg-config --cflags --libs so
         head -n 1; }} | cmp - <(yes level 1 unsolvable patterns 3 | head -n 2)"""
 # The second build uses what the toolchain kept of the first one, so little is proved again.
 SECOND = {
-    "a copy of the repository": """mkdir -p $second && cd $top &&
+    "a copy of the repository": """mkdir -p $second && cd "$top" &&
         tar --exclude=./{.git,out} --exclude="./crates/sokoaudit/out/sokoaudit*" \\
             --exclude='./crates/[!s]*/out/incremental' -cf - . | tar -C $second -xf -""",
     "the second build": "cd $second/crates/sokoaudit && rt run -- --help",

@@ -19,8 +19,8 @@ mkdir -p tree/samples bin plain bare 'else where' tree/crates/{low,arguments,sok
 chmod 755 .
 ln -sf /usr/bin/* /bin/* plain && rm -f plain/rt
 ln -s /bin/{cat,dirname,readlink} bare
-cp -r $top/sokoaudit $top/Makefile $top/packaging $top/reference tree
-cp $top/samples/help tree/samples
+cp -r "$top"/{sokoaudit,Makefile,packaging,reference} tree
+cp "$top/samples/help" tree/samples
 printf '#####\n#@$.#\n#####\n' >'else where/levels'
 printf 'sokoban-answers 1\nlevel 1\nsolution\nR\nend\n' >'else where/answers'
 printf 'low:\narguments: clap\nsokoaudit: low arguments clap\n' >tree/crates.txt
@@ -105,8 +105,8 @@ if os.path.exists("small/sh"):
          "ln -s ../link far; ln -s \"$tree\" ../link; ln -s far/sokoaudit it; PATH=$tree/../small "
          "./it audit levels answers; s=$?; rm it far ../link; exit $s")
 # installation without the toolchain, and without what a small system lacks
-tools, places = f"{LACKS} make -s -C $top", "\"DESTDIR=$PWD/root\" PREFIX=/usr"
-alone = f"{sys.executable} $top/packaging/install-tools"
+tools, places = f"{LACKS} make -s -C \"$top\"", "\"DESTDIR=$PWD/root\" PREFIX=/usr"
+alone = f"{sys.executable} \"$top/packaging/install-tools\""
 case("install-tools needs no toolchain", 0, "", "", f"{tools} install-tools {places}")
 case("it needs Python alone", 0, "", "",
      f"PATH=none {alone} alone/usr; diff -r root alone; for it in root alone; do "
@@ -134,7 +134,7 @@ case("and nothing is left by uninstall", 1, "", "",
 for name in ("sokoaudit", "sokotool"):
     case(f"a copy of {name} alone says what it lacks", 2, "",
          f"{name}: this script needs the files beside it: make a link to it, or install it",
-         f"mkdir lone; cp $top/{name} lone; {LACKS} lone/{name} -V; s=$?; rm -r lone; exit $s")
+         f"mkdir lone; cp \"$top/{name}\" lone; {LACKS} lone/{name} -V; s=$?; rm -r lone; exit $s")
 # a program that the system can't run
 case("a program that can't be run is no refused level", 2, "", "perhaps of other sources",
      "mkdir -p $tree/crates/sokoaudit/out; printf '#!/other-bin/none\\n' | install -m 755 "

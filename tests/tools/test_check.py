@@ -4,6 +4,7 @@ import json
 import os
 import random
 import re
+import shlex
 import shutil
 import subprocess
 import sys
@@ -623,7 +624,7 @@ class Screen(Check):
         if not shutil.which("script"):
             self.skipTest("there is no command script here")
         self.write("a.txt", CORNER)
-        subprocess.run(["script", "-qec", f"{TOP}/sokotool check mine a.txt", "said"],
+        subprocess.run(["script", "-qec", f"{shlex.quote(TOP)}/sokotool check mine a.txt", "said"],
                        stdout=subprocess.DEVNULL, check=False, stdin=subprocess.DEVNULL,
                        env={**os.environ, "TERM": "xterm"})
         said = self.read("said").decode()

@@ -3,6 +3,7 @@ import hashlib
 import json
 import os
 import re
+import shlex
 import subprocess
 from itertools import permutations
 from typing import List, Tuple, Union
@@ -40,14 +41,15 @@ class Commands(Case):
     def test_reader_that_closes_the_pipe(self) -> None:
         self.write("many.xsb", "\n".join([ONE] * 9000))
         self.write("report", b"".join(b"level %d missing\n" % n for n in range(1, 9001)))
-        found = subprocess.run(f"{TOP}/sokotool named many.xsb report | head -n 1", shell=True,
-                               stdout=subprocess.PIPE, stderr=subprocess.PIPE, check=False)
+        found = subprocess.run(f"{shlex.quote(TOP)}/sokotool named many.xsb report | head -n 1",
+                               shell=True, stdout=subprocess.PIPE, stderr=subprocess.PIPE,
+                               check=False)
         self.assertEqual((found.stdout, found.stderr), (b"level 1 missing\tmany.xsb:1\t\n", b""))
 
     def test_devices_and_locales(self) -> None:
         self.write("a.xsb", "\u2603\n" + ONE)
         self.write("r", "level 1 missing\ntotal 1 solved 0 unsolvable 0 refused 0 missing 1\n")
-        named = f"{TOP}/sokotool named a.xsb r"
+        named = f"{shlex.quote(TOP)}/sokotool named a.xsb r"
         for command, wanted in ((named + " > /dev/full",
                                  (2, b"", b"named: cannot write: No space left on device\n")),
                                 (named + " >&-",

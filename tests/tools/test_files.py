@@ -432,7 +432,7 @@ class Words(Case):
         self.assertEqual(self.tool("help", "nothing").status, 2)
 
     def test_completions(self) -> None:
-        offers = (". $0; COMP_WORDS=(sokotool \"$@\"); COMP_CWORD=$#; _sokotool; "
+        offers = (". \"$0\"; COMP_WORDS=(sokotool \"$@\"); COMP_CWORD=$#; _sokotool; "
                   "printf '%s\\n' \"${COMPREPLY[@]}\"")
         self.write("my levels.xsb", ONE)
         for typed, offered in ((("conv",), "convert"), (("help", "me"), "merge"),

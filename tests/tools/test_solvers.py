@@ -381,7 +381,8 @@ class Checks(Check):
         boards = [Generator(seed).level()[0] for seed in range(50)]
         self.write("a.txt", "\n\n".join("\n".join(rows) for rows in boards) + "\n")
         found = levels.read(self.read("a.txt"))
-        results = list(solvers.Solvers(solver(f"{sys.executable} {TOP}/examples/solver.py"), found,
-                                       Limits(60, 600, 2), Budget(600)).results())
+        command = f"{sys.executable} {shlex.quote(TOP)}/examples/solver.py"
+        results = list(solvers.Solvers(solver(command), found, Limits(60, 600, 2),
+                                       Budget(600)).results())
         self.assertEqual(len(results), 50)
         self.assertEqual({it.what for it in results}, {outcomes.SOLVED})
