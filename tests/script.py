@@ -135,6 +135,9 @@ for name in ("sokoaudit", "sokotool"):
     case(f"a copy of {name} alone says what it lacks", 2, "",
          f"{name}: this script needs the files beside it: make a link to it, or install it",
          f"mkdir lone; cp \"$top/{name}\" lone; {LACKS} lone/{name} -V; s=$?; rm -r lone; exit $s")
+old_python = "import runpy, sys; sys.version_info = 3, 7; runpy.run_path(sys.argv[1])"
+case("an old Python is named", 2, "", "sokotool: this script needs Python 3.8 or later",
+     f"{sys.executable} -c '{old_python}' \"$top/sokotool\"")
 # a program that the system can't run
 case("a program that can't be run is no refused level", 2, "", "perhaps of other sources",
      "mkdir -p $tree/crates/sokoaudit/out; printf '#!/other-bin/none\\n' | install -m 755 "

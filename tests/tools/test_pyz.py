@@ -128,6 +128,16 @@ class Pyz(Case):
                                  env={**plain_variables(), "SOKOAUDIT_QUIET": ""})
             self.assertEqual((ran.returncode, ran.stdout, ran.stderr), said, command + end)
 
+    def test_an_old_python(self) -> None:
+        """It is told what it lacks, and runs the reference."""
+        code = ("import runpy, sys; sys.version_info = 3, 7; "
+                "runpy.run_path('it.pyz', run_name='__main__')")
+        for words, said in ((["--version"], "sokotool: this needs Python 3.8 or later\n"),
+                            (["dead", "a.txt", "2"], "no such level\n")):
+            ran = subprocess.run([sys.executable, "-c", code, *words], stderr=subprocess.PIPE,
+                                 env={**plain_variables(), "SOKOAUDIT_QUIET": "1"}, check=False)
+            self.assertEqual((ran.returncode, ran.stderr.decode()), (2, said))
+
     def test_where(self) -> None:
         """The name of the file is printed."""
         self.assertEqual(self.said, ["it.pyz"])
