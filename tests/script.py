@@ -120,6 +120,9 @@ case("an installation that fails says where", 1, "", "install-tools: alone/level
 # who isn't root could write nothing there
 case("an empty prefix is none", 1, "", "usage: packaging/install-tools",
      "$nobody $tree/packaging/install-tools ''")
+case("nor is it to what installs the program", 2, "", "usage: packaging/install PROGRAM PREFIX",
+     "files=\"$tree/CHANGELOG.md $tree/crates/arguments/src/command.rt\"; touch $files; "
+     f"TMPDIR=/tmp {LACKS} $nobody $tree/packaging/install /bin/true ''; s=$?; rm $files; exit $s")
 case("it installs the reference", 0, "level 1 solved moves 1 pushes 1 changes 1", NOTE,
      "root/usr/bin/sokoaudit audit levels answers")
 case("and its help", 0, help, "", "root/usr/bin/sokoaudit --help")
