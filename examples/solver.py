@@ -50,11 +50,13 @@ def walks(player, boxes):
 def solution():
     """The letters of a solution, or None."""
     far = distances()
-    player = next(cell for cell, mark in CELLS.items() if mark in "@+")
+    players = [cell for cell, mark in CELLS.items() if mark in "@+"]
+    if len(players) != 1:
+        sys.exit("give it one level, with one player")
     boxes = frozenset(cell for cell, mark in CELLS.items() if mark in "$*")
     if not boxes <= far.keys():
         return None
-    heap, seen = [(sum(far[box] for box in boxes), 0, player, boxes, "")], set()
+    heap, seen = [(sum(far[box] for box in boxes), 0, players[0], boxes, "")], set()
     while heap:
         _, pushes, player, boxes, letters = heapq.heappop(heap)
         if boxes <= GOALS:

@@ -5,6 +5,7 @@ import os
 import re
 import shlex
 import subprocess
+import sys
 from itertools import permutations
 from typing import List, Tuple, Union
 
@@ -13,6 +14,7 @@ from tests.tools.helping import ONE, SAMPLES, TOP, Case
 from sokotool import levels, main
 
 SEARCH = os.path.join(TOP, "examples/search.py")
+SOLVER = os.path.join(TOP, "examples/solver.py")
 
 
 class Commands(Case):
@@ -245,6 +247,15 @@ class Merge(Case):
             searched = call([SEARCH, *words.split()])
             self.assertEqual((searched.status, searched.output), (1, b""))
             self.assertTrue(searched.errors.decode().startswith(said), searched.errors)
+
+    def test_levels_of_the_solver(self) -> None:
+        """The example solves one level, and says of several what it takes."""
+        for level, status, said in ((ONE, 0, b"R\n"), (ONE + "\n" + ONE, 1, b""),
+                                    (ONE.replace("@", " "), 1, b"")):
+            ran = subprocess.run([sys.executable, SOLVER], input=level.encode(), check=False,
+                                 stdout=subprocess.PIPE, stderr=subprocess.PIPE)
+            self.assertEqual((ran.returncode, ran.stdout), (status, said))
+            self.assertEqual(ran.stderr, b"" if said else b"give it one level, with one player\n")
 
     def test_comments_and_order(self) -> None:
         self.write("a",
