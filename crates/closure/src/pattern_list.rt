@@ -68,7 +68,7 @@ impl<'a, S: CellSet> PatternList<'a, S> {
         }
     }
 
-    /// Adds a pattern. After the first pattern that isn't lawful the list keeps none.
+    /// Adds a pattern. After the first pattern that isn't lawful the list keeps none. After out of memory it can't be checked.
     pub fn add(&mut self, alloc: Global, pattern: &Pattern) -> Result<(), AllocError>
         ensures level { self.new.board.now ≡ self.old.board.now }
         ensures added { OnOk result ((lines : List PatternLine) → IsListOf lines self.old → IsListOf (lines ++ said_pattern pattern.now ∷ []) self.new) }
@@ -121,7 +121,7 @@ fn check_lines<S: CellSet>(
 
 /// Checks that a list of patterns is closed, and returns its first fault if it isn't.
 ///
-/// The variants of `CheckFault` are in the order of the checks. The check floods at most twice for each pattern.
+/// The variants of `CheckFault` are in the order of the checks. The head of the crate says what a check costs.
 pub fn check<S: CellSet>(
     alloc: Global,
     board: &Board<S>,

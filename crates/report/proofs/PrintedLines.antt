@@ -2,7 +2,7 @@
 -- No word of a report has a line feed or a carriage return in it, so the lines of its bytes are the lines of its levels and
 -- the total. A line of level n has one text after `level n `, and its first word fixes the kind of the status. So the line
 -- of level n has the words of the n-th status, and what that status means is true.
-use Rattle.std.proofs.Common.{◌≡◌, ◌+◌, ◌/◌, ◌%◌, ℕ, zero, suc, Bool, true, false, cond, ◌==◌, ◌&&◌, List, [], ◌∷◌, ◌++◌, Option, Some, refl, sym, ◌∙◌, ap, ap₂, arith, append_assoc, codes}
+use Rattle.std.proofs.Common.{◌≡◌, ◌+◌, ◌/◌, ◌%◌, ℕ, zero, suc, Bool, true, false, cond, ◌==◌, ◌&&◌, List, [], ◌∷◌, ◌++◌, Option, Some, length, refl, sym, ◌∙◌, ap, ap₂, arith, inl, inr, append_assoc, codes}
 use Rattle.std.specs.Prelude.{decimal, map, slice_index}
 use Rattle.std.specs.List.{AllByRecursion, flat_map, list_all, slice_get}
 use Rattle.std.specs.Fmt.{digit_glyph, digits, digits_onto}
@@ -39,7 +39,7 @@ use Rattle.closure.specs.declared.fault.ZoneFault.{ZoneFault}
 use Rattle.closure.specs.declared.fault.ZoneFault.TheVariants as zone_fault
 use Rattle.report.specs.Answer.{answer_to}
 use Rattle.report.specs.Means.{IsMissing, IsSolvedBy, Means}
-use Rattle.report.specs.Printed.{AreTrue, HasWords}
+use Rattle.report.specs.Printed.{AreOfAKind, AreTrue, HasWords}
 use Rattle.report.specs.Report.{AllMean}
 use Rattle.report.specs.Status.{IsFirstFaultOf}
 use Rattle.report.specs.Summary.{summary_of}
@@ -50,7 +50,7 @@ use Rattle.report.specs.declared.status.Refusal.TheVariants.{Board, BadLine, Sol
 use Rattle.report.specs.declared.status.Status.{Status}
 use Rattle.report.specs.declared.status.Status.TheVariants.{Solved, Unsolvable, UnsolvableZone, Refused, Missing}
 use Rattle.report.specs.declared.summary.Summary.{Summary}
-use Rattle.report.proofs.Reports.{each_at}
+use Rattle.report.proofs.Reports.{each_at, each_long}
 
 -- ---- the words are plain
 
@@ -200,6 +200,12 @@ line_at n (suc i) (s ∷ statuses) last status there =
 lines_are : (statuses : List Status) → lines_in (report_text statuses) ≡ bare_lines 1 statuses (bare_total (summary_of statuses))
 lines_are statuses = search (text_of, lines_again, all_plain)
 
+count_lines : (n : ℕ) (statuses : List Status) (last : Text) → length (bare_lines n statuses last) ≡ length statuses + 1
+count_lines n [] last = refl
+count_lines n (status ∷ statuses) last =
+    let rest : length (bare_lines (n + 1) statuses last) ≡ length statuses + 1 = count_lines (n + 1) statuses last in
+    omega arith
+
 -- the n-th line is the line of level n
 pub line_is : (statuses : List Status) (before : ℕ) (status : Status) → slice_get statuses before ≡ Some status
     → HasWords (report_text statuses) before (words_of status)
@@ -266,6 +272,13 @@ module _ (rows : List (List ℕ)) (answer : Option Body) (words : Text) where
   of_missing (Refused why) means e = grind (arith, other_first)
   of_missing Missing means e = means
 
+kind_of : (status : Status) → AreOfAKind (words_of status)
+kind_of (Solved t) = inl (_, refl)
+kind_of (Unsolvable k) = inr (inl (_, refl))
+kind_of (UnsolvableZone k) = inr (inl (_, refl))
+kind_of (Refused why) = inr (inr (inl (_, refl)))
+kind_of Missing = inr (inr (inr refl))
+
 -- ---- the lines are true
 module _ (levels : List (List (List ℕ))) (entries : List Entry) (statuses : List Status) (mean : AllMean levels entries statuses) where
   here : (before : ℕ) (rows : List (List ℕ)) → slice_get levels before ≡ Some rows
@@ -274,7 +287,8 @@ module _ (levels : List (List (List ℕ))) (entries : List Entry) (statuses : Li
 
   true_here : AreTrue levels entries (report_text statuses)
   true_here = record {
-    each = λ before rows there. let (status, line, means) = here before rows there in (words_of status, line);
+    count = ap length (lines_are statuses) ∙ count_lines 1 statuses _ ∙ ap (λ n. n + 1) (each_long Means 1 levels entries statuses mean);
+    each = λ before rows there. let (status, line, means) = here before rows there in (words_of status, line, kind_of status);
     solved = λ before rows words there has.
         let (status, line, means) = here before rows there in
         of_solved rows (answer_to (before + 1) entries) words status means (one_text (report_text statuses) before _ _ line has);

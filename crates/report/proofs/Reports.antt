@@ -105,6 +105,14 @@ pub each_more : (Holds : List (List ℕ) → Option Body → Status → Type 0) 
 each_more Holds levels entries k rows status so_far next holds before rest after =
     subst (OfEach Holds 1 levels entries) (sym (append_assoc so_far (status ∷ []) rest)) (before (status ∷ rest) (rw next (holds, after)))
 
+-- there are as many statuses as levels
+pub each_long : (Holds : List (List ℕ) → Option Body → Status → Type 0) (n : ℕ) (levels : List (List (List ℕ))) (entries : List Entry) (statuses : List Status)
+    → OfEach Holds n levels entries statuses → length statuses ≡ length levels
+each_long Holds n [] entries [] each = refl
+each_long Holds n [] entries (s ∷ statuses) each = absurd each
+each_long Holds n (rows ∷ levels) entries [] each = absurd each
+each_long Holds n (rows ∷ levels) entries (s ∷ statuses) (_, rest) = ap (λ k. suc k) (each_long Holds (n + 1) levels entries statuses rest)
+
 -- the status at position i holds of the rows at position i and of the answer to their level
 pub each_at : (Holds : List (List ℕ) → Option Body → Status → Type 0) (n i : ℕ) (levels : List (List (List ℕ))) (entries : List Entry) (statuses : List Status)
     (rows : List (List ℕ)) → OfEach Holds n levels entries statuses → slice_get levels i ≡ Some rows

@@ -2,7 +2,7 @@
 --   levels    the levels of the levels text, each as its rows
 --   entries   what the answers text says
 --   words     the rest of the line of level n after `level n `
-use Rattle.std.specs.Prelude.{◌≡◌, ℕ, ◌+◌, List, ◌++◌, Some, codes, decimal}
+use Rattle.std.specs.Prelude.{◌≡◌, ◌⊎◌, ℕ, ◌+◌, length, List, ◌++◌, Some, codes, decimal}
 use Rattle.std.specs.List.{slice_get}
 use Rattle.board.specs.Lines.{lines_in}
 use Rattle.play.specs.declared.tally.Tally.{Tally}
@@ -23,10 +23,16 @@ abbrev pub AreUnsolvable : List (List (List ℕ)) → List ℕ → Type 0
 AreUnsolvable levels text = (before : ℕ) (rows : List (List ℕ)) (words : List ℕ)
     → slice_get levels before ≡ Some rows → HasWords text before (codes "unsolvable " ++ words) → IsUnsolvable rows
 
+-- the words say one of four things
+abbrev pub AreOfAKind : List ℕ → Type 0
+AreOfAKind words = ((rest : List ℕ) × (words ≡ codes "solved " ++ rest)) ⊎ (((rest : List ℕ) × (words ≡ codes "unsolvable " ++ rest))
+    ⊎ (((rest : List ℕ) × (words ≡ codes "refused " ++ rest)) ⊎ (words ≡ codes "missing")))
+
 -- each level has its line in a printed report, and the line is true
 pub record AreTrue (levels : List (List (List ℕ))) (entries : List Entry) (text : List ℕ) : Type 0 where
-  -- each level has its line in the report
-  pub each : (before : ℕ) (rows : List (List ℕ)) → slice_get levels before ≡ Some rows → (words : List ℕ) × HasWords text before words
+  -- the report has a line for each level, and one more
+  pub count : length (lines_in text) ≡ length levels + 1
+  pub each : (before : ℕ) (rows : List (List ℕ)) → slice_get levels before ≡ Some rows → (words : List ℕ) × HasWords text before words × AreOfAKind words
   pub solved : (before : ℕ) (rows : List (List ℕ)) (words : List ℕ) → slice_get levels before ≡ Some rows → HasWords text before (codes "solved " ++ words)
       → (tally : Tally) × (codes "solved " ++ words ≡ solved_words tally) × IsSolvedBy rows (answer_to (before + 1) entries) tally
   pub unsolvable : AreUnsolvable levels text

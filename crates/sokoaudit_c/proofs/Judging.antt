@@ -9,7 +9,7 @@ use Rattle.report.specs.declared.fault.AuditError.{AuditError}
 use Rattle.report.specs.declared.fault.AuditError.TheVariants as error_is
 use Rattle.report.specs.declared.fault.Why.{Why}
 use Rattle.report.specs.declared.status.Status.{Status}
-use Rattle.report.proofs.Statuses.{each_long}
+use Rattle.report.proofs.Reports.{each_long}
 use Rattle.sokoaudit_c.specs.Judged.{HasFault, HasLevels}
 use Rattle.sokoaudit_c.specs.declared.judge.Fault.{Fault}
 use Rattle.sokoaudit_c.specs.declared.judge.Fault.TheVariants as fault

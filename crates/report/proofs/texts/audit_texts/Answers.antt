@@ -1,5 +1,6 @@
 use Rattle.std.proofs.Common.{arith}
-use Rattle.report.proofs.Statuses.{each_long, report_by}
+use Rattle.report.proofs.Reports.{each_long}
+use Rattle.report.proofs.Statuses.{report_by}
 use Rattle.report.proofs.texts.audit_texts.Goals as goal
 
 pub report_of-requires-clause-few : goal.report_of-requires-clause-few
