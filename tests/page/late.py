@@ -92,7 +92,7 @@ def late(check: Comparison, tab: Tab) -> None:
 
 
 def dropping(check: Comparison, tab: Tab) -> None:
-    """Files that are dropped before the page has read those of the drop before."""
+    """Files that are dropped while the page still reads an earlier drop."""
     write("one.xsb", LEVEL)
     write("slow.txt", LETTERS + "\n" * 600)
     write("slow.answers", f"{ANSWERS}{'; ' * 300}\n")

@@ -129,7 +129,7 @@ class Pyz(Case):
             self.assertEqual((ran.returncode, ran.stdout, ran.stderr), said, command + end)
 
     def test_an_old_python(self) -> None:
-        """It is told what it lacks, and runs the reference."""
+        """sokotool says what it lacks, and the reference runs."""
         code = ("import runpy, sys; sys.version_info = 3, 7; "
                 "runpy.run_path('it.pyz', run_name='__main__')")
         for words, said in ((["--version"], "sokotool: this needs Python 3.8 or later\n"),
