@@ -18,6 +18,9 @@ from typing import (Any, Callable, Dict, Iterator, List, Mapping, NamedTuple, Op
 
 TOP = os.path.dirname(os.path.dirname(os.path.realpath(__file__)))
 MEMORY = "/dev/shm"
+# the folder in memory: a process that Python 3.13 forks forgets all calls at its end, and would
+# remove a folder that these alone name
+_ROOMS: List["tempfile.TemporaryDirectory[str]"] = []
 
 
 class Ran(NamedTuple):
@@ -233,6 +236,7 @@ def work_in_memory() -> None:
         if has_room and not known.f_flag & os.ST_NOEXEC and "TMPDIR" not in os.environ:
             folder = tempfile.TemporaryDirectory(prefix="sokoaudit-", dir=MEMORY)
             os.environ["TMPDIR"] = tempfile.tempdir = folder.name
+            _ROOMS.append(folder)
             atexit.register(folder.cleanup)
 
 
