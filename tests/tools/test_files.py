@@ -4,6 +4,7 @@ import glob
 import os
 import re
 import signal
+import stat
 import subprocess
 import sys
 import time
@@ -168,9 +169,17 @@ class Whole(Case):
         self.assertRegex(result.err, "convert: cannot write .*new.xsb: Device or resource busy\n$")
         self.assertEqual((result.status, {*os.listdir()}), (2, {*before}))
 
+    @not_on_windows
     def test_output_to_a_device(self) -> None:
-        self.assertEqual(self.tool("merge", "many.answers", "-o", "/dev/null").status, 0)
-        self.assertFalse(os.path.isfile("/dev/null"))
+        """It gets the output, and stays. A pipe stands for it, since a tool that is broken here
+        would replace a device of this system."""
+        self.write("few.answers", self.sample("first.answers"))
+        os.mkfifo("device")
+        reading = os.open("device", os.O_RDONLY | os.O_NONBLOCK)
+        self.addCleanup(os.close, reading)
+        self.assertEqual(self.tool("merge", "few.answers", "-o", "device").status, 0)
+        self.assertTrue(stat.S_ISFIFO(os.stat("device").st_mode))
+        self.assertIn(b"\nlevel 1\n", os.read(reading, 9999))
 
     @not_on_windows
     def test_an_interrupt_of_the_loading(self) -> None:
