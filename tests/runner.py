@@ -163,7 +163,11 @@ class Cases:
         return returned
 
     def finish(self) -> None:
-        """Prints how many cases passed, failed and were skipped, and ends the process."""
+        """Prints how many cases passed, failed and were skipped, and ends the process. It is a
+        failure if there was none, as where no test has the name that was given."""
+        if not self.passed + self.failed + self.skipped:
+            self.ends_first = False
+            self.holds("there is a case", False, "no test has such a name")
         print(self, flush=True)
         sys.exit(self.failed != 0)
 
