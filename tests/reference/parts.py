@@ -84,7 +84,7 @@ def samples(cases: Cases) -> None:
         for file in sorted(glob.glob(f"{TOP}/{pattern}")):
             name = file.rpartition(".")[0]
             level, _, number = name.rpartition(".")
-            given = words.format(name, level, number).split()
+            given = [it.format(name, level, number) for it in words.split()]
             printed = run([f"{TOP}/reference/sokoaudit", *given]).rpartition("status")[0]
             cases.same(f"the reference: {file}", read(file), printed)
 
