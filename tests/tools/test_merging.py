@@ -80,3 +80,18 @@ class Laws(unittest.TestCase):
                 self.assertEqual(level_texts.text(again.collection.blocks).decode(),
                                  level_texts.text(once.collection.blocks).decode())
                 self.assertEqual(again.places, once.places)
+
+    def test_what_was_typed_goes_with_its_level(self) -> None:
+        """Wherever the exports have it now; what was removed stays away."""
+        drawn = Drawn(5)
+        for _ in range(COUNT):
+            lengths = drawn.chance.sample(range(9), drawn.chance.randrange(1, 6))
+            blocks = [Block((), (b"#" * (it + 6), b"#@" + b" " * it + b"$ .#", b"#" * (it + 6)),
+                            (b"Title: %d" % it, b"; gone")) for it in lengths]
+            shuffled = drawn.chance.sample(blocks, len(blocks))
+            mine = [it._replace(below=(it.below[0], b"; typed at %d" % len(it.rows[0])))
+                    for it in blocks]
+            found = merged(Written(collection(blocks)), collection(mine), collection(shuffled), [])
+            self.assertEqual(
+                [[it for it in block.below if it] for block in found.written.collection.blocks],
+                [[it.below[0], b"; typed at %d" % len(it.rows[0])] for it in shuffled])
