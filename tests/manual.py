@@ -1,15 +1,19 @@
-"""tests/run manual PROGRAM: compares the man pages with the program. They have every text that its
-sources can print, and their examples show what it prints; mandoc, if it is installed, finds no
-fault in them. The files that HACKING.md names exist, and the definitions and lemmas that pages name
-in brackets. Ends in 'N passed, M failed'."""
+"""tests/run manual PROGRAM: compares the man pages with the programs. They have every text that the
+sources of sokoaudit can print, their examples show what it prints, and the page of sokotool has the
+options and defaults of its parser; mandoc, if it is installed, finds no fault in them. The files
+that HACKING.md names exist, and the definitions and lemmas that pages name in brackets. Ends in
+'N passed, M failed'."""
+import argparse
 import glob
 import os
 import re
-from typing import List
+from typing import Dict, List, Set
 
+from sokotool.main import COMMANDS, parser_for
 from tests.runner import TOP, Cases, arguments, enter_folder, read, run, write
 
 PAGES = [f"{TOP}/man/{it}" for it in ("sokoaudit.1", "sokoaudit-answers.5", "sokotool.1")]
+TOOL = read(PAGES[2])
 
 
 def texts() -> List[str]:
@@ -65,6 +69,39 @@ def examples(cases: Cases, program: str) -> None:
         cases.prints(name, wanted, f'"$0" {command}', program)
 
 
+def in_man(command: str) -> Set[str]:
+    """The long options in the synopsis of a command."""
+    synopsis = TOOL[TOOL.index(".Sh SYNOPSIS"):TOOL.index(".Sh DESCRIPTION")]
+    parts = [it for it in synopsis.split("\n.Nm\n") if it.startswith(f".Cm {command}\n")]
+    return {it for part in parts for it in re.findall(r"Fl -([a-z-]+)", part)}
+
+
+def defaults_in_man(command: str) -> List[str]:
+    """The numbers that a command's paragraphs call a default."""
+    text = TOOL[TOOL.index(".Sh DESCRIPTION"):]
+    (part,) = re.findall(rf"(?ms)^\.It Cm {command}\n(.*?)(?=^\.It Cm |^\.El$)", text)
+    return sorted(re.findall(r"\(([\d.]+) by default", part))
+
+
+def options_of(command: str) -> Dict[str, argparse.Action]:
+    """The options of a command of sokotool by their long names."""
+    actions = parser_for([command])._actions  # pylint: disable=protected-access
+    (commands,) = (it.choices for it in actions if isinstance(it.choices, dict))
+    found = commands[command]._actions  # pylint: disable=protected-access
+    return {it[2:]: action for action in found for it in action.option_strings if it[:2] == "--"}
+
+
+def options(cases: Cases) -> None:
+    """Two cases for each command of sokotool: the page has its options, and their defaults."""
+    for command in COMMANDS:
+        found = options_of(command)
+        cases.same(f"the options of {command}", " ".join(sorted(found.keys() - {"help", "output"})),
+                   " ".join(sorted(in_man(command) - {"output"})))
+        helped = " ".join(it.help or "" for it in found.values())
+        defaults = sorted(re.findall(r"\(default ([\d.]+)", helped))
+        cases.same(f"the defaults of {command}", str(defaults), str(defaults_in_man(command)))
+
+
 (program,) = arguments("manual PROGRAM")
 cases, _folder = Cases("manual"), enter_folder()
 cases.demands("make")
@@ -76,6 +113,7 @@ for name in sorted(set(re.findall(r"[A-Za-z]+\.antt", read(f"{TOP}/HACKING.md"))
     cases.holds(f"HACKING.md names {name}",
                 glob.glob(f"{TOP}/crates/*/[sp]*/**/{name}", recursive=True))
 named(cases)
+options(cases)
 examples(cases, program)
 lint = """{ mandoc -T lint "$0" || true; } |
     sed '/referenced manual not found: Xr soko/d' | diff - /dev/null"""

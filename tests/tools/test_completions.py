@@ -11,6 +11,14 @@ from tests.tools import helping
 from tests.tools.helping import TOP, Case
 
 FILES = ["a b.xsb", "c.txt"]
+# what bash offers after the words of a line, the last of which is cut
+TYPED = {
+    "sokotool conv": {"convert"}, "sokotool help me": {"merge"}, "sokotool --v": {"--version"},
+    "sokotool convert --s": {"--split"}, "sokotool convert --best m": {"moves"},
+    "sokotool convert out a": {"a b.xsb"}, "sokoaudit au": {"audit"},
+    "sokoaudit help ma": {"make"}, "sokoaudit audit a": {"a b.xsb"},
+    "sokoaudit audit levels c": {"c.txt"}, "sokoaudit make -- -": {"-old.xsb"},
+}
 # what bash offers for the last of some words
 BASH = r"""
 . "$0" && COMP_WORDS=("$@") COMP_CWORD=$(($# - 1))
@@ -147,6 +155,11 @@ class Completions(Case):
 
     def test_bash(self) -> None:
         self.compare("bash")
+
+    def test_typed_words(self) -> None:
+        self.write("-old.xsb", "")
+        for line, offered in TYPED.items():
+            self.assertEqual(self.bash(*line.split()), offered, line)
 
     def test_zsh(self) -> None:
         self.compare("zsh")

@@ -2,7 +2,6 @@
 import errno
 import glob
 import os
-import re
 import signal
 import stat
 import subprocess
@@ -11,7 +10,7 @@ import time
 import unittest.mock
 import zipfile
 
-from sokotool import answers, levels, main
+from sokotool import answers, levels
 
 from .helping import ONE, TOP, Case, Result, is_slow, needs_a_memory_limit, not_on_windows
 
@@ -439,22 +438,6 @@ class Words(Case):
         self.assertEqual(self.tool("help").out, self.tool("--help").out)
         self.assertEqual(self.tool("help", "convert").out, self.tool("convert", "--help").out)
         self.assertEqual(self.tool("help", "nothing").status, 2)
-
-    def test_completions(self) -> None:
-        offers = (". \"$0\"; COMP_WORDS=(sokotool \"$@\"); COMP_CWORD=$#; _sokotool; "
-                  "printf '%s\\n' \"${COMPREPLY[@]}\"")
-        self.write("my levels.xsb", ONE)
-        for typed, offered in ((("conv",), "convert"), (("help", "me"), "merge"),
-                               (("convert", "out", "my"), "my levels.xsb"),
-                               (("convert", "--s"), "--split"),
-                               (("convert", "--best", "m"), "moves"), (("--v",), "--version")):
-            ran = subprocess.run(["bash", "-c", offers, TOP + "/completions/sokotool.bash", *typed],
-                                 stdout=subprocess.PIPE, check=True)
-            self.assertEqual(ran.stdout.decode(), offered + "\n")
-        for file in ("sokotool.bash", "_sokotool", "sokotool.fish"):
-            with open(f"{TOP}/completions/{file}", encoding="utf-8") as text:
-                words = set(re.findall("[a-z]+", text.read()))
-            self.assertLessEqual(set(main.COMMANDS), words, file)
 
     def test_no_false_alarms(self) -> None:
         for text in (ONE + "Solution 1/1\nR\nSolution comment: hello\n",
