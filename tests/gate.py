@@ -85,11 +85,7 @@ WRONG = {
     "tests/run mutants /bin/true 0/4": "there is no share 0/4\nstatus 1\n",
     "bench/run none": "bench/run: there is no program none\nstatus 1\n",
     "bench/run /bin/true none": "bench/run: there is no program none\nstatus 1\n",
-    "tests/run mutants /bin/true no.edit": """mutants: FAILED: no.edit can be applied
-    [Errno 2] No such file or directory: 'no.edit'
-0 passed, 1 failed
-status 1
-""",
+    "tests/run mutants /bin/true nothing": "there is no fault nothing\nstatus 1\n",
 }
 GIVEN = {"HOME": "/a b", "PATH": "/usr/bin:/bin", "TERM": '"', "https_proxy": "$x"}
 
@@ -132,7 +128,7 @@ def at_once(cases: Cases) -> None:
 
 def whole(cases: Cases) -> None:
     """Cases: the gate runs each part, each share of one, and what is timed; these are all tests
-    and edits."""
+    and planted faults, and no two faults have the same name."""
     for name in (".ci/run", "tests/bare"):
         os.makedirs(os.path.dirname(name), exist_ok=True)
         write(name, read(f"{TOP}/{name}"))
@@ -163,8 +159,11 @@ def whole(cases: Cases) -> None:
     wanted = [f"{os.path.basename(it)[:-3]}.{method}" for it in glob.glob(f"{TOP}/tests/tools/*.py")
               for method in re.findall(r"(?m)^    def (test_\w+)", read(it))]
     cases.same("the shares have all tests", str(sorted({*wanted})), str(sorted(found)))
-    edits = [it for word in shares["mutants"] for it in mutants.picked([word])]
-    cases.same("the shares have all edits", str(mutants.picked([])), str(sorted(edits)))
+    faults = [it.name for word in shares["mutants"] for it in mutants.picked([word])]
+    cases.same("the shares have all faults", str(sorted(it.name for it in mutants.every_fault())),
+               str(sorted(faults)))
+    twice = [name for name, count in Counter(faults).items() if count > 1]
+    cases.same("each fault has a name of its own", "[]", str(twice))
 
 
 def variables(cases: Cases) -> None:

@@ -1,21 +1,22 @@
-"""tests/run mutants PROGRAM [EDIT..]: plants the faults of tests/must-fail, or those named, one at
-a time in a copy of this tree, and runs the part or the test that has to fail there. 'timed' names
-those whose test measures time, and 2/3 a share of the others. Ends in 'N passed, M failed'.
+"""tests/run mutants PROGRAM [FAULT..]: plants the faults of tests/must-fail, all or some, one at a
+time in a copy of this tree, and runs the part or the test that has to fail there. A word is the
+name of a fault, or a source for all of its faults; 'timed' names those whose test measures time,
+and 2/3 a share of the others. Ends in 'N passed, M failed'.
 
-An edit is a file NAME.edit, named after what the broken code does, with the lines
+The faults of a source PATH are in tests/must-fail/PATH.faults, with an empty line between two. Each
+has the lines
 
-- file: the file that it changes
+- fault: its name, which says what the broken code does
 - test: what tests/run is given, with PROGRAM for the program and PAGE for the page made anew
 - needs: commands without which it is skipped; perhaps no such line
-- old: and new: in pairs: a text in one line, which the file has once, and what replaces it
+- old: and new: in pairs: a text in one line, which the source has once, and what replaces it
 
-A case fails if the edit can't be applied, if the test passes, or if it doesn't run to its end. One
-more case for each part of the tests: without an edit all that is named passes, and of the page, the
+A case fails if the fault can't be planted, if the test passes, or if it doesn't run to its end. One
+more case for each part of the tests: without a fault all that is named passes, and of the page, the
 one made anew is sokoaudit.html, which tests/run page tests."""
 import ast
 import base64
 import contextlib
-import glob
 import os
 import re
 import resource
@@ -28,7 +29,7 @@ import time
 from collections import defaultdict
 from concurrent.futures import ThreadPoolExecutor
 from queue import Queue
-from typing import Dict, Iterable, List, NamedTuple, Set, Tuple
+from typing import Dict, Iterable, Iterator, List, NamedTuple, Set, Tuple
 
 from tests.runner import (TOP, Cases, arguments, decode, is_share, processes, read, run,
                           share_of, write)
@@ -36,55 +37,66 @@ from tests.runner import (TOP, Cases, arguments, decode, is_share, processes, re
 COUNTS = re.compile(r"(\d+) passed, (\d+) failed(?:, (\d+) skipped)?")
 # a clone may be below any folder
 HARD = """mutants 'o"k' $x ü """
+FAULTS, END = f"{TOP}/tests/must-fail", ".faults"
 LIMIT = 1200  # seconds, on a machine that others keep busy too
 # the page is made of these
 PAGE_PARTS = ("tools/page/", "tools/sokotool/viewer/", "packaging/ports/inline")
 MADE_OF = r"Made of the sources <code>(\w+)</code> by <code>(.*?)</code>"
 
 
-class Edit(NamedTuple):
-    """An edit: the file, the words of the test, the commands that it needs, and the pairs."""
+class Fault(NamedTuple):
+    """A fault: the file that it changes, the words of the test, the commands that it needs, and the
+    pairs. One that has other lines than it has to have has no pairs."""
     name: str
     file: str
     test: str
-    needs: List[str]
-    pairs: List[Tuple[str, str]]
+    needs: Tuple[str, ...]
+    pairs: Tuple[Tuple[str, str], ...]
 
 
-class BadEdit(Exception):
-    """Why an edit can't be applied."""
+class BadFault(Exception):
+    """Why a fault can't be planted."""
 
 
-def read_edit(path: str) -> Edit:
-    """Reads the file of an edit."""
-    fields: Dict[str, List[str]] = defaultdict(list)
-    for line in read(path).splitlines():
-        kind, _, text = line.partition(": ")
-        fields[kind.rstrip(":")].append(text)
-    name = os.path.basename(path)
-    if len(fields["file"]) != 1 or len(fields["test"]) != 1 or not fields["old"] or (
-            len(fields["old"]) != len(fields["new"]) or len(fields["needs"]) > 1
-            or not fields.keys() <= {"file", "test", "needs", "old", "new"}):
-        raise BadEdit("its lines are file, test, perhaps needs, and pairs of old and new")
-    return Edit(name, fields["file"][0], fields["test"][0], " ".join(fields["needs"]).split(),
-                [*zip(fields["old"], fields["new"])])
+def read_faults(path: str) -> Iterator[Fault]:
+    """The faults of a file."""
+    for text in read(path).rstrip("\n").split("\n\n"):
+        fields: Dict[str, List[str]] = defaultdict(list)
+        for line in text.split("\n"):
+            kind, _, rest = line.partition(": ")
+            fields[kind.rstrip(":")].append(rest)
+        pairs = (*zip(fields["old"], fields["new"]),)
+        count = {kind: len(it) for kind, it in fields.items() if it}
+        wanted = {"fault": 1, "test": 1, "old": len(pairs), "new": len(pairs)}
+        is_so = {**count, "needs": 1} == {**wanted, "needs": 1}
+        source = os.path.relpath(path, FAULTS)[:-len(END)]
+        yield Fault("".join(fields["fault"]), source, "".join(fields["test"]),
+                    (*" ".join(fields["needs"]).split(),), pairs if is_so else ())
 
 
-def apply(edit: Edit) -> str:
-    """Returns the text of the edited file."""
-    path = f"{TOP}/{edit.file}"
+def every_fault() -> List[Fault]:
+    """All faults, by the names of their files."""
+    paths = (f"{at}/{it}" for at, _, names in os.walk(FAULTS) for it in names if it.endswith(END))
+    return [it for path in sorted(paths) for it in read_faults(path)]
+
+
+def planted(fault: Fault) -> str:
+    """Returns the text of the file with the fault."""
+    path = f"{TOP}/{fault.file}"
     if not os.path.isfile(path):
-        raise BadEdit(f"there is no file {edit.file}")
+        raise BadFault(f"there is no file {fault.file}")
+    if not fault.pairs:
+        raise BadFault("its lines are fault, test, perhaps needs, and pairs of old and new")
     text = read(path)
-    for old, new in edit.pairs:
+    for old, new in fault.pairs:
         if text.count(old) != 1:
-            raise BadEdit(f"{edit.file} has {text.count(old)} times: {old}")
+            raise BadFault(f"{fault.file} has {text.count(old)} times: {old}")
         text = text.replace(old, new)
-    if edit.file.endswith(".py") or re.match("#!.*python", text):
+    if fault.file.endswith(".py") or re.match("#!.*python", text):
         try:
             ast.parse(text)
         except SyntaxError as error:
-            raise BadEdit(f"it is no Python any more: {error}") from error
+            raise BadFault(f"it is no Python any more: {error}") from error
     return text
 
 
@@ -199,22 +211,30 @@ def together(tests: Iterable[str]) -> List[str]:
             for part, names in parts.items()]
 
 
-def picked(words: List[str]) -> List[str]:
-    """The files of the edits that are named. Those with the same test are in one share."""
-    if words != ["timed"] and not is_share(words):
-        return words or sorted(glob.glob(f"{TOP}/tests/must-fail/*"))
-    tests: Dict[str, List[str]] = defaultdict(list)
-    for path in picked([]):
-        tests["".join(re.findall("(?m)^test: (.*)", read(path)))].append(path)
-    timed = [it for it in tests if it.startswith("speed ")]
-    names = timed if words == ["timed"] else share_of(sorted({*tests} - {*timed}), words[0])
-    return [path for it in names for path in tests[it]]
+def picked(words: List[str]) -> List[Fault]:
+    """The faults that are named, or all. Those with the same test are in one share."""
+    every = every_fault()
+    if words == ["timed"] or is_share(words):
+        tests = sorted({it.test for it in every})
+        timed = [it for it in tests if it.startswith("speed ")]
+        untimed = [it for it in tests if it not in timed]
+        chosen = {*(timed if words == ["timed"] else share_of(untimed, words[0]))}
+        return [it for it in every if it.test in chosen]
+    found = []
+    for word in words:
+        source = os.path.relpath(word.replace(f"{FAULTS}/", f"{TOP}/"), TOP)
+        named = [it for it in every
+                 if it.name == word or it.file in (source, source[:-len(END)])]
+        if not named:
+            sys.exit(f"there is no fault {word}")
+        found += named
+    return found if words else every
 
 
-def judge(cases: Cases, edit: Edit, result: Tuple[str, str]) -> None:
-    """A case: the test fails with the edit."""
+def judge(cases: Cases, fault: Fault, result: Tuple[str, str]) -> None:
+    """A case: the test fails with the fault."""
     said, numbers = result
-    found, name = COUNTS.fullmatch(numbers), f"{edit.name}: {edit.test}"
+    found, name = COUNTS.fullmatch(numbers), f"{fault.name}: {fault.test}"
     if not found:
         cases.holds(f"{name} runs to its end", False, *said.splitlines()[-20:])
     elif cases.holds(f"{name} fails", found[2] != "0", numbers):
@@ -223,10 +243,10 @@ def judge(cases: Cases, edit: Edit, result: Tuple[str, str]) -> None:
 
 
 def judge_whole(cases: Cases, test: str, result: Tuple[str, str]) -> None:
-    """A case: without an edit the test passes."""
+    """A case: without a fault the test passes."""
     said, numbers = result
     found = COUNTS.fullmatch(numbers)
-    cases.holds(f"without an edit: {test}", found and found[1] != "0" and found[2] == "0",
+    cases.holds(f"without a fault: {test}", found and found[1] != "0" and found[2] == "0",
                 *said.splitlines()[-20:])
 
 
@@ -234,36 +254,35 @@ def main() -> None:
     """Runs the part."""
     began = time.monotonic()
     signal.signal(signal.SIGTERM, lambda *_: sys.exit(143))
-    program, *named = arguments("mutants PROGRAM [EDIT..]")
-    cases, edits, texts = Cases("mutants"), [], {}
-    for path in picked(named):
+    program, *named = arguments("mutants PROGRAM [FAULT..]")
+    cases, faults, texts = Cases("mutants"), [], {}
+    for fault in picked(named):
+        lacks = [it for it in fault.needs if not shutil.which(it)]
         try:
-            edit = read_edit(path)
-            texts[edit.name] = apply(edit)
-            edits.append(edit)
-        except (BadEdit, OSError) as error:
-            cases.holds(f"{os.path.basename(path)} can be applied", False, str(error))
-    for edit in edits[:]:
-        lacks = [it for it in edit.needs if not shutil.which(it)]
-        if lacks:
-            cases.skip(edit.name, f"there is no command {lacks[0]}")
-            edits.remove(edit)
-    if not edits:
+            texts[fault] = planted(fault)
+        except BadFault as error:
+            cases.holds(f"{fault.name} can be planted", False, f"{fault.file}{END}: {error}")
+        else:
+            if lacks:
+                cases.skip(fault.name, f"there is no command {lacks[0]}")
+            else:
+                faults.append(fault)
+    if not faults:
         cases.finish()
     with tempfile.TemporaryDirectory(prefix=HARD) as room:
-        trees, tests = Trees(program, room), [it.test for it in edits]
+        trees, tests = Trees(program, room), [it.test for it in faults]
         if any(map(is_of_page, tests)):
             make_page(f"{room}/0")
-            cases.holds("without an edit the page that is made is this one",
+            cases.holds("without a fault the page that is made is this one",
                         read(f"{room}/0/sokoaudit.html") == read(f"{TOP}/sokoaudit.html"))
         with ThreadPoolExecutor(trees.count) as pool:
             before = {it: pool.submit(trees.test, it) for it in together(tests)}
-            after = [pool.submit(trees.test, it.test, it.file, texts[it.name]) for it in edits]
+            after = [pool.submit(trees.test, it.test, it.file, texts[it]) for it in faults]
             try:
                 for test, result in before.items():
                     judge_whole(cases, test, result.result())
-                for edit, result in zip(edits, after):
-                    judge(cases, edit, result.result())
+                for fault, result in zip(faults, after):
+                    judge(cases, fault, result.result())
             except BaseException:  # an interrupt, or the gate ends
                 for result in [*before.values(), *after]:
                     result.cancel()
@@ -271,7 +290,7 @@ def main() -> None:
                     end(group)
                 raise
     used = resource.getrusage(resource.RUSAGE_CHILDREN)
-    cases.say(f"{len(edits)} edits in {time.monotonic() - began:.0f} s, with "
+    cases.say(f"{len(faults)} faults in {time.monotonic() - began:.0f} s, with "
               f"{used.ru_utime + used.ru_stime:.0f} s of the processors")
     cases.finish()
 
