@@ -17,6 +17,7 @@ TABLE = f"{TOP}/bench/limits.table"
 TRIES = 5
 MORE = 2.2  # how many times as long a run may take as the table says, since others use the machine
 MORE_ROOM = 1.2  # how many times as much memory it may take
+LESS = 5  # how many times less it may take, until the table has to be printed anew
 WORK = b"".join(b"%d,%d %d,%d @ *\n" % (i % 7, i % 255, i % 31, i % 101) for i in range(20000))
 
 
@@ -102,8 +103,9 @@ def measured(command: str) -> Limit:
 
 
 def judge(cases: Cases, name: str, command: str, unit: Work = work) -> None:
-    """Three cases: a run of the command prints what the table says; it does so within its memory;
-    and it takes no more processor time. The machine may be busy, so there are several tries."""
+    """Four cases: a run of the command prints what the table says; it does so within its memory; it
+    takes no more processor time; and the table says not much more than that, for a limit that is
+    too high notices nothing. The machine may be busy, so there are several tries."""
     limit = read_limits().get(name, Limit(0, 0, "bench/limits.table doesn't have it"))
     found = call(command.split())
     cases.same(f"{name}: what it prints", limit.said, short(found) + decode(found.errors))
@@ -116,3 +118,6 @@ def judge(cases: Cases, name: str, command: str, unit: Work = work) -> None:
         if used <= most:
             break
     cases.holds(f"{name}: up to {most:.2f} units", used <= most, f"{used:.2f}")
+    is_tight = limit.units <= LESS * used and within(command, limit.room // LESS) != found
+    cases.holds(f"{name}: its limits are not {LESS} times too high", is_tight,
+                f"{used:.3f} units; bench/run --limits prints the table anew")

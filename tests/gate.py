@@ -29,6 +29,11 @@ PLANTED = (
     ("echo 5 passed, 0 failed; kill -SEGV $$", 5, "5 passed, 1 failed"),
     ("echo 5 passed, 2 failed", 5, "5 passed, 3 failed"),
     ("echo 5 passed, 0 failed; echo more", 5, "0 passed, 1 failed"),
+    ("echo 5 passed, 0 failed", 3, "5 passed, 0 failed"),
+    ("echo 6 passed, 0 failed", 3, "6 passed, 1 failed"),
+    ("echo p: q: FAILED: it; echo 5 passed, 0 failed", 5, "5 passed, 1 failed"),
+    ("echo p: q: FAILED: it; echo 4 passed, 1 failed; exit 1", 5, "4 passed, 1 failed"),
+    ("echo '    p: FAILED: it'; echo 5 passed, 0 failed", 5, "5 passed, 0 failed"),
     ("exit 0", 0, "0 passed, 1 failed"),
     ("echo Traceback; exit 1", 0, "0 passed, 1 failed"),
     ("kill -KILL $PPID; exit 0", 0, "0 passed, 1 failed"),
@@ -42,8 +47,8 @@ MEETS = f"touch {{}}; {UNTIL}; {UNTIL.format('go')}; echo 1 passed, 0 failed"
 LOCKS = "mkdir lock && sleep 0.5 && rmdir lock && echo 1 passed, 0 failed"
 AT_ONCE = {
     "parts are printed as they end": (f"""
-        begin 1 bash -c '{UNTIL.format("counted")}; echo 5 passed, 1 failed; exit 1'
-        begin 1 bash -c 'echo 2 passed, 0 failed'
+        begin 6 bash -c '{UNTIL.format("counted")}; echo 5 passed, 1 failed; exit 1'
+        begin 2 bash -c 'echo 2 passed, 0 failed'
         while [ ${{#names[@]}} = 2 ]; do count_ended; done
         touch counted
         """, "2 passed, 0 failed" + "/5 passed, 1 failed" * 2 + "/7 passed, 1 failed"),
@@ -60,12 +65,12 @@ AT_ONCE = {
         """, "1 passed, 0 failed/1 passed, 0 failed/2 passed, 0 failed"),
     "one runs alone": ("""
         begin 1 bash -c 'sleep 0.5; touch end; echo 1 passed, 0 failed'
-        part 1 bash -c '[ -e end ] && echo 2 passed, 0 failed'
+        part 2 bash -c '[ -e end ] && echo 2 passed, 0 failed'
         """, "1 passed, 0 failed/2 passed, 0 failed/3 passed, 0 failed"),
     "one has no numbers": ("""
         begin 1 bash -c 'exit 0'
-        begin 1 bash -c 'echo 2 passed, 0 failed'
-        begin 1 bash -c 'echo 2 passed, 0 failed'
+        begin 2 bash -c 'echo 2 passed, 0 failed'
+        begin 2 bash -c 'echo 2 passed, 0 failed'
         """, "2 passed, 0 failed/2 passed, 0 failed/4 passed, 1 failed"),
 }
 # what stands for tests/counts and says what the gate begins
@@ -98,7 +103,7 @@ def counting(cases: Cases) -> None:
         status = int(" 0 failed" not in wanted)
         cases.same(f"the status of: {command}", f"status {status}", said[-1])
     command = f"{BUSY}echo p: skipped: what: why; echo 2 passed, 0 failed, 1 skipped"
-    line = shell(RUN, "bash", "1", "bash", "-c", command).splitlines()[-3]
+    line = shell(RUN, "bash", "2", "bash", "-c", command).splitlines()[-3]
     row = re.fullmatch(r"bash -c i=0; .* 2       0        1 +([\d.]+)  why", line)
     cases.holds("the table says seconds and reasons", row and float(row[1]) > 0.1, line)
     words = "echo", "crates/a/out/b", "crates/c/out/d", "2/3"
@@ -139,6 +144,9 @@ def whole(cases: Cases) -> None:
         os.symlink("/bin/true", f"packaging/{name}")
     usage = "usage: .ci/run; tests/run runs a part\nstatus 2\n"
     cases.same("an option begins no gate", usage, shell("bash .ci/run --help"))
+    write("tests/failing.sh", "exit 1")
+    cases.same("what counts no failure begins no gate", "status 1\n", shell("bash .ci/run"))
+    write("tests/failing.sh", "")
     said = shell("bash .ci/run").splitlines()
     begun = [it.split()[1:] for it in said if it.startswith("tests/run ")]
     heads = (re.match(r'"""tests/run (\w+)', read(it))

@@ -1,8 +1,8 @@
 """tests/run manual PROGRAM: compares the man pages with the programs. They have every text that the
 sources of sokoaudit can print, their examples show what it prints, and the page of sokotool has the
-options and defaults of its parser; mandoc, if it is installed, finds no fault in them. The files
-that HACKING.md names exist, and the definitions and lemmas that pages name in brackets. Ends in
-'N passed, M failed'."""
+options and defaults of its parser; mandoc, if it is installed, finds no fault in them. There are
+the files that HACKING.md names, the definitions and lemmas that pages name in brackets, and what
+pages and examples use of the header for C. Ends in 'N passed, M failed'."""
 import argparse
 import glob
 import os
@@ -69,6 +69,17 @@ def examples(cases: Cases, program: str) -> None:
         cases.prints(name, wanted, f'"$0" {command}', program)
 
 
+def header(cases: Cases) -> None:
+    """A case: the header for C has the names that examples, pages and the module of Python use."""
+    names = re.compile(r"SOKOAUDIT_(?!QUIET)[A-Z_]*[A-Z]")
+    using = [it for like in ("examples/*.c", "docs/*.md", "include/*.py")
+             for it in glob.glob(f"{TOP}/{like}")]
+    used = {it for file in using for it in names.findall(read(file))}
+    known = re.findall(r"(?m)^(?:#define|   ) (SOKOAUDIT_\w+)", read(f"{TOP}/include/sokoaudit.h"))
+    lost = sorted(used - {*known})
+    cases.holds("the header has the names that are used", len(used) > 5 and not lost, *lost)
+
+
 def in_man(command: str) -> Set[str]:
     """The long options in the synopsis of a command."""
     synopsis = TOOL[TOOL.index(".Sh SYNOPSIS"):TOOL.index(".Sh DESCRIPTION")]
@@ -114,6 +125,7 @@ for name in sorted(set(re.findall(r"[A-Za-z]+\.antt", read(f"{TOP}/HACKING.md"))
                 glob.glob(f"{TOP}/crates/*/[sp]*/**/{name}", recursive=True))
 named(cases)
 options(cases)
+header(cases)
 examples(cases, program)
 lint = """{ mandoc -T lint "$0" || true; } |
     sed '/referenced manual not found: Xr soko/d' | diff - /dev/null"""

@@ -16,6 +16,7 @@ from tests.runner import TOP, Cases, call, decode, enter_folder, read, run, shel
 # program PROGRAM seconds, where these are set.
 TREE = r"""
 mkdir -p tree/samples bin plain bare 'else where' tree/crates/{low,arguments,sokoaudit}/src
+mkdir tree/crates/low/{specs,proofs} && touch tree/crates/low/{specs,proofs}/Low.antt
 chmod 755 .
 ln -sf /usr/bin/* /bin/* plain && rm -f plain/rt
 ln -s /bin/{cat,dirname,readlink} bare
@@ -154,6 +155,13 @@ case("a run with nothing new reports nothing", 1, "one one one|HERE|refused", ""
 case("and builds nothing", 0, "1", "", "builds")
 case("a run after an edit takes the new sources", 0, "two one one|HERE|a", "proved sokoaudit",
      "edit two; $run a")
+for what, file in (("a definition", "crates/low/specs/Low.antt"), ("the crates", "crates.txt"),
+                   ("a lemma", "crates/low/proofs/Low.antt")):
+    case(f"a run after an edit of {what} builds", 0, "two one one|HERE|a", "proved sokoaudit",
+         f"echo >>$tree/{file}; $run a")
+other = "printf '#!/bin/sh\\necho other' >$tree/crates/sokoaudit/out/sokoaudit"
+case("another program in its place is built anew", 0, "two one one|HERE|a", "proved sokoaudit",
+     f"{other}; $run a")
 asked = "echo $(grep -o 'jobs.*' $tree/lanes | sort)"
 case("in as many jobs as JOBS says, and half as many for what is proved beside", 0, "jobs 2 jobs 3",
      "proved", f"edit six; rm $tree/lanes; JOBS=3 $run a >/dev/null; {asked}")
@@ -232,6 +240,10 @@ case("no file is left in the repository", 1, "", "", "git -C $tree status --porc
 case("without the toolchain a built program runs", 0, "four one one|HERE|a",
      "perhaps of other sources", f"{LACKS} $run a")
 case("and help needs none", 0, help, "", f"{LACKS} $run --help")
+for target, tested in (("lib", "library crates/sokoaudit/out/sokoaudit out/lib"),
+                       ("dist", "packages crates/sokoaudit/out")):
+    case(f"make {target} tests what it makes", 0, f"tests/run {tested}", "",
+         f"make -s -n -C $tree {target} | tail -n 1")
 case("make needs it", 2, "", "the command rt of the Rattle toolchain is not on the PATH",
      f"{LACKS} $tree/packaging/build")
 case("an old C library", 2, "", "glibc 2.34 or later",
