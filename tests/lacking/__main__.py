@@ -1,7 +1,8 @@
 """tests/run lacking PROGRAM [TEST..]: the tests of sokotool once more, without what Windows lacks
 and without what macOS lacks, side by side. PROGRAM is the sokoaudit that they run. Left out are the
-tests that need a browser, take long or measure time, and those that only work on texts in memory. A
-Python 3.8 is used where there is one. Ends in 'N passed, M failed'.
+tests that need a browser, take long or measure time, and those that only work on texts in memory.
+The oldest Python from 3.8 on that this machine has lacks what Windows lacks, and the newest what
+macOS lacks. Ends in 'N passed, M failed'.
 
 What is simulated: functions and modules that are missing, new processes that start anew, \\ as
 os.sep, a rename that replaces no file, commands by PATHEXT, names of devices, a file that can't be
@@ -18,8 +19,9 @@ import os
 import re
 import shutil
 import sys
+from typing import List
 
-from tests.runner import TOP, Cases, arguments, run, work_in_memory
+from tests.runner import NAMES, TOP, Cases, arguments, chosen, run, work_in_memory
 
 TESTS = [f"test_{it}" for it in (
     "auditor", "beside", "check", "commands", "convert", "files", "find", "friends", "page", "pyz",
@@ -42,19 +44,26 @@ def without(cases: Cases, system: str, python: str, *words: str) -> None:
                 cases.say(line)
 
 
-def python_of_old() -> str:
-    """The oldest Python that runs sokotool, 3.8, if this machine has it, or the one that runs."""
+def pythons() -> List[str]:
+    """A Python of each version from 3.8 on that this machine has, the oldest first, or the one that
+    runs."""
     home = os.environ.get("PYENV_ROOT", os.path.expanduser("~/.pyenv"))
-    found = [shutil.which("python3.8"), *glob.glob(f"{home}/versions/3.8.*/bin/python3.8")]
-    runs = [it for it in found if it and run([it, "-c", ""]) == "status 0\n"]
-    return runs[0] if runs else sys.executable
+    found = []
+    for name in (f"python3.{number}" for number in range(8, 40)):
+        every = [shutil.which(name), *glob.glob(f"{home}/versions/*/bin/{name}")]
+        found += [it for it in every if it and run([it, "-c", ""]) == "status 0\n"][:1]
+    return found or [sys.executable]
 
 
 if __name__ == "__main__":
     program, *names = arguments("lacking PROGRAM [TEST..]")
+    names = names if names != [NAMES] else chosen(names, TESTS)
     work_in_memory()
     cases = Cases("lacking")
-    python = python_of_old()
-    cases.side_by_side({it: (without, it, python, program, *(names or TESTS))
-                        for it in ("windows", "macos")})
+    every = pythons()
+    python_of = {"windows": every[0], "macos": every[-1]}
+    for system, python in python_of.items():
+        cases.say(f"{system}: {run([python, '--version']).splitlines()[0]}")
+    cases.side_by_side({it: (without, it, python_of[it], program, *(names or TESTS))
+                        for it in python_of})
     cases.finish()
