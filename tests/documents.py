@@ -23,7 +23,7 @@ from shlex import quote
 from typing import Dict, Iterator, Mapping, Tuple
 
 from tests.definitions import CLAIMS, Specs
-from tests.runner import TOP, Cases, arguments, enter_folder, read, shell
+from tests.runner import TOP, Cases, arguments, chosen, enter_folder, read, shell
 
 # the least number of commands of each page that has some
 LEAST = {"README.md": 2, "certificates.md": 10, "keeping.md": 50, "solvers.md": 14}
@@ -102,10 +102,13 @@ def check_counts(cases: Cases, page: str) -> None:
 
 
 program, *pages = arguments("documents PROGRAM [PAGE..]")
+every = {os.path.basename(it): it
+         for it in (f"{TOP}/README.md", *sorted(glob.glob(f"{TOP}/docs/*.md")))}
+pages = [every[it] for it in chosen(pages, [*every])]
 cases, _folder = Cases("docs"), enter_folder()
 is_script = os.path.samefile(program, f"{TOP}/sokoaudit")
 variables = without_toolchain(cases) if is_script else {**os.environ, "SOKOAUDIT": program}
-for page in pages or [f"{TOP}/README.md", *sorted(glob.glob(f"{TOP}/docs/*.md"))]:
+for page in pages:
     run_page(cases, page, variables)
     check_counts(cases, page)
 cases.finish()

@@ -10,8 +10,8 @@ from shlex import quote
 from typing import Dict, List
 
 from tests import mutants
-from tests.runner import (TOP, Cases, arguments, call, decode, enter_folder, read, run, shell,
-                          write)
+from tests.runner import (TOP, Cases, arguments, call, chosen, decode, enter_folder, read, run,
+                          shell, write)
 from tests.tools import dealing
 
 # a part as a command of bash, the least number of its cases, and the numbers that the gate counts
@@ -91,6 +91,12 @@ WRONG = {
     "bench/run none": "bench/run: there is no program none\nstatus 1\n",
     "bench/run /bin/true none": "bench/run: there is no program none\nstatus 1\n",
     "tests/run mutants /bin/true nothing": "there is no fault nothing\nstatus 1\n",
+    "tests/run gate hole": "there is no hole; --names prints what there is\nstatus 1\n",
+    "tests/run reference.parts hinderd":
+        "there is no hinderd; --names prints what there is\nstatus 1\n",
+    "tests/run tables /bin/true zone": "there is no zone; --names prints what there is\nstatus 1\n",
+    "tests/run speed /bin/true crsh": "there is no crsh; --names prints what there is\nstatus 1\n",
+    "tests/run reference.parts --names": "samples\nhindered\nstatuses\nstatus 0\n",
 }
 GIVEN = {"HOME": "/a b", "PATH": "/usr/bin:/bin", "TERM": '"', "https_proxy": "$x"}
 
@@ -190,8 +196,9 @@ def wrong_words(cases: Cases) -> None:
 
 
 if __name__ == "__main__":
-    cases, named, _folder = Cases("gate"), arguments("gate [FUNCTION..]"), enter_folder()
-    for part in (counting, at_once, whole, variables, wrong_words):
-        if not named or part.__name__ in named:
-            part(cases)
+    parts = {it.__name__: it for it in (counting, at_once, whole, variables, wrong_words)}
+    named = chosen(arguments("gate [FUNCTION..]"), [*parts])
+    cases, _folder = Cases("gate"), enter_folder()
+    for name in named:
+        parts[name](cases)
     cases.finish()

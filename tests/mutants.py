@@ -31,8 +31,8 @@ from concurrent.futures import ThreadPoolExecutor
 from queue import Queue
 from typing import Dict, Iterable, Iterator, List, NamedTuple, Set, Tuple
 
-from tests.runner import (TOP, Cases, arguments, decode, is_share, processes, read, run,
-                          share_of, write)
+from tests.runner import (NAMES, TOP, Cases, arguments, chosen, decode, is_share, processes, read,
+                          run, share_of, write)
 
 COUNTS = re.compile(r"(\d+) passed, (\d+) failed(?:, (\d+) skipped)?")
 # a clone may be below any folder
@@ -218,10 +218,12 @@ def picked(words: List[str]) -> List[Fault]:
         tests = sorted({it.test for it in every})
         timed = [it for it in tests if it.startswith("speed ")]
         untimed = [it for it in tests if it not in timed]
-        chosen = {*(timed if words == ["timed"] else share_of(untimed, words[0]))}
-        return [it for it in every if it.test in chosen]
-    found = []
+        shared = {*(timed if words == ["timed"] else share_of(untimed, words[0]))}
+        return [it for it in every if it.test in shared]
+    found: List[Fault] = []
     for word in words:
+        if word == NAMES:
+            chosen(words, [it.name for it in every])
         source = os.path.relpath(word.replace(f"{FAULTS}/", f"{TOP}/"), TOP)
         named = [it for it in every
                  if it.name == word or it.file in (source, source[:-len(END)])]

@@ -11,6 +11,7 @@ import shutil
 import subprocess
 import sys
 import tempfile
+import time
 from concurrent.futures import ProcessPoolExecutor
 from pathlib import Path
 from typing import (Any, Callable, Dict, Iterator, List, Mapping, NamedTuple, Optional, Sequence,
@@ -18,6 +19,7 @@ from typing import (Any, Callable, Dict, Iterator, List, Mapping, NamedTuple, Op
 
 TOP = os.path.dirname(os.path.dirname(os.path.realpath(__file__)))
 MEMORY = "/dev/shm"
+NAMES = "--names"  # the word that lists what a part takes
 # the folder in memory: a process that Python 3.13 forks forgets all calls at its end, and would
 # remove a folder that these alone name
 _ROOMS: List["tempfile.TemporaryDirectory[str]"] = []
@@ -203,14 +205,30 @@ def read(name: str) -> str:
 
 def arguments(usage: str) -> List[str]:
     """The words of the command line, which the usage names after the part. The demanded ones come
-    first and have to be executable files. A name of an existing file becomes an absolute path."""
+    first and have to be executable files, but for --names alone. A name of an existing file becomes
+    an absolute path."""
     words, demanded = sys.argv[1:], usage.count(" ") - usage.count("[")
+    if words == [NAMES] and "[" in usage:
+        return [""] * demanded + words
     most = len(words) if ".." in usage else usage.count(" ")
     can_run = all(os.access(it, os.X_OK) for it in words[:demanded])
     if not demanded <= len(words) <= most or not can_run:
         sys.exit(f"usage: tests/run {usage}; 'make' builds the program of these sources, "
                  "crates/sokoaudit/out/sokoaudit")
     return [os.path.realpath(it) if os.path.exists(it) else it for it in words]
+
+
+def chosen(words: Sequence[str], every: Sequence[str]) -> List[str]:
+    """Those of these names that the words give, or all. A word may be the path of a file that has
+    such a name. One that is no name ends the part. With --names it prints them all and ends."""
+    names = [os.path.basename(it) for it in words]
+    if names == [NAMES]:
+        print(*every, sep="\n")
+        sys.exit()
+    for it in names:
+        if it not in every:
+            sys.exit(f"there is no {it}; --names prints what there is")
+    return names or [*every]
 
 
 def processes() -> int:
@@ -229,6 +247,11 @@ def share_of(every: Sequence[Any], word: str) -> Sequence[Any]:
     if not 0 < number <= count:
         sys.exit(f"there is no share {word}")
     return every[number - 1::count]
+
+
+def daily_seed() -> int:
+    """The seed of random tests that is new each day, such as 20300131, or what SEED says."""
+    return int(os.environ.get("SEED") or time.strftime("%Y%m%d"))
 
 
 def work_in_memory() -> None:

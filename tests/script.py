@@ -7,7 +7,7 @@ import subprocess
 import sys
 import time
 
-from tests.runner import TOP, Cases, call, decode, enter_folder, read, run, shell
+from tests.runner import TOP, Cases, arguments, call, decode, enter_folder, read, run, shell
 
 # A repository of three crates with the scripts of this one. Its toolchain writes a line into
 # 'builds' for each build, and into 'lanes' when a library begins, with its words, and when it ends.
@@ -53,6 +53,7 @@ python() {
     [ $# = 0 ] || printf '#!/bin/sh\n%s\n' "$1" | install -m 755 /dev/stdin $tree/../bin/python3
 }
 """
+arguments("script")
 cases, folder = Cases("script"), enter_folder()
 cases.demands("make", "git")
 room, help = os.path.realpath(folder.name), read(f"{TOP}/samples/help").partition("\n")[0]

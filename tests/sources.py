@@ -11,7 +11,7 @@ import tempfile
 from typing import Dict, Iterator, List, Sequence
 
 from sokotool.auditor import REFERENCE_NOTE
-from tests.runner import TOP, Cases, enter_folder, read, run
+from tests.runner import TOP, Cases, arguments, enter_folder, read, run
 
 LINTERS = {
     "pyflakes3": ["pyflakes3"],
@@ -144,6 +144,7 @@ def install(cases: Cases) -> None:
 
 def main() -> None:
     """Runs the cases of all scripts."""
+    arguments("sources")
     cases, found = Cases("sources"), scripts()
     sys.dont_write_bytecode = True
     os.chdir(TOP)

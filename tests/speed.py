@@ -1,34 +1,34 @@
 """tests/run speed PROGRAM [WORD..]: plants slow, greedy and broken programs, each of which
-bench/run has to find. Only those whose names have one of the words run. Ends in 'N passed, M
-failed'."""
+bench/run has to find, all or some by their names. Ends in 'N passed, M failed'."""
 import os
 from typing import List, Tuple
 
 from bench import timing
 from bench.measured import Case, Size, cases as bench_cases
-from tests.runner import Cases, arguments, enter_folder, write
+from tests.runner import Cases, arguments, chosen, enter_folder, write
 from tests.tables.rows import text
 
 # two cases, the second of which has the larger texts
 NAMES = "patterns with seeds on a board", "zones looked for in 10,000 levels"
-# what stands for $P, the program, and which of the three cases of each name fail
+HALF = "a_machine_half_as_fast"
+# what stands for $P, the program, and which of the cases of each name fail
 IS_SECOND = '[ "$1" = make ]'
 PLANTED = {
-    "the program": ('exec $P "$@"', "", ""),
-    "three times slower":
+    "the_program": ('exec $P "$@"', "", ""),
+    "slower":
         ('{ $P "$@"; $P "$@"; } >/dev/null; exec $P "$@"', "units", "units"),
-    "one case three times slower":
+    "one_case_slower":
         (f'! {IS_SECOND} || {{ $P "$@"; $P "$@"; }} >/dev/null; exec $P "$@"', "", "units"),
-    "twice the memory":
+    "memory":
         ('room=$(ulimit -v); [ $room = unlimited ] || ulimit -v $((room / 2)); exec $P "$@"',
          "KiB", "KiB"),
-    "one case with twice the memory":
+    "memory_of_one_case":
         (f'room=$(ulimit -v); [ $room = unlimited ] || ! {IS_SECOND} || ulimit -v $((room / 2)); '
          'exec $P "$@"', "", "KiB"),
-    "a crash": ('$P "$@"; kill -SEGV $$', "prints", "prints"),
-    "nothing is printed": ("exit 0", "prints", "prints"),
-    "another report": ('$P "$@"; echo more', "prints", "prints"),
-    "an error": ("echo answers line 1 header >&2; exit 2", "prints", "prints"),
+    "crash": ('$P "$@"; kill -SEGV $$', "prints", "prints"),
+    "nothing_printed": ("exit 0", "prints high", "prints high"),
+    "another_report": ('$P "$@"; echo more', "prints", "prints"),
+    "error": ("echo answers line 1 header >&2; exit 2", "prints high", "prints high"),
 }
 
 
@@ -57,7 +57,8 @@ def plant(program: str, lines: str) -> None:
 
 def main() -> None:
     """Runs the part."""
-    program, *named = arguments("speed PROGRAM [WORD..]")
+    program, *named = arguments("speed PROGRAM [NAME..]")
+    named = chosen(named, [*PLANTED, HALF])
     cases, room = Cases("speed"), enter_folder()
     plant(program, 'exec $P "$@"')  # it makes the answers of one of the cases
     picked = [next(it for it in bench_cases(Size(is_tenth=True)) if name in it.name)
@@ -69,10 +70,9 @@ def main() -> None:
 
     runs: List[Tuple[str, str, List[str], timing.Work]] = [
         (what, lines, wanted, timing.work) for what, (lines, *wanted) in PLANTED.items()]
-    half = '$P "$@" >/dev/null; exec $P "$@"'
-    runs.append(("a machine that is half as fast", half, ["", ""], twice))
+    runs.append((HALF, '$P "$@" >/dev/null; exec $P "$@"', ["", ""], twice))
     for what, lines, wanted, unit in runs:
-        if named and not any(it in what for it in named):
+        if what not in named:
             continue
         plant(program, lines)
         for case, words in zip(picked, wanted):

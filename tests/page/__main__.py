@@ -13,8 +13,8 @@ from tests.page import answering, forms, hostile, late, using
 from tests.page.comparing import HEADER, Comparison
 from tests.page.driving import Tab
 from tests.reference.fuzz import batches
-from tests.runner import (TOP, Cases, arguments, encode, enter_folder, is_share, read, run,
-                          run_in_turn, share_of, write)
+from tests.runner import (NAMES, TOP, Cases, arguments, chosen, daily_seed, encode, enter_folder,
+                          is_share, read, run, run_in_turn, share_of, write)
 from tests.tables.rows import rows, text
 from tests.tools import browser
 
@@ -60,11 +60,14 @@ def tables(check: Comparison) -> None:
 
 
 def random_cases(check: Comparison) -> None:
-    """Random texts, whole and torn. The torn ones aren't drawn."""
-    for i, (_, (levels, answers), form) in enumerate(batches(random.Random(SEED), RANDOM)):
-        if answers.startswith(b"sokoban-answers"):
-            check.draws(form == "whole")
-            check.audit(f"random {form} {i}", levels, answers)
+    """Random texts, whole and torn, of a fixed seed and of a new one each day. The torn ones aren't
+    drawn."""
+    for seed, count in ((SEED, RANDOM), (daily_seed(), 100)):
+        cases.say(f"random texts of the seed {seed}")
+        for i, (_, (levels, answers), form) in enumerate(batches(random.Random(seed), count)):
+            if answers.startswith(b"sokoban-answers"):
+                check.draws(form == "whole")
+                check.audit(f"random {form} {i} of the seed {seed}", levels, answers)
 
 
 def bench(check: Comparison) -> None:
@@ -150,12 +153,11 @@ def test(page: str, wanted: Sequence[str]) -> None:
 program, *named = arguments("page PROGRAM [SHARE|timed|PAGE [PART..]]")
 share = named.pop(0) if is_share(named) or named == ["timed"] else ""
 cases, _room = Cases("page"), enter_folder()
-given = [os.path.abspath(it) for it in named[:1]]
+given = [os.path.abspath(it) for it in named[:1] if it != NAMES]
 if not given and not cases.holds("sokoaudit.html is there", os.path.exists(KEPT)):
     cases.finish()
-# a part may have the name of a folder
-wanted = TIMED if share == "timed" else share_of(UNTIMED, share) if share else [
-    os.path.basename(word) for word in named[1:]] or [*UNTIMED, *TIMED]
+wanted = TIMED if share == "timed" else share_of(UNTIMED, share) if share else chosen(
+    named[len(given):], [*UNTIMED, *TIMED])
 if not browser.PROGRAM:
     cases.skip("sokoaudit.html in a browser", "there is no chromium", NUMBER)
 else:

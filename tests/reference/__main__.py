@@ -1,6 +1,7 @@
 """tests/run reference PROGRAM [LIBRARY]: compares the program, and the library for C if its file is
-named, with the reference on the samples and on 3,000 random cases of a fixed seed, and with a
-search on all small levels. Takes minutes. Ends in 'N passed, M failed'."""
+named, with the reference on the samples and on random cases of a fixed seed and of one that is new
+each day (SEED=20300131 tests/run .. gives another), and with a search on all small levels. Takes
+minutes. Ends in 'N passed, M failed'."""
 from tests.reference import claims, parts
 from tests.runner import Cases, arguments
 

@@ -9,7 +9,7 @@ import unittest.mock
 from tests.inputs import LEVELS
 from tests.reference import fuzz
 from tests.reference.comparing import Comparison
-from tests.runner import TOP, Cases, arguments, enter_folder, read, run, write
+from tests.runner import TOP, Cases, arguments, chosen, daily_seed, enter_folder, read, run, write
 from tests.tables.rows import text
 
 # files with expected output, and the words: {0} is the name without its end, {1} and {2} its parts
@@ -103,15 +103,18 @@ def statuses(cases: Cases) -> None:
 
 
 def random_cases(cases: Cases, *words: str) -> None:
-    """A case: the program and the reference agree on 3,000 random cases."""
-    given = ["--seed", "1", "--cases", "3000", "--keep", f"{TOP}/out/fuzz", *words]
-    cases.holds("the program and the reference agree", fuzz.main(given) == 0)
+    """A case each: the program and the reference agree on random cases of a fixed seed, and of one
+    that is new each day."""
+    for seed, count in ((1, 3000), (daily_seed(), 600)):
+        given = ["--seed", str(seed), "--cases", str(count), "--keep", f"{TOP}/out/fuzz", *words]
+        cases.holds(f"the program and the reference agree on the seed {seed}",
+                    fuzz.main(given) == 0)
 
 
 if __name__ == "__main__":
-    both, named = Cases("reference"), arguments("reference.parts [FUNCTION..]")
-    _room = enter_folder()
-    for part in (samples, hindered, statuses):
-        if not named or part.__name__ in named:
-            part(both)
+    parts = {it.__name__: it for it in (samples, hindered, statuses)}
+    named = chosen(arguments("reference.parts [FUNCTION..]"), [*parts])
+    both, _room = Cases("reference"), enter_folder()
+    for name in named:
+        parts[name](both)
     both.finish()

@@ -11,7 +11,7 @@ import sys
 import tempfile
 from typing import Any, Mapping, Sequence, Tuple
 
-from tests.runner import TOP, Cases, arguments, decode, enter_folder, run_apart, write
+from tests.runner import TOP, Cases, arguments, chosen, decode, enter_folder, run_apart, write
 from tests.tables.rows import PLAIN, rows, text
 
 NO_FILES = {"name", "words", "version", "output", "faults", "status"}
@@ -52,15 +52,15 @@ def run_row(cases: Cases, program: str, table: str, row: Mapping[str, Any]) -> N
 
 
 program, *named = arguments("tables PROGRAM [TABLE..]")
-cases = Cases("tables")
+every = sorted(os.path.basename(it)[:-6] for it in glob.glob(f"{TOP}/tests/tables/*.table"))
+cases, named = Cases("tables"), chosen(named, every)
 with open(program, "rb") as start:
     IS_PYTHON = re.match(rb"#!.*python", start.readline())
 if IS_PYTHON:
     sys.path.insert(0, os.path.dirname(program))
     with contextlib.suppress(Exception):  # a planted fault shows in the rows
         runpy.run_path(program)  # loads the modules that it uses
-every = sorted(os.path.basename(it)[:-6] for it in glob.glob(f"{TOP}/tests/tables/*.table"))
-for table in named or every:
+for table in named:
     for row in rows(table):
         run_row(cases, program, table, row)
 cases.finish()

@@ -4,10 +4,12 @@ test_find, or a share of their classes, such as 2/3. No share has what measures 
 import sys
 import unittest
 
-from tests.runner import Cases, arguments, work_in_memory
+from tests.runner import NAMES, Cases, arguments, chosen, work_in_memory
 from tests.tools import dealing, helping
 
 helping.PROGRAM, *names = arguments("tools PROGRAM [TEST..]")
+if names == [NAMES]:
+    chosen(names, [it[len("tests.tools."):] for it in dealing.names_of(dealing.tests_of([]))])
 work_in_memory()
 cases = Cases("tools")
 runner = unittest.TextTestRunner(stream=sys.stdout, verbosity=0, failfast=cases.ends_first)
