@@ -97,4 +97,14 @@ def large_texts(check: Comparison, tab: Tab) -> None:
         tab, "$('page').contentWindow.go(1)", f"{INSIDE}.querySelector('.pushes li')"))
 
 
-PARTS = (many_levels, large_texts)
+def large_boards(check: Comparison, tab: Tab) -> None:
+    """A board with 15,120 boxes."""
+    row = b"#" + b" $." * 84 + b"#\n"
+    board = b"#" * 254 + b"\n#@" + b" " * 251 + b"#\n" + row * 180 + b"#" * 254 + b"\n"
+    names = files(board, HEADER + b"level 1\nsolution\n" + b"rl" * 50 + b"\nend\n")
+    answers(check, tab, "opening the largest board", give(tab, *names, until=COUNTS))
+    answers(check, tab, "a step on it", show(
+        tab, f"{INSIDE}.querySelector('[aria-label=\"next letter\"]').click()", COUNTS))
+
+
+PARTS = (many_levels, large_texts, large_boards)

@@ -101,11 +101,17 @@ class Comparison:
         self.cases.holds(f"{name}: stack", 0 < used < STACK / 10, f"{used} bytes")
 
     def dead(self, name: str, number: int) -> None:
-        """A case: the page gets the map of a level's dead squares that the program prints."""
+        """A case: the page finds the dead squares of a legal level that the program prints. What
+        has a box or the player on it has no x there."""
         ran = call([self.program, "dead", "levels.xsb", str(number)])
-        found = self.tab.ask(f"deadSquares({number})")
-        self.same(f"{name}: map {number}", [ran.output.decode(), self.said(ran.errors)],
-                  [found["map"], found["fault"]])
+        if ran.status:
+            return
+        lines = ran.output.decode().splitlines()
+        found = self.tab.ask(f"deadSquares(shownData.levels[{number - 1}].rows)")
+        shown = [[int(part) - 1 for part in cell.split(",")] for cell in found["cells"]]
+        self.same(f"{name}: dead squares {number}", lines, [
+            "".join("x" if [x, y] in shown and cell not in "$@" else cell.replace("x", " ")
+                    for x, cell in enumerate(line)) for y, line in enumerate(lines)])
 
 
 def data_in(page: bytes) -> Any:

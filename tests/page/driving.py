@@ -27,6 +27,16 @@ PASTE = """{
     data.items.add(new File([%s], %s));
     $(%s).dispatchEvent(new ClipboardEvent("paste", how));
 } 0"""
+# pastes a text; what the page leaves to the browser is done here
+PASTE_TEXT = """{
+    const data = new DataTransfer(), how = { bubbles: true, cancelable: true, clipboardData: data };
+    data.setData("text/plain", %s);
+    const place = $(%s) ?? document.body;
+    place.focus();
+    if (place.dispatchEvent(new ClipboardEvent("paste", how)) && place !== document.body) {
+        place.value = data.getData("text/plain");
+    }
+} 0"""
 # what the viewer reads, with all that it makes when it is asked for
 DATA = "JSON.parse(JSON.stringify(shownData))"
 
@@ -78,6 +88,17 @@ class Tab(Browser):
         self.ask(f"$('{field}').dispatchEvent(new ClipboardEvent('paste')); 0")
         self.wait(IDLE)
         return self.message()
+
+    def paste_text(self, place: str, text: str) -> None:
+        """Pastes a text as a user does whose focus is in a field or outside, and waits for the
+        result."""
+        self.ask(HIDE)
+        self.ask(PASTE_TEXT % (json.dumps(text), json.dumps(place)))
+        self.wait(IDLE)
+
+    def click_in_frame(self, selector: str) -> None:
+        """Clicks on an element in the frame."""
+        self.ask(f"$('page').contentDocument.querySelector({json.dumps(selector)}).click(); 0")
 
     def paste_file(self, field: str, name: str, text: str) -> bool:
         """Pastes a file into a field, and waits for the result. Returns whether its name is shown

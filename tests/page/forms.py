@@ -78,6 +78,14 @@ def beside(check: Comparison, tab: Tab) -> None:
     tab.give("one.xsb", "mark.answers")
     check.same("a mark before the answers", LINE, tab.text("lines")[:len(LINE)])
     check.same("nothing is left out", "", tab.text("notes"))
+    check.same("the mark is told", ["mark.answers: begins with a byte order mark"], [
+        it.split(",")[0] for it in tab.told()])
+    latin = ANSWERS.replace("\n", "\n; caf\u00e9\n", 1)
+    with open("latin.answers", "wb") as file:
+        file.write(latin.encode("latin-1"))
+    tab.give("one.xsb", "latin.answers")
+    check.same("other bytes of answers stay", [LINE, latin, []], [
+        tab.text("lines")[:len(LINE)], tab.saved("answers").decode("latin-1"), tab.told()])
     remark = "\n; " + 200 * "\u0436" + "\n"
     write("mark.answers", "\ufeff" + ANSWERS.replace("\n", remark, 1))
     check.same("answers whose first bytes end within a character", ["", LINE], [

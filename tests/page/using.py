@@ -3,8 +3,8 @@ import base64
 import html
 import os
 import re
-from itertools import permutations
-from typing import Tuple
+from itertools import permutations, product
+from typing import List, Sequence, Tuple
 
 from bench.measured import NOOK
 from tests.page.comparing import Comparison
@@ -101,8 +101,63 @@ def viewing(check: Comparison, tab: Tab) -> None:
     tab.ask("$('page').contentWindow.go(2); $('page').contentDocument.body.dispatchEvent("
             "new KeyboardEvent('keydown', { key: 'd', bubbles: true })); 0")
     tab.wait("$('page').contentDocument.querySelector('.dead')")
-    check.same("dead squares are said before the level is drawn", ["dead squares 2,3 4,3"], [
-        it[:20] for it in tab.frame("#said")])
+    check.same("dead squares are said before the level is drawn, also below a box and the player",
+               [f"dead squares {' '.join(re.findall('[0-9],[0-9]', MADE))}"], tab.frame("#said"))
+
+
+# boards on which a box, the player, or both stand on dead squares or on goals
+BENT = (CORNER, "#####\n#+$ #\n#   #\n#####\n", "####\n#@$#\n#. #\n####\n",
+        "######\n#@$.*#\n######\n", "#######\n#. @  #\n# $$. #\n#     #\n#######\n",
+        "#####\n#+$*#\n#####\n", "####\n#@##\n##$.\n####\n", "#####\n#@$.#\n#####\n" + "#\n" * 252)
+
+
+def dead_cells(rows: Sequence[str]) -> List[str]:
+    """The dead squares of a level, those of its room and below its boxes, by their definition."""
+    floor = {(x, y) for y, row in enumerate(rows) for x, cell in enumerate(row) if cell != "#"}
+    (seed,) = {(x, y) for x, y in floor if rows[y][x] in "@+"}
+    room, work = {seed}, [seed]
+    steps = ((-1, 0), (0, -1), (1, 0), (0, 1))
+    for x, y in work:
+        new = {(x + dx, y + dy) for dx, dy in steps} & floor - room
+        room |= new
+        work += new
+    live = {(x, y) for x, y in floor if rows[y][x] in ".+*"}
+    work = [*live]
+    for x, y in work:
+        new = {(x - dx, y - dy) for dx, dy in steps
+               if {(x - dx, y - dy), (x - 2 * dx, y - 2 * dy)} <= room} - live
+        live |= new
+        work += new
+    boxes = {(x, y) for x, y in floor if rows[y][x] in "$*"}
+    return [f"{x + 1},{y + 1}" for x, y in sorted((room | boxes) - live, key=lambda it: it[::-1])]
+
+
+def dead(check: Comparison, tab: Tab) -> None:
+    """The dead squares of a level, also below the boxes and the player of the start."""
+    for board in BENT:
+        tab.paste("levels", board)
+        tab.opened()
+        tab.click_in_frame("#dead")
+        tab.wait("$('page').contentDocument.querySelector('#said').textContent")
+        check.same(f"dead squares of {board!r}", dead_cells(board.splitlines()), re.findall(
+            r"\d+,\d+", tab.frame("#said")[0]))
+
+
+def pasting(check: Comparison, tab: Tab) -> None:
+    """Texts that are pasted: long ones count as files, and the field needn't have the focus."""
+    level = "#####\n#@$.#\n#####\nSolution\nR\n\n"
+    for place, is_long in product(("levels", "body"), (False, True)):
+        tab.ask("clear(); 0")
+        tab.paste_text(place, level * 3 + "; a remark\n" * 10000 * is_long)
+        check.same(f"pasted into {place}, long: {is_long}", ["total 3 solved 3 ", is_long], [
+            tab.text("total")[:17], tab.ask("!$('levels-file').hidden")])
+    check.same("the total is said", tab.text("total"), tab.text("said"))
+    tab.ask("clear(); 0")
+    tab.paste("levels", LEVEL + LETTERS)
+    tab.opened()
+    tab.ask("document.activeElement.blur(); 0")
+    tab.press("ArrowRight")
+    check.same("keys outside of the frame", "1", tab.frame(".counts b")[0])
 
 
 def making(check: Comparison, tab: Tab) -> None:
@@ -579,5 +634,5 @@ def stale(check: Comparison, tab: Tab) -> None:
 
 
 UNPAINTED = (below, lists)
-PARTS = (files, fields, buttons, stale, viewing, making, keeping, several, hostile, stopping,
-         growth, browsers, reaching)
+PARTS = (files, fields, buttons, stale, viewing, dead, pasting, making, keeping, several, hostile,
+         stopping, growth, browsers, reaching)

@@ -75,7 +75,7 @@ class Eye(Page):
         self.samples("deadlocks")
         for address, others in (("#4", ["6,4"]), ("#5:2", ["8,3"])):
             self.open(address)
-            self.assertEqual(self.all(".other", "data-cell"), others)
+            self.assertEqual(self.all(".other", "data-cells"), others)
         self.assertIn("start position", self.all("button"))
 
     def test_refused_letter_and_titles(self) -> None:
@@ -88,7 +88,7 @@ class Eye(Page):
         self.assertEqual(shared.ask("document.title"), "x.xsb - sokoaudit report")
         self.open("#2")
         self.assertEqual(self.all(".letters .bad"), ["R"])
-        self.assertEqual(self.all("#copy"), ["copy"])
+        self.assertEqual(self.all(".whole button"), ["copy", "copy"])
 
     def test_refused_letter_is_not_played(self) -> None:
         self.walk("#1:end")

@@ -59,6 +59,10 @@ function write(levels) {
     if (field.value !== levels) field.value = levels;
 }
 
+// Whether a pasted text is taken as a file, which is read at once: a browser lays out a text of 400 KB in a field for seconds. Answers within
+// it go to their own field.
+const isLong = text => text.length > MOST_KEPT && !HEADER.test(text) && !INNER_HEADER.test(text);
+
 function clear(levels = "") {
     begin("");
     remove();
@@ -135,7 +139,7 @@ function takePairs(levels, answers, lists) {
     }
     pairs = levels.map(file => ({ levels: file, lists, answers: answers.find(it => baseOf(it) === baseOf(file)) ?? null }));
     put("levels", null, many(levels.length, "levels file"));
-    put("answers", null, many(answers.length, "answers file"));
+    put("answers", null, answers.length ? many(answers.length, "answers file") : undefined);
     return true;
 }
 
@@ -199,7 +203,7 @@ function busy(words) {
         ticking = setInterval(tick, 1000);
     }
     $("message").hidden = true;
-    $("why").textContent = "";
+    $("why").textContent = $("said").textContent = "";
     tick();
 }
 
@@ -325,9 +329,10 @@ function listen() {
         const { field, box } = inputs[kind];
         field.addEventListener("paste", event => {
             const data = event.clipboardData, isText = !data?.files.length || data.types.includes("text/plain");
-            if (isText) return setTimeout(audit, 0);
+            const text = isText ? data?.getData("text/plain") ?? "" : "";
+            if (isText && !isLong(text)) return setTimeout(audit, 0);
             event.preventDefault();
-            return take(data.files);
+            return take(isText ? [new File([text], kind)] : data.files);
         });
         field.addEventListener("beforeinput", () => {
             const isAll = field.value && field.selectionEnd - field.selectionStart === field.value.length;
@@ -364,6 +369,8 @@ function listen() {
     on("clear", () => clear());
     on("example", () => {
         clear(EXAMPLE);
+        // on a phone the keyboard would cover the result
+        if (matchMedia("(pointer: coarse)").matches) inputs.levels.field.blur();
         audit();
     });
     $("files").addEventListener("change", () => {
@@ -371,8 +378,19 @@ function listen() {
         $("files").value = "";
         take(files);
     });
+    // what is pasted outside of a field replaces what is there
+    addEventListener("paste", event => {
+        if (event.target.closest?.("input, textarea")) return;
+        const { files } = event.clipboardData, text = event.clipboardData.getData("text/plain");
+        event.preventDefault();
+        if (files.length) take(files);
+        else if (isLong(text)) take([new File([text], "levels")]);
+        else if (text.trim()) clear(text), audit();
+    });
     addEventListener("keydown", event => {
         if (event.key === "Enter" && (event.ctrlKey || event.metaKey)) $("audit").click();
+        // the keys of the levels hold here too, if nothing else has the focus
+        else if (!$("result").hidden && event.target.matches?.("body, #total")) $("page").contentWindow.press?.(event);
     });
     for (const name of ["scroll", "resize"]) addEventListener(name, () => $("page").contentWindow.seen?.(), { passive: true });
     addEventListener("resize", () => $("page").contentWindow.grow?.());

@@ -181,7 +181,7 @@ function gameOf(text) {
     return GAMES.find(([, heads]) => heads.every(it => it.test(text)))?.[0] ?? (kinds.some(it => !/^[ #.@$]/.test(it)) ? "xsok" : "");
 }
 
-const FORMS = [["an archive", /^(?:PK|7z|Rar)/], ["a picture", /^(?:\x89PNG|\xff\xd8\xff|GIF8)/], ["a document", /^(?:%PDF|\{\\rtf)/]];
+const FORMS = [["an archive that isn't read here: unpack it, and drop its files", /^(?:PK|7z|Rar)/], ["a picture", /^(?:\x89PNG|\xff\xd8\xff|GIF8)/], ["a document", /^(?:%PDF|\{\\rtf)/]];
 const PAGE = /^<!DOCTYPE html>[^]*<title>sokoaudit report</, REPORT = /^(?:level 1|total \d+) /;
 const TOTAL = /^total \d+ solved \d+ unsolvable \d+ refused \d+ missing \d+\r?\n$/m;
 // Whether a file was made from levels: a page that shows them, or a report.
@@ -228,7 +228,7 @@ function unfilled(text) {
 function partOf(name, bytes, head, isAlone) {
     const form = FORMS.find(([, begins]) => begins.test(head))?.[0], faults = [];
     const { text, encoding } = readBytes(bytes), zero = form ? 0 : unfilled(text).indexOf("\0");
-    if (form) faults.push({ number: 0, words: `is ${form}, no text` });
+    if (form) faults.push({ number: 0, words: form.includes(":") ? `is ${form}` : `is ${form}, no text` });
     else if (zero >= 0) faults.push({ number: text.slice(0, zero).split("\n").length, words: "a zero byte: what comes from here on isn't read" });
     if (!form && /^(?:windows|gb|utf-32)/.test(encoding)) faults.push(note(`isn't UTF-8: read as ${encoding}`));
     if (/^sokoban-answers/m.test(text) && /^unsolvable\r?$/m.test(text)) {

@@ -48,19 +48,18 @@
     const shown = (level, at, words) => {
         const made = pagePlain(level, at);
         if (words) document.querySelector("#level .two").before(html("p", { class: "judged" }, words));
-        if (globalThis.deadSquares) document.querySelector("#level nav .help").before(html("button", { id: "dead", title: "key: d",
+        if (globalThis.deadSquares && level.verdict.words[0] !== "board") document.querySelector("#level nav .help").before(html("button", { id: "dead", title: "key: d",
             "aria-pressed": String(dead.has(level.board)), onclick: toggle }, "dead squares"));
         return made;
     };
     const toggle = async () => {
         const level = shownLevel;
-        if (!level?.board || !globalThis.deadSquares) return;
+        if (!level?.board || !globalThis.deadSquares || level.verdict.words[0] === "board") return;
         let words = "";
         if (!dead.delete(level.board)) {
-            const { map, fault } = await deadSquares(level.number);
-            const { board } = level, places = new Set((map || "").split("\n").flatMap((row, y) =>
-                [...row].flatMap((cell, x) => cell === "x" ? [y * board.width + x] : [])));
-            if (map) dead.set(board, places);
+            const { cells, fault } = await deadSquares(level.rows);
+            const { board } = level, places = new Set(cells.map(cell => board.place(cell.split(",").map(Number))));
+            if (!fault) dead.set(board, places);
             words = fault || (places.size ? listed(board, places, "dead square", "dead squares") : "no dead square");
         }
         if (shownLevel !== level) return;

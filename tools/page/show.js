@@ -22,6 +22,7 @@ function tellAll(said) {
 function show({ names, totals, notes, report, status, took, data }, areSame) {
     globalThis.shownData = data;
     $("total").textContent = (pairs.length ? `${names[0]}: ` : "") + totalIn(report);
+    $("said").textContent = $("total").textContent;
     $("total").className = status ? "open" : totals.count ? "fine" : "";
     $("notes").textContent = [...notes, ...took > 1000 ? [`The program took ${(took / 1000).toFixed(1)} seconds.`] : []].join(" ");
     $("lines").textContent = report;
@@ -38,9 +39,9 @@ const scriptOf = (id, type = "") => `<script${type}>${$(id).textContent}<\/scrip
 
 // Writes the viewer into a window, with levels of its own, since it notes on them what it shows. They stay those of the window when another
 // result is shown here. It isn't loaded from an address, since a browser lets a page from a file follow no link within such a one.
-function fill(view, data = shownData, text = kept.levels) {
+function fill(view, data = shownData) {
     const own = { ...data, levels: data.levels.map(level => level.copy()) };
-    Object.assign(view, { shownData: own, judged, deadSquares: number => deadSquares(number, text), openLevel: number => openLevel(number, own, text) });
+    Object.assign(view, { shownData: own, judged, deadSquares, openLevel: number => openLevel(number, own) });
     const inside = view.document;
     inside.open();
     inside.write(viewerParts(scriptOf("inside")).join("null"));
@@ -81,9 +82,9 @@ function draw(to) {
 }
 
 // Opens a level in a window of its own, as a click with Ctrl wants. Without this page nothing can be judged there.
-function openLevel(number, ...shown) {
+function openLevel(number, data) {
     const view = window.open("");
-    fill(view, ...shown);
+    fill(view, data);
     view.go(number);
     addEventListener("pagehide", () => Object.assign(view, { judged: async () => ({ line: "" }), deadSquares: null }));
 }
@@ -93,10 +94,10 @@ function showTop() {
     if ($("page").getBoundingClientRect().top < 0) $("page").scrollIntoView();
 }
 
-// the frame asks for the dead squares of a level
-async function deadSquares(number, levels = kept.levels) {
-    const said = await judge.ask("dead", { levels, number });
-    return { map: said.map ?? "", fault: said.isStopped ? "stopped" : troubleIn(said, judge) };
+// the cells of a legal level that are dead squares, by the program
+async function deadSquares(rows) {
+    const said = await judge.ask("dead", { rows });
+    return { cells: said.cells ?? [], fault: said.isStopped ? "stopped" : troubleIn(said, judge) };
 }
 
 // ---- what is saved

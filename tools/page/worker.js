@@ -1,6 +1,6 @@
 // The program's thread: it reads files, calls the proved program on bytes, and keeps nothing between two tasks but the module.
 
-const FAULT = 2, REPORT_ROOM = 1 << 20, MADE_ROOM = 1 << 22, MAP_ROOM = 1 << 17, SAID_EVERY = 200, MOST_LINES = 1 << 21;
+const FAULT = 2, REPORT_ROOM = 1 << 20, MADE_ROOM = 1 << 22, SAID_EVERY = 200, MOST_LINES = 1 << 21;
 const NO_MEMORY = 1, KINDS = ["", "solution", "unsolvable"], OUTCOME = 9, LINE = 13, RECORD = 7, MOST_LEVELS = 10000;
 const HEADER = /^(?:\xef\xbb\xbf)?sokoban-answers/, HAS_ROW = /(?:^(?:\xef\xbb\xbf)?|\n)[-@+$*._ ]*#[-#@+$*._ ]*(?:\r?\n|$)/;
 const SINCE = "are left out, since there are answers", LEFT_OUT = `The solutions beside the levels ${SINCE}`, NO_ANSWERS = "sokoban-answers 1\n", NO_LEVEL = "No level is found.", ROW = "A row has a wall # and no other characters than @ + $ * . - _ and blanks.";
@@ -98,11 +98,14 @@ async function bytesIn(source, most = MOST_BYTES + 1) {
     }
 }
 
-// The bytes of answers, in UTF-8 and without a mark before their first line.
-function unmarked(bytes) {
-    const { text, encoding } = readBytes(bytes.subarray(0, 64));
-    if (!HEADER.test(text)) return bytes;
-    return encoding ? bytesOf(utf8(readBytes(bytes).text)) : bytes.subarray(bytes[0] === 0xef ? 3 : 0);
+// The bytes of answers without a mark before their first line, which the program refuses, and in UTF-8 if they are in UTF-16 or UTF-32.
+// Other bytes stay as they are, since what is saved of them has to be what was given.
+function unmarked(bytes, name, said) {
+    const { text, encoding } = readBytes(bytes.subarray(0, 64)), isWide = encoding.startsWith("utf-"), isMarked = bytes[0] === 0xef;
+    if (!HEADER.test(text) || !isWide && !isMarked) return bytes;
+    const form = isWide ? `is ${encoding}` : "begins with a byte order mark";
+    said.push({ place: name, words: `${form}, which the program refuses: save the answers from here for it`, isNote: true });
+    return isWide ? bytesOf(utf8(readBytes(bytes).text)) : bytes.subarray(3);
 }
 
 // The kind of a file: answers by their first line, what was made from levels, a list of letters without a level, or levels.
@@ -126,12 +129,16 @@ async function kindsOf(files) {
     return kinds.includes("levels") ? kinds : kinds.map(it => it === "made" ? "levels" : it);
 }
 
-const linesIn = bytes => bytes.reduce((count, byte) => count + (byte === 10), 0);
+function linesIn(bytes) {
+    let count = 0;
+    for (let at = bytes.indexOf(10); at >= 0; at = bytes.indexOf(10, at + 1)) count++;
+    return count;
+}
 
 // The levels and answers of sources. Without answers, or if no line is a row, the levels are read in all forms.
 async function textsOf({ levels: source, lists, answers: given, names }, tell) {
-    const levels = await bytesIn(source), answers = given && unmarked(await bytesIn(given)), notes = [];
-    const asTheyAre = { levels, answers: answers ?? bytesOf(NO_ANSWERS), names, notes, said: [] };
+    const levels = await bytesIn(source), ofAnswers = [], answers = given && unmarked(await bytesIn(given), names[1], ofAnswers), notes = [];
+    const asTheyAre = { levels, answers: answers ?? bytesOf(NO_ANSWERS), names, notes, said: ofAnswers };
     if (levels.length > MOST_BYTES) return asTheyAre;
     const isLong = linesIn(levels) > MOST_LINES;
     if (answers && HAS_ROW.test(textOf(levels))) {
@@ -149,6 +156,7 @@ async function textsOf({ levels: source, lists, answers: given, names }, tell) {
     for (const it of lists) parts.push(...await partsOf(it.name, await bytesIn(it)));
     const machine = await Machine.start(), spansOf = it => machine.spans(machine.put(bytesOf(it)));
     const { text, levels: found, answers: made, isSame, taken, said } = readParts(parts, spansOf, tell);
+    said.push(...ofAnswers);
     if (!found.length && !said.length) said.push({ place: "", words: ROW });
     if (!found.length && !answers) throw Object.assign(new Fault(NO_LEVEL), { said });
     if (!found.length) return { levels, answers, names, said, notes: [NO_LEVEL] };
@@ -157,6 +165,12 @@ async function textsOf({ levels: source, lists, answers: given, names }, tell) {
     const own = isSame ? machine.spans(machine.put(levels)) : found;
     return { levels: isSame ? levels : bytesOf(text), found: found.map((it, i) => ({ ...it, at: own[i].at, end: own[i].end })), answers: answers ?? bytesOf(made),
         names: answers ? names : [names[0], "the solutions in it"], notes, said };
+}
+
+// A legal level with a box and a goal more, and the cell of the box: below the last row, where the player never comes, or in two corners.
+function withDeadBox(rows) {
+    if (rows.length < MOST_SIDE) return [[...rows, "#$."], `2,${rows.length + 1}`];
+    return [[`$${rows[0].slice(1, MOST_SIDE - 1).padEnd(MOST_SIDE - 2)}.`, ...rows.slice(1)], "1,1"];
 }
 
 // ---- tasks
@@ -196,9 +210,13 @@ const tasks = {
         if (isRaised) notes.push("The answers begin with 'sokoban-answers 2' now, since a made one is a zone: zones of other records count too.");
         return audited({ levels, answers: bytesOf(text), names, found, notes, said }, tell);
     },
-    async dead({ levels, number }) {
-        const machine = await Machine.start(), { bytes } = machine.text("dead", [...machine.put(levels), number], MAP_ROOM);
-        return { map: textOf(bytes) };
+    // The dead squares of a level. The program lists all of them if a box is on one, so a box on one is added, out of the player's reach.
+    async dead({ rows }) {
+        const [level, added] = withDeadBox(rows), machine = await Machine.start();
+        const { bytes } = machine.text("make", machine.put(bytesOf(level.join("\n"))), MADE_ROOM);
+        const made = textOf(bytes), cells = [...made.matchAll(/^pattern ([0-9]+,[0-9]+) @ \*$/gm)].map(([, cell]) => cell);
+        if (!cells.includes(added)) throw new Error("the program lists no dead squares");
+        return { cells: cells.filter(cell => cell !== added) };
     },
     // The verdict on rows and a record that are drawn, and the record's lines.
     async judged({ rows, kind, bytes, first, body = bodyIn(textOf(bytes), first) }) {

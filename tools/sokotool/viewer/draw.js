@@ -94,31 +94,31 @@ function draw(board, position) {
     const picture = svg("svg", { viewBox: `-.1 -.1 ${board.width + .2} ${board.height + .2}`,
         class: "board", role: "img", "aria-label": described(board, position) });
     picture.style.setProperty("--columns", board.width);
-    svg("path", { d: runs(board, board.room), class: "floor" }, picture);
-    svg("path", { d: runs(board, shade), class: position.shadeKind ?? "region",
-        "data-cells": [...shade].map(place => board.name(place)).join(" ") }, picture);
-    svg("path", { d: runs(board, board.walls), class: "wall" }, picture);
-    board.goals.forEach(place => disc(board, place, picture, "goal", .17));
-    others.forEach(place => square(board, place, picture, "other"));
-    for (const place of boxes) {
-        const [x, y] = middle(board, place), isHome = board.goals.has(place);
-        square(board, place, picture, isHome ? "box home" : "box");
-        if (isHome) svg("path", { d: `M${x - .17} ${y}l.13 .14l.22 -.26`, class: "tick" }, picture);
-    }
-    players.forEach(place => place >= 0 && disc(board, place, picture, "player", .3));
+    const home = [...boxes].filter(box => board.goals.has(box)), off = [...boxes].filter(box => !board.goals.has(box));
+    svg("path", { d: board.floorPath ??= runs(board, board.room), class: "floor" }, picture);
+    svg("path", { d: runs(board, shade), class: position.shadeKind ?? "region", "data-cells": namesOf(board, shade) }, picture);
+    svg("path", { d: board.wallPath ??= runs(board, board.walls), class: "wall" }, picture);
+    shapes(board, board.goals, picture, "goal", disc(.17));
+    shapes(board, others, picture, "other", square);
+    shapes(board, off, picture, "box", square);
+    shapes(board, home, picture, "box home", square);
+    shapes(board, home, picture, "tick", tick);
+    shapes(board, players.filter(place => place >= 0), picture, "player", disc(.3));
     arrows.forEach(arrow => drawArrow(board, arrow, picture));
     return picture;
 }
 
-function disc(board, place, picture, kind, r) {
-    const [cx, cy] = middle(board, place);
-    svg("circle", { cx, cy, r, class: kind, "data-cell": board.name(place) }, picture);
-}
+const namesOf = (board, places) => [...places].map(place => board.name(place)).join(" ");
 
-function square(board, place, picture, kind) {
-    const [x, y] = middle(board, place);
-    svg("rect", { x: x - .36, y: y - .36, width: .72, height: .72, rx: .1, class: kind,
-        "data-cell": board.name(place) }, picture);
+// what is drawn in the middle of a cell
+const disc = r => (x, y) => `M${x - r} ${y}a${r} ${r} 0 1 1 ${2 * r} 0a${r} ${r} 0 1 1 ${-2 * r} 0z`;
+const square = (x, y) => `M${x - .26} ${y - .36}h.52a.1 .1 0 0 1 .1 .1v.52a.1 .1 0 0 1 -.1 .1h-.52a.1 .1 0 0 1 -.1 -.1v-.52a.1 .1 0 0 1 .1 -.1z`;
+const tick = (x, y) => `M${x - .17} ${y}l.13 .14l.22 -.26`;
+
+// all places of a kind in one path, since a board may have thousands, and is drawn again at each step
+function shapes(board, places, picture, kind, shape) {
+    const d = [...places].map(place => shape(...middle(board, place))).join("");
+    if (d) svg("path", { d, class: kind, "data-cells": namesOf(board, places) }, picture);
 }
 
 // An arrow, a little to the left of its path, so that opposite pushes don't overlap.

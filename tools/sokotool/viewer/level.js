@@ -28,9 +28,23 @@ function levelPage(level, at) {
     const board = boardOf(level), record = DATA.records[level.number], { verdict } = level;
     const pane = html("section", { class: "pane" }), side = html("section", { class: "side" });
     const view = { board, record, verdict, at, pane, side };
-    $("level").replaceChildren(...headOf(level), refusedLine(view), html("div", { class: "two" }, pane, side));
+    $("level").replaceChildren(...headOf(level), refusedLine(view), html("div", { class: "two" }, pane, side), rowsToCopy(level));
     return answerOf(view);
 }
+
+// a text to be looked at and copied, which is made when it is opened
+function toCopy(words, name, made, attributes = {}) {
+    const area = html("textarea", { readonly: "", rows: 4, "aria-label": name, ...attributes });
+    const copy = html("button", { onclick() {
+        area.select();
+        copy.textContent = document.execCommand("copy") ? "copied" : "press Ctrl+C";
+    } }, "copy");
+    return html("details", { class: "whole", ontoggle: () => area.value ||= made() }, html("summary", {}, words), area, copy);
+}
+
+// the level as a text, which a reader without eyes can walk through, too
+const rowsToCopy = ({ title, rows }) => toCopy("the level, to copy", "rows of the level",
+    () => `${rows.join("\n")}\n${title && `Title: ${title}\n`}`, { wrap: "off", rows: Math.min(rows.length + 1, 20) });
 
 function linksOf({ number }) {
     const link = (to, words, name) => LEVELS[to - 1] ? html("a",

@@ -118,16 +118,10 @@ class SolutionView {
 
 // all letters of a solution, to be looked at and copied; of millions the first ones
 function wholeOf(body) {
-    const area = html("textarea", { readonly: "", rows: 4, "aria-label": "all letters" });
-    const copy = html("button", { id: "copy", onclick() {
-        area.select();
-        copy.textContent = document.execCommand("copy") ? "copied" : "press Ctrl+C";
-    } }, "copy");
     let length = 0;
     // a long line is cut into several with the same number
     const some = body.filter(([, line]) => (length += line.length + 1) - line.length <= MOST_TO_COPY)
         .map(([number, line], i) => i && body[i - 1][0] !== number ? `\n${line}` : line);
     const words = length > MOST_TO_COPY ? "the first letters, to copy" : "all letters, to copy";
-    return html("details", { class: "whole", ontoggle: () => area.value ||= some.join("").slice(0, MOST_TO_COPY) },
-        html("summary", {}, words), area, copy);
+    return toCopy(words, "all letters", () => some.join("").slice(0, MOST_TO_COPY));
 }
