@@ -11,7 +11,7 @@ use Rattle.cellset.specs.Cell.{IsOn, cell_at}
 use Rattle.cellset.specs.declared.cell.Cell.{Cell}
 use Rattle.cellset.proofs.Truth.{either}
 use Rattle.reach.specs.Bits.{HasBit}
-use Rattle.reach.specs.RowsOf.{InRows, InRow}
+use Rattle.reach.specs.BitRows.{InRows, InRow}
 use Rattle.reach.proofs.Written.{IsWritten, row_written, as_at, to_row, of_row}
 use Rattle.reach.specs.Reached.{Reached, at_seed, by_step, IsClosedUnder}
 use Rattle.reach.specs.Grown.{IsAbove, IsBeside, IsOffered, IsLookedAt}

@@ -15,7 +15,7 @@ use Rattle.cellset.proofs.Rows.{has_in_row, row_has}
 use Rattle.cellset.proofs.Truth.{either, left_true, right_true, or_cases}
 use Rattle.reach.specs.Bits.{Bit, HasBit}
 use Rattle.reach.proofs.Words.{bit_below, no_bit_zero}
-use Rattle.reach.specs.RowsOf.{InRows}
+use Rattle.reach.specs.BitRows.{InRows}
 use Rattle.reach.proofs.Many.{wrote_same, wrote_other, wrote_cases}
 use Rattle.reach.proofs.Carries.{of_word}
 use Rattle.reach.proofs.Written.{IsWritten, row_written, as_at}

@@ -6,7 +6,7 @@ use Rattle.cellset.specs.declared.cell.Cell.{Cell}
 use Rattle.cellset.specs.declared.dir.Dir.{Dir}
 use Rattle.cellset.specs.declared.dir.Dir.TheVariants.{L, U, R, D}
 use Rattle.reach.specs.Bits.{HasBit, IsFilled}
-use Rattle.reach.specs.RowsOf.{InRows}
+use Rattle.reach.specs.BitRows.{InRows}
 use Rattle.reach.specs.Reached.{PullsTo, IsBetween}
 use Rattle.reach.specs.Grown.{AreInside, Passes, in_rows}
 use Rattle.reach.proofs.Lines.{filled_beside}

@@ -10,7 +10,7 @@ use Rattle.cellset.specs.declared.dir.Dir.{Dir}
 use Rattle.cellset.specs.declared.dir.Dir.TheVariants.{L, U, R, D}
 use Rattle.cellset.proofs.Truth.{either}
 use Rattle.reach.specs.Bits.{HasBit, IsFilled}
-use Rattle.reach.specs.RowsOf.{InRows}
+use Rattle.reach.specs.BitRows.{InRows}
 use Rattle.reach.proofs.Carries.{none_past}
 use Rattle.reach.proofs.Runs.{filled_seed, filled_left, filled_right, filled_along}
 use Rattle.reach.specs.Reached.{Reached, at_seed, by_step, PushesTo, IsBetween, IsMoved}

@@ -16,7 +16,7 @@ use Rattle.cellset.proofs.Truth.{either, never_true}
 use Rattle.cellset.proofs.Members.{cells_total, has_empty, same_cells, same_members}
 use Rattle.cellset.proofs.ReadingOrder.{has_where, in_where}
 use Rattle.reach.specs.Bits.{HasBit}
-use Rattle.reach.specs.RowsOf.{InRows}
+use Rattle.reach.specs.BitRows.{InRows}
 use Rattle.reach.proofs.Loads.{none_past}
 use Rattle.reach.specs.Grown.{AreInside, in_rows}
 use Rattle.reach.specs.RowSet.{AreRowsOf, AreRowsQueued, members_in}

@@ -7,7 +7,7 @@ use Rattle.cellset.specs.declared.dir.Dir.{Dir}
 use Rattle.cellset.specs.declared.dir.Dir.TheVariants.{L, U, R, D}
 use Rattle.cellset.proofs.Truth.{either}
 use Rattle.reach.specs.Bits.{HasBit, IsFilled}
-use Rattle.reach.specs.RowsOf.{InRows}
+use Rattle.reach.specs.BitRows.{InRows}
 use Rattle.reach.specs.Reached.{WalksTo}
 use Rattle.reach.specs.Grown.{Passes, in_rows, IsBeside}
 use Rattle.reach.proofs.Lines.{filled_beside}

@@ -11,7 +11,7 @@ use Rattle.cellset.proofs.Members.{lacks_where, not_both}
 use Rattle.cellset.proofs.Rows.{has_in_row, row_has}
 use Rattle.cellset.proofs.Truth.{either}
 use Rattle.reach.specs.Bits.{Bit, HasBit}
-use Rattle.reach.specs.RowsOf.{InRows}
+use Rattle.reach.specs.BitRows.{InRows}
 use Rattle.reach.proofs.Many.{at_same, at_other, at_cases}
 use Rattle.reach.proofs.Words.{bit_below, bit_shl, bit_shl_from}
 

@@ -4,7 +4,7 @@ use Rattle.cellset.specs.Bits.{bit}
 use Rattle.cellset.specs.Shape.{Extent}
 use Rattle.cellset.specs.Cell.{IsOn}
 use Rattle.cellset.specs.declared.cell.Cell.{Cell}
-use Rattle.reach.specs.RowsOf.{InRows}
+use Rattle.reach.specs.BitRows.{InRows}
 use Rattle.reach.specs.Reached.{Reached}
 
 -- the cell's bit is set, as a test

@@ -1,6 +1,6 @@
 pub mod Region
 pub mod Bits
-pub mod RowsOf
+pub mod BitRows
 pub mod Reached
 pub mod Grown
 pub mod RowSet

@@ -3,7 +3,7 @@ use Rattle.std.specs.Prelude.{ℕ, ◌+◌, ◌-◌, ◌<◌, IsTrue, List, ◌�
 use Rattle.cellset.specs.Cell.{cell_at, neighbor}
 use Rattle.cellset.specs.declared.cell.Cell.{Cell}
 use Rattle.cellset.specs.declared.dir.Dir.TheVariants.{L, U, R, D}
-use Rattle.reach.specs.RowsOf.{InRows}
+use Rattle.reach.specs.BitRows.{InRows}
 use Rattle.reach.specs.declared.rings.Ring.{Ring}
 
 -- the ring says which of the eight cells around a cell are in the set; a corner is the neighbour of a neighbour

@@ -2,7 +2,7 @@
 ghost use Rattle.std.specs.Prelude.{◌≡◌, ◌*◌, ◌/◌, ◌%◌, ◌+◌, ◌-◌, ◌<◌, ◌≤◌, ◌↔◌, ◌⊎◌, ℕ, IsTrue, false, slice_index, true};
 ghost use Rattle.cellset.specs.Cell.{cell_at};
 ghost use Rattle.reach.specs.Bits.{Bit, HasBit, IsFilled, room_left};
-ghost use Rattle.reach.specs.RowsOf.{InRows};
+ghost use Rattle.reach.specs.BitRows.{InRows};
 ghost use Rattle.reach.specs.Reached.{IsBetween, IsMoved};
 
 use crate::fills::{fill, join};

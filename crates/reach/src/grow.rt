@@ -3,7 +3,7 @@ ghost use Rattle.std.specs.Prelude.{◌≡◌, ◌*◌, ◌<◌, ◌≤◌, ◌�
 ghost use Rattle.cellset.specs.Shape.{Extent};
 ghost use Rattle.cellset.specs.declared.cell.Cell.{Cell as GridCell};
 ghost use Rattle.reach.specs.Bits.{HasBit};
-ghost use Rattle.reach.specs.RowsOf.{InRows, work_left};
+ghost use Rattle.reach.specs.BitRows.{InRows, work_left};
 ghost use Rattle.reach.specs.Reached.{Reached};
 ghost use Rattle.reach.specs.Grown.{AreInside, IsAllOn, in_rows, IsOffered, IsLookedAt, IsAbove, IsBelow};
 

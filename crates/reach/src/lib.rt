@@ -11,6 +11,7 @@
 //! pushes out of a region and their order, `specs/Rings.antt` for the cells around a cell, and `specs/Bits.antt` for rows of bits.
 #![tactic(auto)]
 
+mod bit_rows;
 mod columns;
 mod fills;
 mod grow;
@@ -19,10 +20,9 @@ mod region;
 mod rings;
 mod rows;
 pub mod step;
-mod width;
 mod worklist;
 
 pub use pushes::{Push, Pushes};
 pub use region::{Flooder, flood};
 pub use rings::Ring;
-pub use width::Rows;
+pub use rows::Rows;

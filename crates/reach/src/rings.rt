@@ -2,7 +2,7 @@
 ghost use Rattle.std.specs.Prelude.{◌*◌, ◌<◌, ◌≤◌, length};
 ghost use Rattle.cellset.specs.Cell.{cell_at};
 ghost use Rattle.reach.specs.Rings.{AreAround, IsRing};
-ghost use Rattle.reach.specs.RowsOf.{InRows};
+ghost use Rattle.reach.specs.BitRows.{InRows};
 
 use crate::columns::{columns_from, has_bit, row_at};
 

@@ -1,34 +1,69 @@
-//! The rows of a grid as bits, and single rows: how they are read from a set and stored in one.
-ghost use Rattle.std.specs.Prelude.{◌≡◌, ◌*◌, ◌+◌, ◌<◌, ◌≤◌, ◌↔◌, ◌⊎◌, ℕ, IfOk, OnOk, OnErr, IsTrue, MatchBool, length, true, false};
+//! A set of cells as rows of bits: one word a row for a narrow grid, and four for a wide one. Only this file looks at the width.
+//!
+//! With four words always, audits of narrow boards take 1.2 to 1.8 times the instructions, and `make` twice as many. A board of more than
+//! 63 columns gains nothing.
+ghost use Rattle.std.specs.Prelude.{◌≡◌, ◌↔◌, ◌⊎◌, ◌*◌, ◌<◌, ◌≤◌, IfOk, OnOk, OnErr, IsTrue, MatchBool, true, false};
 ghost use Rattle.std.specs.FinSet as set;
-ghost use Rattle.cellset.specs.Cell.{IsOn, cell_at};
+ghost use Rattle.cellset.specs.Cell.{IsOn};
 ghost use Rattle.cellset.specs.CellSet.{Has, Lacks};
 ghost use Rattle.cellset.specs.RowBits.{IsRowOf, cells_of_row};
 ghost use Rattle.cellset.specs.declared.cell.Cell.{Cell as GridCell};
-ghost use Rattle.reach.specs.Bits.{HasBit};
-ghost use Rattle.reach.specs.RowsOf.{InRows};
-ghost use Rattle.reach.specs.RowSet.{AreRowsOf, AreRowsQueued};
-ghost use Rattle.reach.specs.Reached.{Reached};
+ghost use Rattle.reach.specs.Reached.{Reached, IsClosedUnder};
 ghost use Rattle.reach.specs.Region.{IsAtEdge};
-ghost use Rattle.reach.specs.Rings.{AreAround};
+ghost use Rattle.reach.specs.Rings.{IsRing};
+ghost use Rattle.reach.specs.RowSet.{AreRowsQueued};
 
-use crate::columns::{any, both, columns, has_bit, insert, remove, without};
+use crate::bit_rows::{
+    are_empty, clear, complement, empty, has, is_at_edge, load, occupied, renew, store, subtract,
+};
+use crate::columns::{columns, insert, remove};
 use crate::grow::grow;
-use crate::rings::read_around;
-use crate::step::StepBy;
+use crate::rings::{Ring, read_around, read_ring};
+use crate::step::Step;
 use crate::worklist::Worklist;
-use cellset::{Cell, CellSet, Shape};
+use cellset::{Cell, CellSet, MembersOf, Shape};
 use std::alloc::{AllocError, Global};
 use std::marker::Model;
 
-/// A finite set of cells, kept as rows of `N` words. Bit 1 of a row is column 1, and row 0 is empty.
+/// A finite set of cells, kept as rows of bits. Bit 1 of a row is column 1, and row 0 is empty.
 #[derive(Debug, Drop)]
-pub struct RowsOf<const N: usize> {
+pub struct Rows {
     shape: Shape,
-    rows: Vec<[u64; N]>,
+    rows: ByWidth,
+    // The rows that have a cell, and maybe others. A flood starts with them. If they aren't known, it looks at all rows first: always to do
+    // so costs `make` 2.3 % more instructions and an audit of lists 1.5 %.
+    occupied: Option<Worklist<4>>,
 }
 
-impl<const N: usize> Model for RowsOf<N> {
+// Rows of one word for at most 63 columns, and of four for more.
+#[derive(Debug, Drop)]
+enum ByWidth {
+    Narrow(Vec<[u64; 1]>),
+    Wide(Vec<[u64; 4]>),
+}
+
+// Computes the same for rows of either width.
+macro_rules! by_width {
+    ($any:expr, $rows:ident => $result:expr) => {
+        match $any {
+            ByWidth::Narrow($rows) => $result,
+            ByWidth::Wide($rows) => $result,
+        }
+    };
+}
+
+// Computes the same for two sets on one grid, whose rows have one width.
+macro_rules! by_one_width {
+    ($any:expr, $other:expr, $rows:ident, $others:ident => $result:expr) => {
+        match ($any, $other) {
+            (ByWidth::Narrow($rows), ByWidth::Narrow($others)) => $result,
+            (ByWidth::Wide($rows), ByWidth::Wide($others)) => $result,
+            _ => unreachable!(),
+        }
+    };
+}
+
+impl Model for Rows {
     ghost use Rattle.cellset.specs.CellSet.{CellsOn};
     ghost use Rattle.cellset.specs.Coding.{coded_cells_on};
 
@@ -36,33 +71,48 @@ impl<const N: usize> Model for RowsOf<N> {
 
     ghost coded = { coded_cells_on };
 
-    ghost use Rattle.reach.specs.RowSet.{AreRowsOf, members_in};
+    ghost use Rattle.reach.specs.Rows.{cells_in, AreRows, IsOccupied};
 
-    ghost view = { λ r. record { extent = r.shape; members = members_in r.shape r.rows.items } };
+    ghost view = { λ r. cells_in r.shape r.rows };
 
-    ghost invariant = { λ r. AreRowsOf N r.shape r.rows.items };
+    ghost invariant = { λ r. AreRows r.shape r.rows × IsOccupied (cells_in r.shape r.rows) r.occupied };
 }
 
-impl<const N: usize> RowsOf<N> {
+impl Rows {
     /// Returns empty rows for a grid.
-    pub fn new(alloc: Global, shape: Shape) -> Result<RowsOf<N>, AllocError>
-        requires few { N ≤ 4 }
-        requires wide { shape.width < 64 * N }
+    pub fn new(alloc: Global, shape: Shape) -> Result<Rows, AllocError>
         ensures { IfOk result (λ r. (r.extent ≡ shape) × (r.members ≡ set.empty)) }
     {
-        let rows = vec![in alloc; [0; N]; shape.height() as usize + 1]?;
-        Ok(RowsOf { shape, rows })
+        let count = shape.height() as usize + 1;
+        let rows = if is_narrow(shape) {
+            ByWidth::Narrow(empty(alloc, count)?)
+        } else {
+            ByWidth::Wide(empty(alloc, count)?)
+        };
+        let occupied = Some(Worklist::none());
+        Ok(Rows {
+            shape,
+            rows,
+            occupied,
+        })
     }
 
     /// Empties the rows and gives them another grid. Allocates only if their memory isn't enough.
-    pub fn renew(&mut self, shape: Shape) -> Result<(), AllocError>
-        requires { shape.width < 64 * N }
+    pub fn renew(&mut self, alloc: Global, shape: Shape) -> Result<(), AllocError>
         ensures renewed { OnOk result ((self.new.extent ≡ shape) × (self.new.members ≡ set.empty)) }
         ensures same { OnErr result (self.new ≡ self.old) }
     {
-        self.rows.resize(shape.height() as usize + 1, [0; N])?;
-        clear(&mut self.rows);
+        let (count, is_narrow) = (shape.height() as usize + 1, is_narrow(shape));
+        match &mut self.rows {
+            ByWidth::Narrow(rows) if is_narrow => renew(rows, count)?,
+            ByWidth::Wide(rows) if !is_narrow => renew(rows, count)?,
+            _ => {
+                *self = Rows::new(alloc, shape)?;
+                return Ok(());
+            }
+        }
         self.shape = shape;
+        self.occupied = Some(Worklist::none());
         Ok(())
     }
 
@@ -74,10 +124,25 @@ impl<const N: usize> RowsOf<N> {
     }
 
     /// Returns whether the cell is in the rows.
+    #[inline]
     pub fn has(&self, cell: Cell) -> bool
         ensures { IsTrue result ↔ Has self.now.members cell }
     {
-        has(&self.rows, cell.row() as usize, cell.column() as usize)
+        by_width!(&self.rows, rows => has(rows, cell.row() as usize, cell.column() as usize))
+    }
+
+    /// Returns whether the rows have some cell of a set.
+    pub fn meets<S: CellSet>(&self, cells: &S) -> bool
+        ensures { MatchBool result
+            ((c : GridCell) × Has (S.members cells.now) c × Has self.now.members c)
+            ((c : GridCell) → Has (S.members cells.now) c → Lacks self.now.members c) }
+    {
+        for cell in MembersOf::new(cells) {
+            if self.has(cell) {
+                return true;
+            }
+        }
+        false
     }
 
     /// Returns 64 columns of a row of the grid as bits, numbered as in `CellSet::row`.
@@ -85,14 +150,14 @@ impl<const N: usize> RowsOf<N> {
         requires { (row ≤ self.now.extent.height) × (64 * part ≤ self.now.extent.width) }
         ensures { IsRowOf self.now.members row part result }
     {
-        self.rows[row as usize][part as usize]
+        by_width!(&self.rows, rows => rows[row as usize][part as usize])
     }
 
     /// Returns whether no cell is in the rows.
     pub fn is_empty(&self) -> bool
         ensures { MatchBool result (self.now.members ≡ set.empty) ((c : GridCell) × Has self.now.members c) }
     {
-        are_empty(&self.rows)
+        by_width!(&self.rows, rows => are_empty(rows))
     }
 
     /// Returns whether a cell lies in the first or last row or column of the grid.
@@ -100,16 +165,18 @@ impl<const N: usize> RowsOf<N> {
         ensures { MatchBool result ((c : GridCell) × Has self.now.members c × IsAtEdge self.now.extent c)
             ((c : GridCell) → Has self.now.members c → IsAtEdge self.now.extent c → ⊥) }
     {
-        is_at_edge(&self.rows, self.shape)
+        by_width!(&self.rows, rows => is_at_edge(rows, self.shape))
     }
 
-    /// Returns the rows and columns around a cell of the grid, three of each.
+    /// Returns which of the cells around a cell of the grid are in the rows.
     #[inline(always)]
-    pub fn around(&self, cell: Cell) -> [[u64; 1]; 3]
+    pub fn ring(&self, cell: Cell) -> Ring
         requires { IsOn self.now.extent cell }
-        ensures { AreAround (Has self.now.members) cell result }
+        ensures { IsRing (Has self.now.members) cell result }
     {
-        read_around(&self.rows, cell.row() as usize, cell.column() as usize)
+        let (row, column) = (cell.row() as usize, cell.column() as usize);
+        let around = by_width!(&self.rows, rows => read_around(rows, row, column));
+        read_ring(&around)
     }
 
     /// Adds a cell of the grid.
@@ -118,7 +185,20 @@ impl<const N: usize> RowsOf<N> {
         ensures extent { self.new.extent ≡ self.old.extent }
         ensures members { (c : GridCell) → Has self.new.members c ↔ (Has self.old.members c ⊎ (c ≡ cell)) }
     {
-        insert(&mut self.rows[cell.row() as usize], cell.column() as usize);
+        let (row, column) = (cell.row() as usize, cell.column() as usize);
+        by_width!(&mut self.rows, rows => insert(&mut rows[row], column));
+        if let Some(occupied) = &mut self.occupied {
+            occupied.add(row);
+        }
+    }
+
+    /// Removes a cell of the grid.
+    pub fn remove(&mut self, cell: Cell)
+        requires { IsOn self.old.extent cell }
+        ensures extent { self.new.extent ≡ self.old.extent }
+        ensures members { (c : GridCell) → Has self.new.members c ↔ (Has self.old.members c × (c ≡ cell → ⊥)) }
+    {
+        self.remove_row(cell.row(), cell.column() / 64, 1 << (cell.column() % 64));
     }
 
     /// Removes the cells of a row of the grid whose bits are set, numbered as in `CellSet::row`.
@@ -127,16 +207,7 @@ impl<const N: usize> RowsOf<N> {
         ensures extent { self.new.extent ≡ self.old.extent }
         ensures members { (c : GridCell) → Has self.new.members c ↔ (Has self.old.members c × Lacks (cells_of_row row part bits) c) }
     {
-        remove(&mut self.rows[row as usize], part as usize, bits);
-    }
-
-    /// Replaces the cells by the cells of other rows.
-    pub fn copy_from(&mut self, other: &RowsOf<N>)
-        requires { self.old.extent ≡ other.now.extent }
-        ensures extent { self.new.extent ≡ self.old.extent }
-        ensures members { self.new.members ≡ other.now.members }
-    {
-        self.rows.copy_from_slice(&other.rows);
+        by_width!(&mut self.rows, rows => remove(&mut rows[row as usize], part as usize, bits));
     }
 
     /// Removes every cell.
@@ -144,16 +215,27 @@ impl<const N: usize> RowsOf<N> {
         ensures extent { self.new.extent ≡ self.old.extent }
         ensures members { self.new.members ≡ set.empty }
     {
-        clear(&mut self.rows);
+        by_width!(&mut self.rows, rows => clear(rows));
+        self.occupied = Some(Worklist::none());
+    }
+
+    /// Replaces the cells by the cells of other rows.
+    pub fn copy_from(&mut self, other: &Rows)
+        requires { self.old.extent ≡ other.now.extent }
+        ensures extent { self.new.extent ≡ self.old.extent }
+        ensures members { self.new.members ≡ other.now.members }
+    {
+        by_one_width!(&mut self.rows, &other.rows, rows, others => rows.copy_from_slice(others));
+        self.occupied = other.occupied;
     }
 
     /// Removes the cells that the other rows have.
-    pub fn subtract(&mut self, other: &RowsOf<N>)
+    pub fn subtract(&mut self, other: &Rows)
         requires { self.old.extent ≡ other.now.extent }
         ensures extent { self.new.extent ≡ self.old.extent }
         ensures members { (c : GridCell) → Has self.new.members c ↔ (Has self.old.members c × (Has other.now.members c → ⊥)) }
     {
-        subtract(&mut self.rows, &other.rows);
+        by_one_width!(&mut self.rows, &other.rows, rows, others => subtract(rows, others));
     }
 
     /// Replaces the cells by all other cells of the grid.
@@ -161,8 +243,9 @@ impl<const N: usize> RowsOf<N> {
         ensures extent { self.new.extent ≡ self.old.extent }
         ensures members { (c : GridCell) → Has self.new.members c ↔ (IsOn self.old.extent c × (Has self.old.members c → ⊥)) }
     {
-        let on = columns(self.shape.width() as usize);
-        complement(&mut self.rows, &on);
+        self.occupied = None;
+        let width = self.shape.width() as usize;
+        by_width!(&mut self.rows, rows => complement(rows, &columns(width)));
     }
 
     /// Replaces the cells by the members of a set.
@@ -171,9 +254,10 @@ impl<const N: usize> RowsOf<N> {
         ensures extent { self.new.extent ≡ self.old.extent }
         ensures members { self.new.members ≡ S.members cells.now }
     {
+        self.occupied = None;
         // For the proof: the cells of a set lie on its grid.
         let _shape = cells.shape();
-        load(cells, &mut self.rows);
+        by_width!(&mut self.rows, rows => load(cells, rows));
     }
 
     /// Adds the cells to a set.
@@ -182,171 +266,56 @@ impl<const N: usize> RowsOf<N> {
         ensures extent { S.extent into.new ≡ S.extent into.old }
         ensures members { S.members into.new ≡ set.union (S.members into.old) self.now.members }
     {
-        store(&self.rows, into);
+        by_width!(&self.rows, rows => store(rows, into));
     }
 
-    /// Adds every cell that a chain of steps reaches. `queued` has each row of these cells.
-    pub(crate) fn grow<T: StepBy<N>>(&mut self, free: &RowsOf<N>, queued: Worklist<4>)
-        requires free { self.old.extent ≡ free.now.extent }
-        requires queued { AreRowsQueued self.old queued.words }
+    /// Returns the cells as a set.
+    pub fn to_set<S: CellSet>(&self, alloc: Global) -> Result<S, AllocError>
+        ensures { IfOk result (λ s. (S.extent s ≡ self.now.extent) × (S.members s ≡ self.now.members)) }
+    {
+        let mut cells = S::new(alloc, self.shape())?;
+        self.store(&mut cells);
+        Ok(cells)
+    }
+
+    /// Adds every cell that a chain of steps reaches.
+    pub fn grow<T: Step>(&mut self, free: &Rows)
+        requires { self.old.extent ≡ free.now.extent }
         ensures extent { self.new.extent ≡ self.old.extent }
         ensures exact { (c : GridCell) → Has self.new.members c ↔ Reached (T.leads (set.contains free.now.members)) (Has self.old.members) c }
     {
-        grow::<T, N>(&free.rows, &mut self.rows, queued);
+        let queued = self.occupied();
+        self.occupied = None;
+        by_one_width!(&mut self.rows, &free.rows, rows, frees => grow::<T, _>(frees, rows, queued));
     }
 
-    /// Returns the rows that have a cell.
-    pub(crate) fn occupied(&self) -> Worklist<4>
+    // Returns the rows that have a cell, and maybe others.
+    fn occupied(&self) -> Worklist<4>
         ensures { AreRowsQueued self.now result.words }
     {
-        occupied(&self.rows)
-    }
-}
-
-// Returns whether the cell is in the rows.
-fn has<const N: usize>(rows: &[[u64; N]], row: usize, column: usize) -> bool
-    ensures { IsTrue result ↔ InRows rows.now (cell_at column row) }
-{
-    row < rows.len() && has_bit(&rows[row], column)
-}
-
-// Returns whether no row has a cell.
-fn are_empty<const N: usize>(rows: &[[u64; N]]) -> bool
-    ensures { MatchBool result ((c : GridCell) → InRows rows.now c → ⊥) ((c : GridCell) × InRows rows.now c) }
-{
-    for y in 0..rows.len() {
-        if any(&rows[y]) {
-            return false;
+        match self.occupied {
+            Some(rows) => rows,
+            None => by_width!(&self.rows, rows => occupied(rows)),
         }
     }
-    true
-}
 
-// Returns whether a cell lies in the first or last row or column of the grid.
-fn is_at_edge<const N: usize>(rows: &[[u64; N]], shape: Shape) -> bool
-    requires { AreRowsOf N shape rows.now }
-    ensures { MatchBool result ((c : GridCell) × InRows rows.now c × IsAtEdge shape c)
-        ((c : GridCell) → InRows rows.now c → IsAtEdge shape c → ⊥) }
-{
-    if any(&rows[1]) {
-        return true;
-    }
-    if any(&rows[shape.height() as usize]) {
-        return true;
-    }
-    let mut sides = [0; N];
-    insert(&mut sides, 1);
-    insert(&mut sides, shape.width() as usize);
-    have_column(rows, &sides)
-}
-
-// Returns whether a row has one of these columns.
-fn have_column<const N: usize>(rows: &[[u64; N]], columns: &[u64; N]) -> bool
-    ensures { MatchBool result ((c : GridCell) × InRows rows.now c × HasBit columns.now c.column)
-        ((c : GridCell) → InRows rows.now c → HasBit columns.now c.column → ⊥) }
-{
-    for y in 0..rows.len() {
-        if any(&both(&rows[y], columns)) {
-            return true;
-        }
-    }
-    false
-}
-
-// Empties the rows.
-fn clear<const N: usize>(rows: &mut [[u64; N]])
-    ensures rows { length rows.new ≡ length rows.old }
-    ensures none { (c : GridCell) → InRows rows.new c → ⊥ }
-{
-    for y in 0..rows.len() {
-        rows[y] = [0; N];
+    /// Returns whether no step leads out of the cells.
+    pub fn is_closed<T: Step>(&self, alloc: Global, free: &Rows) -> Result<bool, AllocError>
+        requires { self.now.extent ≡ free.now.extent }
+        ensures { IfOk result (λ told. IsTrue told ↔ IsClosedUnder (T.leads (set.contains free.now.members)) (Has self.now.members)) }
+    {
+        let mut reached = Rows::new(alloc, self.shape())?;
+        reached.copy_from(self);
+        reached.grow::<T>(free);
+        reached.subtract(self);
+        Ok(reached.is_empty())
     }
 }
 
-// Removes from each row the columns that the same row of the others has.
-fn subtract<const N: usize>(rows: &mut [[u64; N]], other: &[[u64; N]])
-    requires { length other.now ≡ length rows.old }
-    ensures rows { length rows.new ≡ length rows.old }
-    ensures cells { (c : GridCell) → InRows rows.new c ↔ (InRows rows.old c × (InRows other.now c → ⊥)) }
+// Returns whether the rows of a grid have one word.
+fn is_narrow(shape: Shape) -> bool
+    ensures narrow { result ≡ true → shape.width < 64 }
+    ensures wide { result ≡ false → 64 ≤ shape.width }
 {
-    for y in 0..rows.len() {
-        rows[y] = without(&rows[y], &other[y]);
-    }
-}
-
-// Replaces each row but row 0 by the columns of the grid that it lacks.
-fn complement<const N: usize>(rows: &mut [[u64; N]], on: &[u64; N])
-    requires { (c : GridCell) → c.row ≡ 0 → InRows rows.old c → ⊥ }
-    ensures rows { length rows.new ≡ length rows.old }
-    ensures cells { (c : GridCell) → InRows rows.new c
-        ↔ ((1 ≤ c.row) × (c.row < length rows.old) × HasBit on.now c.column × (InRows rows.old c → ⊥)) }
-{
-    for y in 1..rows.len() {
-        rows[y] = without(on, &rows[y]);
-    }
-}
-
-// Replaces the rows by the rows of a set.
-fn load<const N: usize, S: CellSet>(cells: &S, rows: &mut [[u64; N]])
-    requires few { N ≤ 4 }
-    requires high { length rows.old ≤ 256 }
-    ensures rows { length rows.new ≡ length rows.old }
-    ensures cells { (c : GridCell) → InRows rows.new c ↔ ((c.row < length rows.old) × (c.column < 64 * N) × Has (S.members cells.now) c) }
-{
-    for y in 0..rows.len() {
-        rows[y] = row_of(cells, y as u8);
-    }
-}
-
-// Adds the cells of the rows to a set, on whose grid they lie.
-fn store<const N: usize, S: CellSet>(rows: &[[u64; N]], into: &mut S)
-    requires few { N ≤ 4 }
-    requires high { length rows.now ≤ 256 }
-    requires on { (c : GridCell) → InRows rows.now c → IsOn (S.extent into.old) c }
-    ensures extent { S.extent into.new ≡ S.extent into.old }
-    ensures members { (c : GridCell) → Has (S.members into.new) c ↔ (Has (S.members into.old) c ⊎ InRows rows.now c) }
-{
-    for y in 0..rows.len() {
-        store_row(&rows[y], y as u8, into);
-    }
-}
-
-// Returns the rows that have a cell.
-fn occupied<const N: usize>(rows: &[[u64; N]]) -> Worklist<4>
-    requires { length rows.now ≤ 256 }
-    ensures all { (c : GridCell) → InRows rows.now c → HasBit result.words c.row }
-    ensures within { (k : ℕ) → HasBit result.words k → k < length rows.now }
-{
-    let mut waiting = Worklist::none();
-    for y in 0..rows.len() {
-        if any(&rows[y]) {
-            waiting.add(y);
-        }
-    }
-    waiting
-}
-
-// Returns the columns of a row of a set. Bit 1 is column 1, and columns past the last word are left out.
-fn row_of<const N: usize, S: CellSet>(cells: &S, y: u8) -> [u64; N]
-    requires few { N ≤ 4 }
-    ensures { (k : ℕ) → HasBit result k ↔ ((k < 64 * N) × Has (S.members cells.now) (cell_at k y)) }
-{
-    let mut row = [0; N];
-    for part in 0..N {
-        row[part] = cells.row(y, part as u8);
-    }
-    row
-}
-
-// Adds the cells of a row to a set, on whose grid they lie.
-fn store_row<const N: usize, S: CellSet>(row: &[u64; N], y: u8, into: &mut S)
-    requires few { N ≤ 4 }
-    requires on { (k : ℕ) → HasBit row.now k → IsOn (S.extent into.old) (cell_at k y) }
-    ensures extent { S.extent into.new ≡ S.extent into.old }
-    ensures members { (c : GridCell) → Has (S.members into.new) c
-        ↔ (Has (S.members into.old) c ⊎ ((c.row ≡ y) × HasBit row.now c.column)) }
-{
-    for part in 0..N {
-        into.insert_row(y, part as u8, row[part]);
-    }
+    shape.width() < 64
 }

@@ -4,7 +4,7 @@ ghost use Rattle.cellset.specs.Shape.{Extent};
 ghost use Rattle.cellset.specs.Cell.{IsOn, cell_at};
 ghost use Rattle.cellset.specs.declared.cell.Cell.{Cell as GridCell};
 ghost use Rattle.reach.specs.Bits.{HasBit, room_left};
-ghost use Rattle.reach.specs.RowsOf.{InRows, InRow};
+ghost use Rattle.reach.specs.BitRows.{InRows, InRow};
 ghost use Rattle.reach.specs.Reached.{Reached, WalksTo, PullsTo, PushesTo};
 ghost use Rattle.reach.specs.Grown.{AreInside, IsAllOn, Passes, in_rows, IsAbove, IsBelow, IsBeside};
 

@@ -3,7 +3,7 @@ use Rattle.reach.specs.Grown.{IsAllOn}
 use Rattle.reach.specs.Grown.{in_rows}
 use Rattle.std.proofs.Common.{◌≡◌, ℕ, ◌<◌, length}
 use Rattle.reach.specs.Bits.{HasBit}
-use Rattle.reach.specs.RowsOf.{InRows, work_left}
+use Rattle.reach.specs.BitRows.{InRows, work_left}
 use Rattle.reach.proofs.Chains.{IsGrowing}
 use Rattle.reach.proofs.grow.grow_by.Given as goal
 

@@ -1,6 +1,6 @@
 -- The row grows by the steps within it, and then by the steps from it to the rows above and below. Together these are all steps from the row,
 -- so it is closed again, and a step reaches each cell that was added (`look`).
-use Rattle.reach.specs.RowsOf.{InRows}
+use Rattle.reach.specs.BitRows.{InRows}
 use Rattle.reach.specs.Grown.{in_rows}
 use Rattle.std.proofs.Common.{length, arith}
 use Rattle.reach.proofs.Chains.{look, row_filled, reached_on}

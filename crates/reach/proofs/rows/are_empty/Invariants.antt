@@ -1,7 +1,0 @@
-use Rattle.std.proofs.Common.{◌<◌}
-use Rattle.cellset.specs.declared.cell.Cell.{Cell}
-use Rattle.reach.specs.RowsOf.{InRows}
-use Rattle.reach.proofs.rows.are_empty.Given as goal
-
-abbrev pub invariant-loop-y : goal.invariant-loop-y
-invariant-loop-y g l = (c : Cell) → c.row < l.y → InRows l.rows c → ⊥
