@@ -3,12 +3,14 @@ import contextlib
 import itertools
 import json
 import os
+import random
 import signal
 import unittest.mock
 from typing import Any, Callable, Dict, Iterator, List
 
 from sokotool import system, texts, transaction
 
+from . import disk
 from .ending import Killed
 from .helping import Case, not_on_windows
 
@@ -273,22 +275,23 @@ class Transactions(Case):
         self.assertEqual(self.files(), {**OLD, "journal": b"[]"})
 
     def test_power_cut(self) -> None:
-        """New files, the journal and their names are on the disk before the first move, and the
-        moves are before the journal goes."""
-        done: List[str] = []
-
-        def note(name: str) -> Any:
-            return unittest.mock.patch.object(system, name, lambda it: done.append(
-                f"{name} {os.path.basename(str(getattr(it, 'name', it)))[:9]}"))
-        with note("keep"), note("keep_names"), at_calls(lambda _: done.append("call")) as calls:
-            self.commit()
-        folder = "keep_names " + os.path.basename(self.folder)[:9]
-        self.assertEqual(done[:6], ["keep .sokotool"] * 3 + ["keep journal", folder, "call"])
-        self.assertEqual(done.count(folder), 2)
-        rest = done[::-1].index(folder)
-        self.assertEqual(done[-rest:], ["call"] * rest)
-        # the journal, each new file, and each former one
-        self.assertEqual(calls[-rest:], ["unlink"] * (1 + 2 * len(FILES) - 1))
+        """After a power cut at any moment, and one more while the write is ended, the files are all
+        old or all new, and no other is left."""
+        with disk.followed() as cuts:
+            self.assertTrue(self.commit())
+        found = []
+        for left in sorted(cuts):
+            disk.put(left)
+            with disk.followed() as more:
+                self.assertEqual(transaction.finish("journal"), "", left)
+            found.append(self.files())
+            self.assertIn(found[-1], (OLD, NEW), left)
+            for again in random.Random(5).sample(sorted(more), min(3, len(more))):
+                disk.put(again)
+                transaction.finish("journal")
+                self.assertIn(self.files(), (OLD, NEW), (left, again))
+        self.assertIn(OLD, found)
+        self.assertIn(NEW, found)
 
     # ---- what stays, and other systems
 

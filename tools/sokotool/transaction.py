@@ -4,8 +4,9 @@ Each former file is moved aside, whatever it is then, and compared there. The ne
 place only if no file is there. So whatever somebody saves at any moment is found, and put back. A
 journal has the moves while they are made, so that `finish` can go on with them or take them back.
 
-The new files and the journal are on the disk before the first move, and the moves are before the
-journal goes. So `finish` also ends what a power cut left.
+The new files and the journal are on the disk before the first move, the moves are before the
+journal goes, and its name is gone there before a former file goes. So `finish` also ends what a
+power cut left, if the disk has some of these changes, in whatever order.
 """
 import contextlib
 import glob
@@ -61,10 +62,12 @@ class Move(NamedTuple):
 def commit(files: Sequence[Tuple[str, Optional[bytes], Optional[bytes]]], journal: str) -> None:
     """Replaces files, given by name with their bytes before and after; None is no file. Raises
     `Changed` if somebody has changed one of them, and replaces none then."""
-    with output.made([(name, after) for name, _, after in files], _mark(journal)) as made:
+    mark = _mark(journal)
+    with output.made([(name, after) for name, _, after in files], mark) as made:
         names = {os.path.realpath(name): (_name_of(before), _name_of(after))
                  for name, before, after in files}
-        moves = [Move(path, new, output.name_beside(path), *names[path]) for new, path in made]
+        moves = [Move(path, new, output.name_beside(path, mark), *names[path])
+                 for new, path in made]
         with system.uninterrupted():
             _begin(journal, moves)
             made.clear()
@@ -76,7 +79,7 @@ def commit(files: Sequence[Tuple[str, Optional[bytes], Optional[bytes]]], journa
 def finish(journal: str) -> str:
     """Ends a write that was cut off: goes on with it, or takes it back if a file that it left as it
     was has been changed since. Returns the path of such a file, or "". New files of a write that
-    had no journal yet are removed."""
+    had no journal yet are removed, and former ones of a write whose journal is gone."""
     try:
         with open(journal, "rb") as file:
             moves = [Move(*words) for words in json.load(file)]
@@ -91,8 +94,8 @@ def finish(journal: str) -> str:
 
 
 def _mark(journal: str) -> str:
-    """Returns a mark of the new files of all writes with this journal, of which there is one at a
-    time."""
+    """Returns a mark of the new and former files of all writes with this journal, of which there is
+    one at a time."""
     return texts.digest(os.fsencode(os.path.basename(journal)))[:8] + "-"
 
 
@@ -107,6 +110,7 @@ def _end(moves: Sequence[Move], journal: str, is_new: bool) -> str:
             _take_back(moves, "" if is_new else journal)
         _keep_names(journal, moves)
         output.remove(journal)
+        _keep_names(journal, ())
         for it in moves:
             output.remove(it.made)
             output.remove(it.aside)
@@ -116,7 +120,8 @@ def _end(moves: Sequence[Move], journal: str, is_new: bool) -> str:
 
 
 def _begin(journal: str, moves: Sequence[Move]) -> None:
-    """Writes a journal, which no other process may have."""
+    """Writes a journal, which no other process may have. What it names is on the disk before."""
+    _keep_names(journal, moves)
     try:
         with open(journal, "x", encoding="utf-8") as file:
             try:
