@@ -1,7 +1,8 @@
 # Targets for people; the script 'sokoaudit' needs only prove-sokoaudit.
 #   make                 proves and builds the program; make prove-CRATE proves one crate after the crates that it uses
 #   make check           runs the gate
-#   make fuzz            compares the program with the reference on new random cases, for a minute, or MINUTES=60
+#   make fuzz            compares the program, the reference and the page's module on new random cases and on texts that are changed a little,
+#                        for ten minutes, or MINUTES=60; SEED=5 repeats those of a seed, which is printed
 #   make install         installs the program, sokotool, man pages, completions, documents and samples below DESTDIR/PREFIX
 #   make install-tools   installs the same with the reference in place of the program, in seconds and without the toolchain
 #                        (without make: python3 packaging/install-tools PREFIX)
@@ -25,7 +26,7 @@ all:
 check:
 	@bash .ci/run
 fuzz: all
-	@tests/run reference.fuzz --minutes $(or $(MINUTES),1) $(built)/sokoaudit
+	@tests/run reference.fuzz --minutes $(or $(MINUTES),10) $(if $(SEED),--seed $(SEED)) --page sokoaudit.html $(built)/sokoaudit
 pyz:
 	@packaging/pyz
 install: all

@@ -1,7 +1,9 @@
-"""Compares the reference, in this process, with a program and with the library for C."""
+"""Compares the reference, in this process, with a program, with the library for C, and with the
+module of the page."""
 import ctypes
 import functools
 import importlib.machinery
+import json
 import os
 import shutil
 import subprocess
@@ -97,6 +99,33 @@ class Program(Auditor):
             return call([self.path, command, *names], timeout=SECONDS)
         except subprocess.TimeoutExpired:
             return Ran(b"", b"over %d seconds\n" % SECONDS, -1)
+
+
+class Module(Auditor):
+    """The module of a page, which node calls."""
+    name = "module of the page"
+
+    def __init__(self, page: str) -> None:
+        words = ["node", os.path.join(os.path.dirname(__file__), "module.js"), page]
+        self.node = subprocess.Popen(words, stdin=subprocess.PIPE, stdout=subprocess.PIPE)
+
+    def __enter__(self) -> "Module":
+        return self
+
+    def __exit__(self, *_: object) -> None:
+        self.node.communicate()
+
+    def run(self, command: str, *words: Word) -> Ran:
+        texts = [it for it in words if isinstance(it, bytes)]
+        numbers = [it for it in words if isinstance(it, int)]
+        stdin, stdout = self.node.stdin, self.node.stdout
+        assert stdin and stdout
+        stdin.write(json.dumps([command, [*map(len, texts)], *numbers]).encode() + b"\n")
+        stdin.write(b"".join(texts))
+        stdin.flush()
+        status, length = json.loads(stdout.readline() or '[-1, 0]')
+        text = stdout.read(length)
+        return Ran(b"", text + b"\n", status) if status == 2 else Ran(text, b"", status)
 
 
 class Outcome(ctypes.Structure):
