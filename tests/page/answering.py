@@ -9,7 +9,7 @@ from tests.tools.helping import pace
 LONGEST, TRIES = 100, 3
 LEVEL = b"#####\n#@$.#\n#####\n"
 MOST = 33554432
-INSIDE = "$('page').contentDocument"
+INSIDE = "$('view')"
 COUNTS = f"{INSIDE}.querySelector('.counts')"
 ROW = b"#" + b" " * 98 + b"#\n"
 BOARD = b"#" * 100 + b"\n#@" + b" " * 97 + b"#\n" + ROW * 16 + b"".join(
@@ -66,12 +66,12 @@ def many_levels(check: Comparison, tab: Tab) -> None:
     many = files((LEVEL + b"Title: a level\n\n") * 10000, HEADER + b"".join(
         b"level %d\nsolution\nR\nend\n" % i for i in range(1, 10001)))
     answers(check, tab, "10,000 levels", give(tab, *many))
-    words = f"{INSIDE}.querySelector('#words')"
+    words = f"{INSIDE}.querySelector('.words')"
     for name, script in (("scrolling", "scrollTo(0, 1e5)"), ("searching", (
             f"{words}.value = '99'; {words}.dispatchEvent(new Event('input'))"))):
         answers(check, tab, f"{name} 10,000 levels", show(tab, script, "true"))
     answers(check, tab, "opening one of 10,000", show(
-        tab, "$('page').contentWindow.go(5000)", COUNTS))
+        tab, "viewer.go(5000)", COUNTS))
     tab.ask("clear(); 0")
     answers(check, tab, "10,000 levels without answers", give(tab, many[0]))
 
@@ -94,7 +94,7 @@ def large_texts(check: Comparison, tab: Tab) -> None:
         tab, f"{press % 'Home'}; {press % 'End'}", played))
     answers(check, tab, "65,535 patterns", give(tab, *files(BOARD, listed())))
     answers(check, tab, "opening 65,535 patterns", show(
-        tab, "$('page').contentWindow.go(1)", f"{INSIDE}.querySelector('.pushes li')"))
+        tab, "viewer.go(1)", f"{INSIDE}.querySelector('.pushes li')"))
 
 
 def large_boards(check: Comparison, tab: Tab) -> None:

@@ -31,6 +31,20 @@ USED = """(async () => {
 })()""" % (STACK, STACK)
 
 
+# what a user reads for the words of the last line
+STATES = {"solved": "solved", "unsolvable": "proved unsolvable", "refused": "refused",
+          "missing": "without an answer"}
+
+
+def in_words(total: str) -> str:
+    """The last line of a report as a user reads it, without what is zero."""
+    words = total.split()
+    counts = dict(zip(words[::2], words[1::2]))
+    said = [f"{counts[word]} {STATES[word]}" for word in STATES if counts[word] != "0"]
+    levels = f"{counts['total']} level{'s' if counts['total'] != '1' else ''}"
+    return ": ".join([levels, ", ".join(said)]) if said else levels
+
+
 class Comparison:
     """A comparison of the page in a tab with a program."""
 
@@ -72,7 +86,7 @@ class Comparison:
         self.same(f"{name}: report", ran.output, self.tab.saved("report"))
         lines = ran.output.decode()
         self.same(f"{name}: report shown", lines, self.tab.text("lines"))
-        self.same(f"{name}: total", lines.splitlines()[-1], self.tab.text("total"))
+        self.same(f"{name}: total", in_words(lines.splitlines()[-1]), self.tab.text("total"))
         self.same(f"{name}: status", ran.status, self.tab.ask("kept.status"))
         if is_shown:
             self.shows(name, (levels, answers, ran.output))

@@ -7,10 +7,10 @@ from tests.page.forms import zipped
 from tests.page.using import CORNER, LETTERS, LEVEL
 from tests.runner import TOP, write
 
-INSIDE = "$('page').contentDocument"
+INSIDE = "$('view')"
 # of each kind of shape, the cells whose middle it fills
 FILLED = """(inside => {
-    const picture = inside.querySelector("#level svg.board"), found = {};
+    const picture = inside.querySelector(".level svg.board"), found = {};
     const { width, height } = picture.viewBox.baseVal;
     for (const shape of picture.querySelectorAll("path, rect, circle")) {
         const kind = shape.getAttribute("class"), cells = found[kind] ??= [];
@@ -24,14 +24,14 @@ FILLED = """(inside => {
 # the colours in the middle of a card's cells, each by the name of what has it
 COLOURS = """((inside, width, height) => {
     const canvas = inside.querySelector(".card canvas"), pen = canvas.getContext("2d");
-    const style = inside.defaultView.getComputedStyle(inside.documentElement), names = {};
-    const dot = inside.createElement("canvas").getContext("2d");
+    const style = getComputedStyle(document.documentElement), names = {};
+    const dot = document.createElement("canvas").getContext("2d");
     for (const name of ["floor", "wall", "goal", "box", "home", "player"]) {
         dot.fillStyle = style.getPropertyValue(`--${name}`).trim();
         dot.fillRect(0, 0, 1, 1);
         names[dot.getImageData(0, 0, 1, 1).data.join()] = name;
     }
-    const scale = inside.defaultView.devicePixelRatio;
+    const scale = devicePixelRatio;
     const cell = Math.min(canvas.width / width, canvas.height / height, 14 * scale);
     const left = (canvas.width - cell * width) / 2, top = (canvas.height - cell * height) / 2;
     return Array.from({ length: height }, (_, y) => Array.from({ length: width }, (_, x) =>
@@ -64,7 +64,6 @@ def boards(check: Comparison, tab: Tab) -> None:
                              ("player", "@+")):
         check.same(f"cells of {kind}", cells(rows, characters), sorted(
             found.get(kind, []), key=lambda it: [int(n) for n in it.split(",")[::-1]]))
-    tab.ask("$('page').focus(); 0")
     tab.press("End")
     tab.wait(f"{INSIDE}.querySelector('.state').dataset.solved === 'true'")
     found = tab.ask(FILLED)
@@ -111,7 +110,7 @@ def small_boards(check: Comparison, tab: Tab) -> None:
         for board in (LEVEL, CORNER):
             rows = board.splitlines()
             width = max(map(len, rows))
-            tab.paste("levels", f"{board}\n{CORNER}")
+            tab.paste("levels", f"{board}\n" + f"{CORNER}\n" * 6)
             tab.size(1280, 900, dark)
             tab.ask("new Promise(done => setTimeout(done, 500))")
             seen = tab.ask(COLOURS % (INSIDE, width, len(rows)))
@@ -144,7 +143,7 @@ def saying(check: Comparison, tab: Tab) -> None:
     check.same("a message is an alert", True, "alert" in [role for role, _ in tab.spoken()])
     tab.paste("levels", LEVEL + LETTERS)
     tab.opened()
-    check.same("the title of a level's window", "Level 1 - levels", tab.ask(f"{INSIDE}.title"))
+    check.same("the title of a level's window", "Level 1 - levels", tab.ask("document.title"))
     tab.ask("$('levels').dispatchEvent(new Event('input')); 0")
     check.same("a stale result is pale", True, tab.ask(
         "Number(getComputedStyle($('result')).opacity) < .6"))
@@ -164,9 +163,9 @@ def saying(check: Comparison, tab: Tab) -> None:
 def rest(check: Comparison, tab: Tab) -> None:
     """Words that are found, names of files, remarks, and what goes back."""
     tab.paste("levels", f"Red one\n{LEVEL}\nBlue one\n{CORNER}Solution\nLL\n")
-    tab.ask(f"{{ const field = {INSIDE}.querySelector('#words'); field.value = 'blue one';"
+    tab.ask(f"{{ const field = {INSIDE}.querySelector('.words'); field.value = 'blue one';"
             " field.dispatchEvent(new Event('input')); } 0")
-    check.same("a level has all words that are looked for", "1 level", tab.frame("#said")[0])
+    check.same("a level has all words that are looked for", "1 level", tab.seen(".said")[0])
     check.same("the reason of a refusal on its card", True, "wall" in str(tab.ask(
         f"{INSIDE}.querySelector('.card.refused .line').title")))
     with open("two.zip", "wb") as file:
@@ -191,10 +190,10 @@ def rest(check: Comparison, tab: Tab) -> None:
     check.same("an overrun isn't the page's fault", "The program stopped", tab.ask(
         "troubleIn({ error: 'x', name: 'RuntimeError' }).slice(0, 19)"))
     tab.paste("levels", f"{LEVEL}\n{CORNER}")
-    tab.ask("Object.defineProperty($('page').contentWindow.shownData.levels[0], 'rows',"
+    tab.ask("Object.defineProperty(shownData.levels[0], 'rows',"
             " { value: ['no row'] }); 0")
     tab.opened(1)
-    check.same("an illegal board without an answer isn't drawn", 0, len(tab.frame("#level svg")))
+    check.same("an illegal board without an answer isn't drawn", 0, len(tab.seen(".level svg")))
     tab.paste("levels", LEVEL + "".join(f"uuuuuuuuuu{'u' * i}\nx\n" for i in range(250)))
     check.same("no more remarks than can be read", "and 50 more", tab.ask(
         "$('told').lastChild.textContent"))

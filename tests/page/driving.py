@@ -47,8 +47,12 @@ class Tab(Browser):
     page = ""
 
     def fresh(self) -> None:
-        """Opens the page anew."""
+        """Opens the page anew, without the example that it shows at first."""
         self.open("file://" + self.page)
+        self.wait("document.body.classList.contains('welcome') && $('busy').hidden"
+                  " && !$('result').hidden || !$('message').hidden")
+        self.ask("$('message').hidden && hide(); $('levels').value = '';"
+                 " document.body.classList.remove('welcome'); 0")
 
     def wait(self, expression: str, seconds: float = 30) -> None:
         """Waits until an expression holds."""
@@ -82,10 +86,10 @@ class Tab(Browser):
 
     def paste(self, field: str, text: str) -> str:
         """Pastes a text into a field, and waits for the result. Returns the page's message."""
-        self.ask(f"{HIDE}; if ($('{field}').closest('details')) $('more').open = true; "
-                 f"$('{field}').select(); 0")
+        self.ask(f"{HIDE}; $('form').open = true; $('{field}').select(); 0")
         self.call("Input.insertText", text=text)
-        self.ask(f"$('{field}').dispatchEvent(new ClipboardEvent('paste')); 0")
+        self.ask(f"$('{field}').dispatchEvent("
+                 "new ClipboardEvent('paste', { bubbles: true })); 0")
         self.wait(IDLE)
         return self.message()
 
@@ -96,9 +100,9 @@ class Tab(Browser):
         self.ask(PASTE_TEXT % (json.dumps(text), json.dumps(place)))
         self.wait(IDLE)
 
-    def click_in_frame(self, selector: str) -> None:
+    def click_in_view(self, selector: str) -> None:
         """Clicks on an element in the frame."""
-        self.ask(f"$('page').contentDocument.querySelector({json.dumps(selector)}).click(); 0")
+        self.ask(f"$('view').querySelector({json.dumps(selector)}).click(); 0")
 
     def paste_file(self, field: str, name: str, text: str) -> bool:
         """Pastes a file into a field, and waits for the result. Returns whether its name is shown
@@ -110,9 +114,8 @@ class Tab(Browser):
     def opened(self, number: int = 0) -> None:
         """Opens a level, if one is named, and waits until it is drawn, or isn't."""
         if number:
-            self.ask(f"$('page').contentWindow.go({number})")
-        self.wait("$('page').contentDocument.querySelector("
-                  "'#level:not([hidden]) :is(.two, .misjudged)')")
+            self.ask(f"viewer.go({number})")
+        self.wait("$('view').querySelector('.level:not([hidden]) :is(.two, .misjudged)')")
 
     def message(self) -> str:
         """The page's message, or ''."""
@@ -130,7 +133,7 @@ class Tab(Browser):
         """The bytes of a result of the last run: its report, answers or page."""
         return base64.b64decode(self.ask(BYTES % json.dumps(what)))
 
-    def frame(self, selector: str) -> Sequence[str]:
+    def seen(self, selector: str) -> Sequence[str]:
         """The texts of the elements in the frame that fit a selector."""
-        return list(self.ask("[...$('page').contentDocument.querySelectorAll("
+        return list(self.ask("[...$('view').querySelectorAll("
                              f"{json.dumps(selector)})].map(e => e.textContent)"))

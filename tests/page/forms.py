@@ -113,8 +113,8 @@ def beside(check: Comparison, tab: Tab) -> None:
         tab.give("mac.xsb", "mark.answers"), tab.text("lines")[:len(LINE)]])
     write("walls.xsb", f"{'#' * 60000}x\n{LEVEL}")
     began, _ = tab.ask("performance.now()"), tab.give("walls.xsb", "mark.answers")
-    check.same("a long line of walls beside answers", ["total 1 solved 1", True], [
-        tab.text("total")[:16], tab.ask("performance.now()") - began < 10000])
+    check.same("a long line of walls beside answers", ["1 level: 1 solved", True], [
+        tab.text("total"), tab.ask("performance.now()") - began < 10000])
 
 
 def kept(check: Comparison, tab: Tab) -> None:
@@ -127,26 +127,26 @@ def kept(check: Comparison, tab: Tab) -> None:
                [it[:49] for it in tab.told()])
     write("whole.xsb", f"{CORNER}\n{HEADER.decode()}level 1\nunsolvable\npattern 2,2 @ *\nend\n")
     tab.give("whole.xsb")
-    check.same("certificates below levels", ["whole.xsb: its certificates aren't read from here"],
-               [it[:49] for it in tab.told()])
+    check.same("certificates below levels", "level 1 unsolvable patterns 1",
+               tab.text("lines").splitlines()[0])
     names = {"x/my.memory": LEVEL, "x/my.xsb": f"{LEVEL}{LETTERS}\n", "x/my.xsb~": LEVEL,
              "x/my.kept.xsb": LEVEL, "my.report": LEVEL}
     with open("kept.zip", "wb") as file:
         file.write(zipped({name: data.encode() for name, data in names.items()}))
     tab.give("kept.zip")
     check.same("what 'sokotool check' wrote beside the levels",
-               ["total 2 solved 1", ["x/my.kept.xsb", "x/my.memory", "x/my.xsb~"]], [
-                   tab.text("total")[:16], [it.split(":")[0] for it in tab.told()]])
+               ["2 levels: 1 solved", ["x/my.kept.xsb", "x/my.memory", "x/my.xsb~"]], [
+                   tab.text("total")[:18].rstrip(","), [it.split(":")[0] for it in tab.told()]])
     for name in ("my.memory", "my.xsb", "my.xsb~", "my.answers~", "my.report"):
         write(name, f"{LEVEL}{LETTERS}\n")
     write("my.answers", ANSWERS)
     tab.give("my.answers~", "my.memory", "my.xsb", "my.xsb~", "my.answers", "my.report")
-    check.same("the same as files", ["total 1 solved 1", True, True], [
-        tab.text("total")[:16], tab.ask("$('each').hidden"),
+    check.same("the same as files", ["1 level: 1 solved", True, True], [
+        tab.text("total")[:18].rstrip(","), tab.ask("$('several').hidden"),
         "my.answers~, my.memory, my.xsb~, my.report" in tab.text("notes")])
     tab.ask("clear(); 0")
     tab.give("my.memory")
-    check.same("a memory alone", "total 1 solved 1", tab.text("total")[:16])
+    check.same("a memory alone", "1 level: 1 solved", tab.text("total")[:18].rstrip(","))
     write("own.xsb", LEVEL)
     write("own.answers", ANSWERS)
     write("own.report", f"{LINE}total 1 solved 1 unsolvable 0 refused 0 missing 0\n")
@@ -159,12 +159,12 @@ def kept(check: Comparison, tab: Tab) -> None:
         file.write(zipped(own))
     tab.give("own.zip")
     check.same("a report and a page in an archive",
-               ["total 1 solved 1", ["own.html", "own.report"]],
-               [tab.text("total")[:16], [it.split(":")[0] for it in tab.told()]])
+               ["1 level: 1 solved", ["own.html", "own.report"]],
+               [tab.text("total")[:18].rstrip(","), [it.split(":")[0] for it in tab.told()]])
     tab.ask("clear(); 0")
     tab.give("own.answers", "own.html", "own.report", "own.xsb")
-    check.same("a report and a page beside their levels", ["total 1 solved 1", True, True], [
-        tab.text("total")[:16], tab.ask("$('each').hidden"),
+    check.same("a report and a page beside their levels", ["1 level: 1 solved", True, True], [
+        tab.text("total")[:18].rstrip(","), tab.ask("$('several').hidden"),
         "own.html, own.report" in tab.text("notes")])
     tab.ask("clear(); 0")
     check.same("a report alone", "No level is found.", tab.give("own.report"))
@@ -271,7 +271,7 @@ def exports(group: str) -> Callable[[Comparison, Tab], None]:
         for export in GROUPS[group]:
             with open(export.file, "wb") as file:
                 file.write(export.text if isinstance(export.text, bytes) else export.text.encode())
-            tab.ask("remove(); 0")
+            tab.ask("inputs.remove(); 0")
             found, letters, is_told = found_in(tab, tab.give(export.file))
             wanted = (export.levels, export.solutions) if export.levels else READ.get(export.name)
             counts["right" if (found, letters) == wanted else "told"] += 1
@@ -294,9 +294,10 @@ def titles(check: Comparison, tab: Tab) -> None:
             tab.ask("shownData.levels.at(-1).title"), not tab.told()])
     listed = [{"title": it, "rows": ALPHA.split("\n"), "solution": "rRR"} for it in ("One", "Two")]
     tab.paste("levels", json.dumps(listed, indent=2))
-    check.same("titles and letters in a list of some lines", [["One", "Two"], "solved 2", []], [
-        tab.ask("shownData.levels.map(({ title }) => title)"), tab.text("total")[8:16],
-        tab.told()])
+    check.same("titles and letters in a list of some lines",
+               [["One", "Two"], "2 levels: 2 solved", []], [
+                   tab.ask("shownData.levels.map(({ title }) => title)"), tab.text("total"),
+                   tab.told()])
     tab.paste("levels", f"{ALPHA}\n// Sol 1 - r\nRR,\n\n{BETA}\n")
     check.same("a heading of a solution and its letters are no title", ["", ""], tab.ask(
         "shownData.levels.map(({ title }) => title)"))
@@ -313,7 +314,7 @@ def both(check: Comparison, tab: Tab) -> None:
     for names in ("editor.slc", "forum.txt", "lines.txt", "player.sok", "stairs.sok stairs.sol"):
         paths = [f"{TOP}/samples/exports/{name}" for name in names.split()]
         run([f"{TOP}/sokotool", "convert", "out", *paths, "--replace"])
-        tab.ask("remove(); 0")
+        tab.ask("inputs.remove(); 0")
         wanted = contents(encode(read("out.xsb")), encode(read("out.answers")))
         *found, is_told = found_in(tab, tab.give(*paths))
         check.same(f"{names}: as convert reads it", True, [*wanted] == found or is_told)

@@ -15,18 +15,18 @@ def judging(check: Comparison, tab: Tab) -> None:
     count = tab.ask("shownData.levels.length")
     for number in range(1, count + 1):
         tab.opened(number)
-        said = "".join(tab.frame(".judged, .misjudged"))
-        is_large = "board size" in tab.frame("#level .verdict")[0]
-        check.same(f"level {number} is judged", "" if is_large else "same verdict.", said[-13:])
-        is_refused = " refused " in tab.frame("#level .verdict")[0]
-        check.same(f"level {number} is explained", is_refused, bool(tab.frame(".why")[0]))
+        said = "".join(tab.seen(".judged, .misjudged"))
+        is_large = "board size" in tab.seen(".level .verdict")[0]
+        check.same(f"level {number} is judged", not is_large, "same verdict." in said)
+        is_refused = " refused " in tab.seen(".level .verdict")[0]
+        check.same(f"level {number} is explained", is_refused, bool(tab.seen(".why")[0]))
     for change in ("levels[0], 'rows', { value: shownData.levels[1].rows }",
                    "levels[0], 'rows', { value: ['no row'] }",
                    "records[1], 'bytes', { value: bytesOf('L\\n') }"):
         tab.give(f"{samples}every.xsb", f"{samples}every.answers")
-        tab.ask(f"Object.defineProperty($('page').contentWindow.shownData.{change}); 0")
+        tab.ask(f"Object.defineProperty(shownData.{change}); 0")
         tab.opened(1)
-        check.same(f"not drawn: {change}", 0, len(tab.frame("#level svg")))
+        check.same(f"not drawn: {change}", 0, len(tab.seen(".level svg")))
 
 
 # Each read of a file of some length, each message of a thread and each start of one comes late.
@@ -45,7 +45,8 @@ SLOW = """{
         }
     };
 } 0"""
-PASTED = f"$('levels').value = {CORNER!r}; $('levels').dispatchEvent(new Event('paste')); 0"
+PASTED = (f"$('levels').value = {CORNER!r}; $('levels').dispatchEvent("
+          "new Event('paste', { bubbles: true })); 0")
 # What a user does first, and then; and what is shown in the end: the report's first line, the name
 # of the levels, and the message.
 FIRST: Dict[str, Callable[[Tab], object]] = {
@@ -145,7 +146,7 @@ def stopped(check: Comparison, tab: Tab) -> None:
     tab.choose("a.xsb", "b.xsb", "c.xsb")
     tab.wait("$('levels-file').hidden")
     tab.ask("new Promise(done => setTimeout(done, 400))")
-    check.same("files that are removed aren't audited", [1, True], tab.ask(
+    check.same("files that are removed aren't audited", [0, True], tab.ask(
         "[document.querySelectorAll('#each button').length, $('busy').hidden]"))
     tab.click("#clear")
     check.same("nothing is said after Clear", ["", True], tab.ask(
@@ -153,73 +154,58 @@ def stopped(check: Comparison, tab: Tab) -> None:
 
 
 # whether the keys are within the window
-KEYS_IN_VIEW = """(frame => {
-    const dialog = frame.contentDocument.querySelector("dialog");
-    frame.contentWindow.showKeys();
-    const { top, bottom } = dialog.getBoundingClientRect(), at = frame.getBoundingClientRect().top;
+KEYS_IN_VIEW = """(dialog => {
+    viewer.showKeys();
+    const { top, bottom } = dialog.getBoundingClientRect();
     dialog.close();
-    return at + top >= 0 && at + bottom <= innerHeight;
-})($('page'))"""
+    return top >= 0 && bottom <= innerHeight;
+})($('view').querySelector("dialog"))"""
 
 
 def around(check: Comparison, tab: Tab) -> None:
-    """The frame, the cards, paper, and a window of its own."""
+    """The cards, the browser's Back, paper, and a tab of its own."""
     tab.call("Page.resetNavigationHistory")  # A browser keeps 50 steps.
     corpus = "".join(f"{CORNER}Title: Level gypq {i}\n\n" for i in range(300))
     write("many.xsb", f"{CORRIDOR}{'lr' * 200}{'R' * 100}\n\n{corpus}")
     tab.give("many.xsb")
-    check.same("counts of three digits", "500 moves, 100 pushes", tab.frame(".card .line")[0])
-    check.same("no card is cut", True, tab.ask(
-        "[...$('page').contentDocument.querySelectorAll('.card')]"
-        ".every(it => it.scrollHeight <= it.clientHeight)"))
-    check.same("the frame has no scroll bar", True, tab.ask(
-        "$('page').contentDocument.documentElement.scrollHeight <= $('page').clientHeight"))
+    check.same("counts of three digits", "500 moves, 100 pushes", tab.seen(".card .line")[0])
+    check.same("no card is cut", True, tab.ask("[...$('view').querySelectorAll('.card')]"
+                                               ".every(it => it.scrollHeight <= it.clientHeight)"))
     check.same("the keys are in view", True, tab.ask(KEYS_IN_VIEW))
-    tall = "$('page').contentDocument.documentElement.style.getPropertyValue('--tall')"
-    for height in 500, 900:
-        tab.size(1280, height)
-        tab.ask("new Promise(done => setTimeout(done, 100))")
-        check.same("boards know how high the window is", f"{height}px", tab.ask(tall))
-    check.same("few cards", True, len(tab.frame(".card")) < 150)
+    check.same("few cards", True, len(tab.seen(".card")) < 150)
     for link in (".card", "nav a + a"):
-        tab.ask(f"$('page').contentDocument.querySelector('{link}').click(); 0")
+        tab.ask(f"$('view').querySelector('{link}').click(); 0")
         tab.opened()
-    for where, state in (("back", "#1"), ("back", ""), ("forward", "#1")):
+    for where, address in (("back", "#1"), ("back", ""), ("forward", "#1")):
         tab.ask(f"history.{where}(); 0")
-        tab.wait(f"history.state.to === '{state}' && $('page').contentDocument")
-        check.same(f"{where} to '{state}'", bool(state), tab.ask(
-            "$('page').contentDocument.querySelector('#overview').hidden"))
+        tab.wait(f"location.hash === '{address}' && viewer.routed === '{address}'")
+        check.same(f"{where} to '{address}'", bool(address), tab.ask(
+            "$('view').querySelector('.overview').hidden"))
+    tab.call("Emulation.setEmulatedMedia", media="print")
     tab.ask("dispatchEvent(new Event('beforeprint')); 0")
-    check.same("the level that is shown on paper", ["Level 1", 1, 0], tab.ask(
-        "[$('printed').querySelector('h2')?.firstChild.textContent ?? '',"
-        " ...['svg.board', '.card'].map(it => $('printed').querySelectorAll(it).length)]"))
+    check.same("the level that is shown on paper", [[True, False], 0], tab.ask(
+        "[['.board', '.overview'].map(it => $('view').querySelector(it).checkVisibility()),"
+        " $('view').querySelectorAll('.printed').length]"))
     tab.ask("dispatchEvent(new Event('afterprint')); 0")
-    tab.ask("$('page').contentWindow.go(0); 0")
+    tab.call("Emulation.setEmulatedMedia", media="")
+    tab.ask("viewer.go(0); 0")
     tab.wait("(scrollTo(0, document.body.scrollHeight), "
-             "$('page').contentDocument.querySelector('[data-level=\"301\"]'))")
+             "$('view').querySelector('[data-level=\"301\"]'))")
     tab.ask("dispatchEvent(new Event('beforeprint')); 0")
-    check.same("all levels on paper", 301, tab.ask("$('printed').children.length"))
+    check.same("all levels on paper", 301, tab.ask(
+        "$('view').querySelector('.printed').children.length"))
     tab.ask("dispatchEvent(new Event('afterprint')); 0")
-    tab.ask("""globalThis.opened = null; globalThis.open = () => {
-        opened = document.body.appendChild(document.createElement('iframe'));
-        return opened.contentWindow; }; 0""")
-    tab.ask("$('page').contentDocument.querySelector('[data-level=\"301\"]').dispatchEvent("
+    check.same("and no more on the screen", 0, len(tab.seen(".printed")))
+    tab.ask("globalThis.open = address => { globalThis.opened = address; }; 0")
+    tab.ask("$('view').querySelector('[data-level=\"301\"]').dispatchEvent("
             "new MouseEvent('click', { ctrlKey: true, bubbles: true, cancelable: true })); 0")
-    check.same("Ctrl and a click", [[], "Level 301"], [
-        tab.frame("#level:not([hidden]) #heading"),
-        tab.ask("opened?.contentDocument.querySelector('#heading').firstChild.textContent")])
-    tab.ask("opened.contentWindow.go(0); 0")
-    tab.wait("opened.contentDocument.querySelector('.card')")
-    check.same("each window has cards of its own", 1, len(tab.frame("[data-level='301']")))
-    write("one.xsb", LEVEL)
-    tab.give("one.xsb")
-    check.same("a window keeps its own levels", "Level gypq 0", tab.ask(
-        "opened.contentWindow.openLevel(2), opened.contentDocument.querySelector("
-        "'#heading .title').textContent.trim()"))
-    tab.ask("dispatchEvent(new Event('pagehide')); opened.contentWindow.go(3); 0")
-    tab.wait("opened.contentDocument.querySelector('#level:not([hidden]) .two')")
-    check.same("a window without its page", "could not be judged by themselves.", tab.ask(
-        "opened.contentDocument.querySelector('.judged').textContent.slice(-34)"))
+    tab.wait("globalThis.opened")
+    check.same("Ctrl and a click stay here", [], tab.seen(".level:not([hidden]) .heading"))
+    tab.open(tab.ask("opened"))
+    tab.wait(IDLE)
+    tab.opened()
+    check.same("and open the level in a tab of its own", ["Level 1 Level gypq 299"], [
+        it.split(" line")[0] for it in tab.seen(".heading")])
     check.same("a sentence for old browsers", True, tab.ask(
         "$('old').hidden && $('old').textContent.length > 20"))
 
@@ -230,24 +216,25 @@ def returning(check: Comparison, tab: Tab) -> None:
     write("one.xsb", LEVEL)
     tab.give("one.xsb")
     tab.opened()
-    is_overview = "$('page').contentDocument.querySelector('#level').hidden"
-    tab.ask("$('page').contentWindow.go(0); 0")
+    is_overview = "$('view').querySelector('.level').hidden"
+    tab.ask("viewer.go(0); 0")
     tab.ask("history.back(); 0")
-    tab.wait("history.state.to === '#1'")
+    tab.wait("location.hash === '#1' && viewer.routed === '#1'")
     check.same("back to the one level", False, tab.ask(is_overview))
     tab.opened(1)
-    tab.ask("$('page').contentWindow.go(0); 0")
+    tab.ask("viewer.go(0); 0")
     tab.give(f"{TOP}/samples/first.xsb")
     tab.ask("history.back(); 0")
-    tab.wait("history.state.to === '#1'")
+    tab.wait("location.hash === '#1'")
+    tab.ask("new Promise(done => setTimeout(done, 100))")
     check.same("back from the levels of another file", True, tab.ask(is_overview))
     write("many.xsb", f"{CORNER}\n" * 300)
     tab.give("many.xsb")
     tab.opened(200)
-    tab.ask("$('page').contentWindow.go(0); 0")
+    tab.ask("viewer.go(0); 0")
     check.same("the level that was left is in view", True, tab.ask(
-        "(top => top > 0 && top < innerHeight)($('page').getBoundingClientRect().top + $('page')"
-        ".contentDocument.querySelector('[data-level=\"200\"]').getBoundingClientRect().top)"))
+        "(top => top > 0 && top < innerHeight)("
+        "$('view').querySelector('[data-level=\"200\"]').getBoundingClientRect().top)"))
 
 
 UNPAINTED = (late, dropping)

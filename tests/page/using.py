@@ -7,9 +7,9 @@ from itertools import permutations, product
 from typing import List, Sequence, Tuple
 
 from bench.measured import NOOK
-from tests.page.comparing import Comparison
+from tests.page.comparing import Comparison, in_words
 from tests.page.driving import IDLE, Tab
-from tests.runner import TOP, encode, write
+from tests.runner import TOP, encode, read, write
 from tests.tables.rows import text
 
 LEVEL = "####\n# .#\n#  ###\n#*@  #\n#  $ #\n#  ###\n####\n"
@@ -38,9 +38,8 @@ HOSTILE = ("<img src=x onerror=\"document.title='run'\"></script>"
            "<script>document.title='run'</script>")
 NAMES = ["levels", "the solutions in it"]
 LEFT_OUT = "The solutions beside the levels are left out, since there are answers: "
-# whether the page or its frame scrolls sideways
-IS_WIDE = ("[document, $('page').contentDocument].some(it => "
-           "it.documentElement.scrollWidth > it.defaultView.innerWidth)")
+# whether the page scrolls sideways
+IS_WIDE = "document.documentElement.scrollWidth > innerWidth"
 # whether the button of the keys is in the first line of an element in the frame, and how many
 # others it covers
 BESIDE = """(parent => {
@@ -48,7 +47,7 @@ BESIDE = """(parent => {
     const others = [...parent.querySelectorAll("a, button:not(.help), input")].map(boxOf);
     return [keys.top < boxOf(parent).top + 20, others.filter(it => keys.left < it.right
         && it.left < keys.right && keys.top < it.bottom && it.top < keys.bottom).length];
-})($('page').contentDocument.querySelector('%s'))"""
+})($('view').querySelector('%s'))"""
 # what a browser does that has no vectors, or no WebAssembly
 LACKS = "WebAssembly.validate = () => false", "delete globalThis.WebAssembly"
 
@@ -73,36 +72,35 @@ def viewing(check: Comparison, tab: Tab) -> None:
     """The viewer within the page, with its keys, and dead squares."""
     tab.paste("levels", LEVEL + LETTERS)
     check.same("one level is shown at once", [f"\u2713 {LINE.strip()}"],
-               tab.frame("#level .verdict"))
+               tab.seen(".level .verdict"))
     tab.opened()
-    tab.ask("$('page').focus(); 0")
     tab.press("ArrowRight", "ArrowRight")
-    tab.wait("history.state.to === '#1:2'")
+    tab.wait("location.hash === '#1:2'")
     tab.press("d")
-    tab.wait("$('page').contentDocument.querySelector('.dead')")
+    tab.wait("$('view').querySelector('.dead')")
     check.same("dead squares", "2,2 3,2 2,6 3,6".split()[:1],
-               tab.ask("$('page').contentDocument.querySelector('.dead').dataset.cells")
+               tab.ask("$('view').querySelector('.dead').dataset.cells")
                .split()[:1])
-    check.same("the key of dead squares is listed", True, "d" in tab.frame("#keys dt"))
-    moves = "$('page').contentDocument.querySelector('.counts b').textContent"
-    tab.ask("$('page').contentDocument.querySelector('#heading').focus(); 0")
+    check.same("the key of dead squares is listed", True, "d" in tab.seen("dialog dt"))
+    moves = "$('view').querySelector('.counts b').textContent"
+    tab.ask("$('view').querySelector('.heading').focus(); 0")
     tab.press(" ")
     tab.wait(f"{moves} === '5'")
     tab.press("d")
-    tab.wait("$('page').contentDocument.querySelector('#dead').ariaPressed === 'false'")
+    tab.wait("$('view').querySelector('.show-dead').ariaPressed === 'false'")
     check.same("dead squares keep the letter while it plays", True, int(tab.ask(moves)) >= 5)
-    tab.ask("$('page').contentWindow.showKeys(); 0")
+    tab.ask("viewer.showKeys(); 0")
     tab.press("d")
     tab.press("Escape")
     tab.ask("new Promise(done => setTimeout(done, 300))")
     check.same("no dead squares below the list of the keys", "false", tab.ask(
-        "$('page').contentDocument.querySelector('#dead').ariaPressed"))
+        "$('view').querySelector('.show-dead').ariaPressed"))
     tab.paste("levels", f"{LEVEL}{LETTERS}\n\n{CORNER}")
-    tab.ask("$('page').contentWindow.go(2); $('page').contentDocument.body.dispatchEvent("
+    tab.ask("viewer.go(2); document.body.dispatchEvent("
             "new KeyboardEvent('keydown', { key: 'd', bubbles: true })); 0")
-    tab.wait("$('page').contentDocument.querySelector('.dead')")
+    tab.wait("$('view').querySelector('.dead')")
     check.same("dead squares are said before the level is drawn, also below a box and the player",
-               [f"dead squares {' '.join(re.findall('[0-9],[0-9]', MADE))}"], tab.frame("#said"))
+               [f"dead squares {' '.join(re.findall('[0-9],[0-9]', MADE))}"], tab.seen(".said"))
 
 
 # boards on which a box, the player, or both stand on dead squares or on goals
@@ -137,10 +135,10 @@ def dead(check: Comparison, tab: Tab) -> None:
     for board in BENT:
         tab.paste("levels", board)
         tab.opened()
-        tab.click_in_frame("#dead")
-        tab.wait("$('page').contentDocument.querySelector('#said').textContent")
+        tab.click_in_view(".show-dead")
+        tab.wait("$('view').querySelector('.said').textContent")
         check.same(f"dead squares of {board!r}", dead_cells(board.splitlines()), re.findall(
-            r"\d+,\d+", tab.frame("#said")[0]))
+            r"\d+,\d+", tab.seen(".said")[0]))
 
 
 def pasting(check: Comparison, tab: Tab) -> None:
@@ -149,15 +147,15 @@ def pasting(check: Comparison, tab: Tab) -> None:
     for place, is_long in product(("levels", "body"), (False, True)):
         tab.ask("clear(); 0")
         tab.paste_text(place, level * 3 + "; a remark\n" * 10000 * is_long)
-        check.same(f"pasted into {place}, long: {is_long}", ["total 3 solved 3 ", is_long], [
-            tab.text("total")[:17], tab.ask("!$('levels-file').hidden")])
+        check.same(f"pasted into {place}, long: {is_long}", ["3 levels: 3 solved", is_long], [
+            tab.text("total"), tab.ask("!$('levels-file').hidden")])
     check.same("the total is said", tab.text("total"), tab.text("said"))
     tab.ask("clear(); 0")
     tab.paste("levels", LEVEL + LETTERS)
     tab.opened()
     tab.ask("document.activeElement.blur(); 0")
     tab.press("ArrowRight")
-    check.same("keys outside of the frame", "1", tab.frame(".counts b")[0])
+    check.same("keys without a focus", "1", tab.seen(".counts b")[0])
 
 
 def making(check: Comparison, tab: Tab) -> None:
@@ -167,7 +165,7 @@ def making(check: Comparison, tab: Tab) -> None:
     tab.click("#make")
     tab.wait("$('lines').textContent.includes('level 2 unsolvable patterns 4')")
     check.same("the open level stays open", ["\u2715 level 2 unsolvable patterns 4"],
-               tab.frame("#level:not([hidden]) .verdict"))
+               tab.seen(".level:not([hidden]) .verdict"))
     answers = (f"sokoban-answers 1\nlevel 1\nsolution\n{LETTERS}\nend\nlevel 2\nunsolvable\n{MADE}"
                "end\n")
     check.same("made answers", answers, tab.saved("answers").decode())
@@ -179,18 +177,20 @@ def making(check: Comparison, tab: Tab) -> None:
     tab.open("file://" + os.path.abspath("saved.html"))
     check.same("the saved page opens", "\u2715 2",
                tab.ask("document.querySelector('.card.unsolvable b').textContent"))
-    check.same("the saved page asks for nothing", 1, len(tab.requests))
-    tab.ask("go(2)")
+    check.same("the saved page asks for nothing", 1, len(
+        [it for it in tab.requests if not it.startswith("blob:")]))
+    tab.ask("viewer.go(2)")
     tab.wait("document.querySelector('.judged')")
     check.same("the saved page judges too", "same verdict.", tab.ask(
         "document.querySelector('.judged').textContent.slice(-13)"))
-    tab.ask("DATA.levels[0].rows = DATA.levels[1].rows; go(1)")
+    tab.ask("viewer.data.levels[0].rows = viewer.data.levels[1].rows; viewer.go(1)")
     tab.wait("document.querySelector('.misjudged')")
     check.same("no error of the saved page", [], tab.errors)
     with open("saved.html", encoding="utf-8") as file:
         write("around.html", f'<iframe srcdoc="{html.escape(file.read())}">')
     tab.open("file://" + os.path.abspath("around.html"))
-    tab.ask("globalThis.frame = document.querySelector('iframe'); frame.contentWindow.go(2)")
+    tab.ask("globalThis.frame = document.querySelector('iframe');"
+            " frame.contentWindow.viewer.go(2)")
     tab.wait("frame.contentDocument.querySelector('.judged')")
     check.same("nor of one in a frame", [], tab.errors)
 
@@ -213,8 +213,7 @@ def keeping(check: Comparison, tab: Tab) -> None:
         levels = file.read()
     for records in "", "level 1\nunsolvable\nzone 2,2\nend\n":
         tab.ask("clear(); 0")
-        tab.paste("answers", f"sokoban-answers 1\n; mine\n{records}")
-        tab.paste("levels", levels)
+        tab.paste("levels", f"{levels}\nsokoban-answers 1\n; mine\n{records}")
         tab.click("#make")
         tab.wait("$('notes').textContent.includes('Certificates were made')")
         check.same("a header that rises is said if there are records",
@@ -224,50 +223,60 @@ def keeping(check: Comparison, tab: Tab) -> None:
 
 
 def several(check: Comparison, tab: Tab) -> None:
-    """Several files, one after the other."""
+    """Several files: a sum, the ones with open levels first, and one table."""
+    def listed() -> List[str]:
+        return list(tab.ask("[...document.querySelectorAll('#each li')].map(e => e.textContent)"))
+
     samples = f"{TOP}/samples"
     write("bad.xsb", CORNER)
     write("bad.answers", "sokoban-answers 1\nlevel 7\n")
-    tab.choose(*(f"{samples}/{name}.{end}" for name in ("every", "first")
+    tab.choose(*(f"{samples}/{name}.{end}" for name in ("first", "every")
                  for end in ("xsb", "answers")), "bad.xsb", "bad.answers")
-    tab.wait("document.querySelectorAll('#each li').length === 3")
-    totals = [f"{name}.xsb {open(f'{samples}/{name}.report').read().splitlines()[-1]}"
-              for name in ("every", "first")]
-    check.same("several files", [*totals, "bad.xsb answers line 2 unknown"],
-               tab.ask("[...document.querySelectorAll('#each li')].map(e => e.textContent)"))
-    tab.ask("document.querySelectorAll('#each button')[1].click()")
-    tab.wait(f"{IDLE} && kept.names?.[0] === 'first.xsb'")
-    check.same("one of several", open(f"{samples}/first.report").read(), tab.text("lines"))
-    check.same("its name", totals[1].replace(" ", ": ", 1), tab.text("total"))
+    tab.wait(f"document.querySelectorAll('#each li').length === 3 && {IDLE}")
+    lines = [read(f"{samples}/{name}.report").splitlines()[-1] for name in ("every", "first")]
+    every, first = (f"{name}.xsb {in_words(line)}" for name, line in zip(("every", "first"), lines))
+    check.same("those with open levels first", ["bad.xsb answers line 2 unknown", every, first],
+               listed())
+    sums = [sum(map(int, pair)) for pair in zip(*(re.findall("[0-9]+", line) for line in lines))]
+    check.same("their sum", "3 files, " + in_words(
+        "total {} solved {} unsolvable {} refused {} missing {}".format(*sums)), tab.text("sum"))
+    check.same("the first of them is shown", "answers line 2 unknown", tab.message())
+    tab.ask("document.querySelectorAll('#each button')[2].click()")
+    check.same("one of several", read(f"{samples}/first.report"), tab.text("lines"))
+    check.same("its name", first.replace(" ", ": ", 1), tab.text("total"))
     write("bad.answers", "sokoban-answers 1\nlevel 1\nunsolvable\npattern 2,2 @ *\nend\n")
     write("bad.txt", "Nr 9\nuuuuuuuuuu\n")
-    mended = "bad.xsb total 1 solved 0 unsolvable 1 refused 0 missing 0"
+    mended = "bad.xsb 1 level: 1 proved unsolvable"
     for name in ("bad.answers", "bad.txt"):
         tab.choose(name)
-        tab.wait(f"!$('message').hidden || {IDLE} && $('each').children.length === 3 "
+        tab.wait(f"{IDLE} && $('each').children.length === 3 "
                  f"&& $('each').textContent.includes('{mended}')")
-        check.same(f"{name} dropped later", [*totals, mended], tab.ask(
-            "[...document.querySelectorAll('#each li')].map(e => e.textContent)"))
+        check.same(f"{name} dropped later", [every, first, mended], sorted(
+            listed(), key=[every, first, mended].index))
+    tab.ask("[...document.querySelectorAll('#each button')].find("
+            "it => it.textContent === 'bad.xsb').click()")
     check.same("the list is left out beside answers", True, "bad.txt" in tab.text("notes"))
     write("other.answers", "sokoban-answers 1\n")
     check.same("answers of none of them", ["other.answers: no levels", 3], [
-        tab.give("other.answers")[:24], tab.ask("document.querySelectorAll('#each li').length")])
+        tab.give("other.answers")[:24], len(listed())])
     write("part.xsb", f"{LEVEL}Solution: up\n\n{LEVEL.replace('*', '=')}\n")
-    tab.choose("part.xsb", "bad.xsb")
+    write("bad.xsb", f"{CORNER}\n{CORNER}")
+    tab.give("part.xsb", "bad.xsb")
     tab.wait(f"{IDLE} && $('each').children.length === 2")
-    check.same("a file before others that wasn't read whole", [", 2 remarks", "missing 1"], tab.ask(
-        "[...$('each').children].map(it => it.textContent.slice(-11).replace(/^.* m/, 'm'))"))
+    check.same("a file that wasn't read whole", [
+        "part.xsb 3 levels: 2 refused, 1 without an answer, 2 remarks",
+        "bad.xsb 2 levels: 2 without an answer"], listed())
+    tab.ask("document.querySelectorAll('#each button')[1].click()")
     tab.click("#make")
-    tab.wait(f"{IDLE} && $('total').textContent.includes('unsolvable 1')")
-    total = "$('each').textContent.split(' unsolvable ')[2]"
-    check.same("a file's total after certificates", "1 refused 0 missing 0", tab.ask(total))
-    tab.ask("$('each').querySelector('button').click()")
-    tab.wait(f"{IDLE} && kept.names[0] === 'part.xsb'")
-    tab.ask("$('each').querySelector('li + li button').click()")
-    tab.wait(f"{IDLE} && kept.names[0] === 'bad.xsb'")
-    check.same("and once it is audited anew", "0 refused 0 missing 1", tab.ask(total))
+    tab.wait(f"{IDLE} && $('total').textContent.includes('proved unsolvable')")
+    check.same("a file's total after certificates", "bad.xsb 2 levels: 2 proved unsolvable",
+               listed()[1])
+    check.same("it isn't audited anew", "bad.xsb: 2 levels: 2 proved unsolvable", tab.ask(
+        "(document.querySelectorAll('#each button')[0].click(),"
+        " document.querySelectorAll('#each button')[1].click(), $('total').textContent)"))
+    tab.ask("$('form').open = true; 0")
     tab.click("#levels-file button")
-    check.same("files that are removed can't be clicked", True, tab.ask("$('each').hidden"))
+    check.same("files that are removed can't be clicked", True, tab.ask("$('several').hidden"))
 
 
 def hostile(check: Comparison, tab: Tab) -> None:
@@ -276,11 +285,10 @@ def hostile(check: Comparison, tab: Tab) -> None:
     write(name, f"{HOSTILE}\n{LEVEL}Title: {HOSTILE}\n\n{HOSTILE}\n{LEVEL}{LETTERS}\n")
     tab.give(name)
     tab.opened(1)
-    check.same("hostile titles are texts", True, HOSTILE in tab.frame("#heading")[0])
+    check.same("hostile titles are texts", True, HOSTILE in tab.seen(".heading")[0])
     tab.ask("savePage().then(() => 0)")
-    check.same("no text becomes markup", ["sokoaudit", 0], tab.ask(
-        "[document.title, [document, $('page').contentDocument].map(it => it.querySelectorAll("
-        "'img, main script').length).reduce((a, b) => a + b)]"))
+    check.same("no text becomes markup", [f"Level 1 - {name}", 0], tab.ask(
+        "[document.title, document.querySelectorAll('img, main script').length]"))
     write("saved.html", tab.saved("page").decode())
     asked = tab.requests
     check.same("nothing is asked for", [], [it for it in asked if it[:5] not in ("file:", "blob:")])
@@ -374,7 +382,8 @@ def browsers(check: Comparison, tab: Tab) -> None:
         check.same(lack, True, "no WebAssembly" in tab.message() and "reference" in tab.message())
         tab.call("Page.removeScriptToEvaluateOnNewDocument", identifier=made)
     tab.fresh()
-    tab.ask("globalThis.whole = $('thread').textContent; $('thread').textContent = '(', 0")
+    tab.ask("runner.stop(); globalThis.whole = $('thread').textContent;"
+            " $('thread').textContent = '(', 0")
     check.same("a thread that doesn't start", "This browser can't run the program",
                tab.paste("levels", LEVEL)[:34])
     tab.ask("$('thread').textContent = whole; clear(); 0")
@@ -385,10 +394,10 @@ def browsers(check: Comparison, tab: Tab) -> None:
 
 def reaching(check: Comparison, tab: Tab) -> None:
     """Keys alone, dropped files, a screen reader, and a narrow page."""
-    tab.press("Tab")
-    check.same("the first stop of Tab", "levels", tab.ask("document.activeElement.id"))
+    tab.press("Tab", "Tab")
+    check.same("the second stop of Tab", "levels", tab.ask("document.activeElement.id"))
     tab.call("Input.insertText", text=LEVEL + LETTERS)
-    tab.press("Tab", "Tab", "Enter")
+    tab.press("Tab", "Enter")
     tab.wait("document.activeElement.id === 'total'")
     check.same("an audit by keys", LINE, tab.text("lines")[:len(LINE)])
     for levels in f"{LEVEL}\n{CORNER}", f"{LEVEL}{LETTERS}\n\n{CORNER}", CORNER:
@@ -400,16 +409,18 @@ def reaching(check: Comparison, tab: Tab) -> None:
         check.same("the focus after certificates", "make" if LETTERS not in levels and
                    LEVEL in levels else "total", tab.ask("document.activeElement.id"))
     for typed, focus in ("", "total"), ("x", "levels"):
-        tab.ask(f"$('levels').focus(); $('levels').value = {LEVEL + LETTERS!r}; $('audit').click();"
+        tab.ask(f"$('form').open = true; $('levels').focus();"
+                f" $('levels').value = {LEVEL + LETTERS!r}; $('audit').click();"
                 f" document.execCommand('insertText', false, {typed!r})")
         tab.wait(f"{IDLE} && $('lines').textContent.includes('moves 33')")
         tab.ask("new Promise(done => setTimeout(done, 100))")
         check.same(f"the focus after {typed!r} was typed during an audit", focus,
                    tab.ask("document.activeElement.id"))
     tab.paste("levels", LEVEL + LETTERS)
+    tab.ask("$('form').open = true; 0")
     names = tab.spoken()
     for pair in (("textbox", "Levels, with their solutions"), ("button", "Cancel"),
-                 ("heading", "total 1 solved 1 unsolvable 0 refused 0 missing 0")):
+                 ("heading", "1 level: 1 solved")):
         check.same(f"spoken: {pair}", pair != ("button", "Cancel"), pair in names)
     for dark in (False, True):
         tab.size(360, 740, dark)
@@ -443,7 +454,7 @@ def reaching(check: Comparison, tab: Tab) -> None:
     check.same("a pasted file", [True, "level 1 missing"], [
         tab.paste_file("levels", "two.xsb", CORNER), tab.text("lines").splitlines()[0]])
     write("two.xsb", CORNER)
-    tab.drop("#page", "two.xsb")
+    tab.drop("#view", "two.xsb")
     check.same("a file dropped on the boards", "level 1 missing",
                tab.text("lines").splitlines()[0])
     os.utime("two.xsb", (1e9, 1e9))
@@ -477,6 +488,7 @@ def files(check: Comparison, tab: Tab) -> None:
     check.same("new levels drop the former answers", "level 1 missing",
                tab.text("lines").splitlines()[0])
     check.same("something is open", "open", tab.ask("$('total').className"))
+    tab.ask("$('form').open = true; 0")
     tab.click("#levels-file button")
     check.same("a removed file leaves its result pale", True,
                tab.ask("$('result').classList.contains('stale')"))
@@ -495,10 +507,11 @@ def files(check: Comparison, tab: Tab) -> None:
                tab.give("one.xsb", "one.answers", "one.txt"))
     tab.give("one.xsb", "two.xsb", "one.answers")
     tab.choose("one.txt")
-    tab.wait(f"{IDLE} && $('each').textContent.includes('refused 1')")
+    tab.wait(f"{IDLE} && $('each').textContent.includes('1 refused')")
     check.same("other answers in their place", "", tab.message())
     tab.give("one.xsb", "two.xsb")
     tab.wait("document.querySelectorAll('#each li').length === 2")
+    tab.ask("$('form').open = true; 0")
     tab.click("#levels-file button")
     check.same("several files are removed at once", [True, True], tab.ask(
         "['levels', 'answers'].map(it => $(`${it}-file`).hidden)"))
@@ -544,12 +557,8 @@ def lists(check: Comparison, tab: Tab) -> None:
 
 
 def fields(check: Comparison, tab: Tab) -> None:
-    """What is pasted into the fields, and what stays in them."""
-    tab.paste("answers", ANSWERS)
-    tab.paste("levels", f"{LEVEL}\nsokoban-answers 1\n")
-    check.same("typed answers stay", ANSWERS, tab.ask("$('answers').value"))
-    check.same("they count", LINE, tab.text("lines")[:len(LINE)])
-    tab.fresh()
+    """Both texts in one field, and what stays in it."""
+    both = f"{LEVEL}\n{ANSWERS}"
     for row, letters in ("#@ $ .#", "rRR"), ("#. $ @#", "lLL"):
         tab.paste("levels", f"#######\n{row}\n#######\n\nsokoban-answers 1\nlevel 1\nsolution\n"
                             f"{letters}\nend\n")
@@ -558,28 +567,42 @@ def fields(check: Comparison, tab: Tab) -> None:
     tab.paste("levels", f"{LEVEL}{LETTERS}\n")
     check.same("other levels pasted in their place", LINE, tab.text("lines")[:len(LINE)])
     tab.paste("levels", f"{LEVEL}\nsokoban-answers 1\nlevel 1\nsolution\nl\nend\n")
-    tab.ask(f"$('levels').value += {(chr(10) + ANSWERS)!r}; audit()")
+    tab.ask(f"$('levels').value += {(chr(10) + ANSWERS)!r}; audit().then(() => 0)")
     check.same("answers pasted below the levels once more", LINE, tab.text("lines")[:len(LINE)])
-    both = f"{LEVEL}\n{ANSWERS}"
     tab.paste("levels", both)
     write("corner.xsb", f"{CORNER}Solution\nlurd\n")
     tab.give("corner.xsb")
     check.same("other levels in a file", "level 1 refused move 2 blocked",
                tab.text("lines").splitlines()[0])
+    tab.ask("$('form').open = true; 0")
     tab.click("#levels-file button")
-    tab.ask("audit()")
+    tab.ask("audit().then(() => 0)")
     check.same("the pasted ones once that is removed", [both, LINE], [
-        tab.ask("$('levels').value + $('answers').value"), tab.text("lines")[:len(LINE)]])
+        tab.ask("$('levels').value"), tab.text("lines")[:len(LINE)]])
     tab.fresh()
     tab.paste("levels", f"{ANSWERS}\nOne\n{LEVEL}\n{CORNER[:-1]}")
     check.same("answers pasted above their levels", [LINE, "One", ANSWERS], [
         tab.text("lines")[:len(LINE)], tab.ask("shownData.levels[0].title"),
-        tab.ask("$('answers').value")])
-    tab.give("corner.xsb")
-    tab.click("#levels-file button")
-    tab.ask("audit()")
-    check.same("they stay once a file has come and gone", [LINE, ANSWERS], [
-        tab.text("lines")[:len(LINE)], tab.ask("$('answers').value")])
+        tab.saved("answers").decode()])
+    tab.paste("levels", f"{CORNER[:-1]}\n{ANSWERS}{LEVEL}")
+    check.same("levels above and below their answers", 2, tab.ask("shownData.levels.length"))
+    tab.ask("clear(); 0")
+    write("one.xsb", LEVEL)
+    check.same("answers alone", "There is nothing to audit yet: paste or drop levels.",
+               tab.paste("levels", ANSWERS))
+    tab.give("one.xsb")
+    check.same("they go with levels in a file", [LINE, False], [
+        tab.text("lines")[:len(LINE)], tab.ask("$('levels').hidden")])
+    tab.ask("clear(); 0")
+    tab.give("one.xsb")
+    tab.paste_text("body", ANSWERS)
+    check.same("answers pasted beside a file of levels", [
+        LINE, f"answers, {len(ANSWERS)} bytes"], [
+        tab.text("lines")[:len(LINE)], tab.ask("$('answers-file').firstChild.textContent")])
+    write("both.xsb", both)
+    tab.ask("clear(); 0")
+    tab.give("both.xsb")
+    check.same("a file with both", LINE, tab.text("lines")[:len(LINE)])
 
 
 def buttons(check: Comparison, tab: Tab) -> None:
@@ -587,13 +610,13 @@ def buttons(check: Comparison, tab: Tab) -> None:
     tab.ask("$('levels').focus(); 0")
     tab.paste("levels", LEVEL + "Solution\n" + LETTERS)
     tab.opened()
-    check.same("the focus stays in the field", ["levels", False], tab.ask(
-        "[document.activeElement.id, $('page').contentDocument.hasFocus()]"))
+    check.same("the result comes first", ["total", False], tab.ask(
+        "[document.activeElement.id, $('form').open]"))
     tab.paste("levels", "no level\n")
     check.same("no level", ["No level is found.", "A row has"], [tab.message(), tab.told()[0][:9]])
     tab.click("#example")
     tab.wait(f"{IDLE} && $('lines').textContent.includes('level 2')")
-    check.same("the example", "total 2 solved 1 unsolvable 0 refused 0 missing 1",
+    check.same("the example", "3 levels: 1 solved, 1 refused, 1 without an answer",
                tab.text("total"))
     back = "document.execCommand('undo'), $('levels').value"
     check.same("Ctrl and Z after it", "no level\n", tab.ask(back))

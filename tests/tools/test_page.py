@@ -102,7 +102,7 @@ class Texts(Case):
                    "total 2 solved 0 unsolvable 0 refused 0 missing 2\n")
         result, data = self.page("a.xsb", "a", "r")
         # the data, the script and its start end, and nothing else
-        self.assertEqual(result.out.count(b"</script>"), 3)
+        self.assertEqual(result.out.count(b"</script>"), 4)
         self.assertEqual([level["title"] for level in data["levels"]],
                          ['</script><b>bold</b> "quoted" \\ back', "@DATA@ @game.js@"])
 

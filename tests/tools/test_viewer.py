@@ -12,8 +12,8 @@ LISTED = re.compile(r"^level (\d+) unsolvable patterns (\d+)", re.M)
 # for how many milliseconds of the processor's time the page may not answer
 LONGEST = 100
 # the patterns of the list that is shown which a push leaves uncovered
-OPEN_PUSHES = """view.certificate.patterns.filter(pattern => {
-    const work = view.certificate.pushesOut(pattern);
+OPEN_PUSHES = """viewer.page.answer.certificate.patterns.filter(pattern => {
+    const work = viewer.page.answer.certificate.pushesOut(pattern);
     let step = work.next();
     while (!step.done) step = work.next();
     return step.value.some(push => push.covered < 0);
@@ -42,7 +42,7 @@ class Eye(Page):
             self.open()
             for number, *counts in SOLVED.findall(report):
                 shared.ask(f"location.hash = '#{number}:end'")
-                self.holds("document.querySelector('#heading').textContent.split(' ')[1]", number)
+                self.holds("document.querySelector('.heading').textContent.split(' ')[1]", number)
                 self.assertEqual(self.all(".count b"), counts, (name, number))
                 self.assertEqual(self.all(".state", "data-solved"), ["true"])
 
@@ -53,7 +53,7 @@ class Eye(Page):
             self.open()
             for number, lines in LISTED.findall(report):
                 shared.ask(f"location.hash = '#{number}'")
-                self.holds("view.patterns?.length", int(lines))
+                self.holds("viewer.page.answer.patterns?.length", int(lines))
                 self.assertEqual(shared.ask(OPEN_PUSHES), [], (name, number))
 
     def test_push_into_the_boxes_of_a_pattern_but_not_its_region(self) -> None:
@@ -100,7 +100,7 @@ class Eye(Page):
         self.assertEqual(self.all(".count b"), ["0", "0", "0"])
 
     def test_cut_title_has_a_tooltip(self) -> None:
-        title = "A title that is longer than any card is wide"
+        title = "A title that is longer than any card is wide, a card of few levels too"
         self.page(f"{title}\n{ONE}")
         self.open()
         self.assertEqual(self.all(".card [title]", "title"), [title])
@@ -110,14 +110,14 @@ class Eye(Page):
     def test_report_of_other_levels(self) -> None:
         self.print(*("samples/" + name for name in ("first.xsb", "first.answers", "every.report")))
         self.open()
-        self.assertEqual(self.all("#fault"), ["The report isn't of these levels and answers: "
+        self.assertEqual(self.all(".fault"), ["The report isn't of these levels and answers: "
                                               "it has 23 levels, and the collection has 5."])
         self.assertEqual(self.all(".chip.all"), [" levels 5"])
         self.assertNotIn("23", self.all("header")[0])
 
     def test_level_says_its_collection(self) -> None:
         self.walk("#2")
-        self.assertEqual(self.all("#heading"), ["Level 2 Corridor line 8 of x.xsb"])
+        self.assertEqual(self.all(".heading"), ["Level 2 Corridor line 8 of x.xsb"])
 
     def test_fits_in_each_width(self) -> None:
         self.samples("every")
@@ -230,8 +230,9 @@ class Large(Page):
                   "total 1 solved 0 unsolvable 1 refused 0 missing 0\n")
         self.open()
         done = "document.querySelectorAll('.arrow').length === 64"
-        show = "const show = () => view.keys.End ? view.show(65535) : setTimeout(show, 20); show()"
-        self.answers_during(f"go(1); {show}", done)
+        show = ("const show = () => viewer.page.keys.End ? viewer.page.answer.show(65535)"
+                " : setTimeout(show, 20); show()")
+        self.answers_during(f"viewer.go(1); {show}", done)
         self.assertEqual(self.all(".pushes button")[0], "push 52,18 d: covered by pattern 2")
 
     def test_large_levels(self) -> None:
@@ -239,5 +240,5 @@ class Large(Page):
                  + "#" * 255 + "\n\n")
         self.page(level * 40)
         self.open()
-        work = "for (const level of LEVELS) level.board = null; overview(true)"
-        self.answers_during(work, "!undrawn.size")
+        work = "for (const level of viewer.levels) level.board = null; viewer.overview.show(true)"
+        self.answers_during(work, "!viewer.overview.undrawn.size")

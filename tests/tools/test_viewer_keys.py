@@ -72,7 +72,7 @@ class Keys(Page):
         self.assertEqual(self.level(), "1")
         shared.press(*["ArrowRight"] * 57, "Enter")
         self.holds(HASH, "#58")
-        self.holds(FOCUS + ".id", "heading")
+        self.holds(FOCUS + ".className", "heading")
         shared.press("n", "n")
         self.holds(HASH, "#60")
         self.holds(FOCUS + ".textContent.split(' ')[1]", "60")
@@ -106,7 +106,7 @@ class Keys(Page):
         self.walk()
         shared.press("/", "n", "s", "/", "?", "Home", "ArrowRight")
         self.assertEqual(shared.ask(FOCUS + ".value"), "ns/?")
-        self.assertEqual(shared.ask("document.getElementById('keys').open"), False)
+        self.assertEqual(shared.ask("viewer.help.open"), False)
         self.open("#1")
         shared.ask("document.querySelector('details').open = true")
         shared.ask("document.querySelector('textarea').focus()")
@@ -154,7 +154,7 @@ class Keys(Page):
     def test_keys_are_listed(self) -> None:
         self.walk()
         shared.press("?")
-        self.assertEqual(shared.ask("document.getElementById('keys').open"), True)
+        self.assertEqual(shared.ask("viewer.help.open"), True)
         shared.press("Escape", "ArrowRight")
         self.assertEqual(self.level(), "1")
         self.assertEqual(self.all(".help", "ariaLabel"), ["keys"])
@@ -219,7 +219,7 @@ class Ear(Page):
         names = shared.spoken()
         for pair in (("link", "level 2 unsolvable patterns 2. Corridor"),
                      ("searchbox", "Find levels"), ("group", "Show levels by status"),
-                     ("main", "Levels"), ("button", "keys")):
+                     ("region", "Levels"), ("button", "keys")):
             self.assertIn(pair, names)
         self.open("#1")
         names = shared.spoken()

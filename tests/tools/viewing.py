@@ -10,9 +10,9 @@ from tests.tools.helping import SAMPLES, Case
 shared = browser.Browser()
 FOCUS = "document.activeElement"
 CARD = FOCUS + ".dataset.level ?? ''"
-SAID = "document.getElementById('said').textContent"
+SAID = "document.querySelector('.said').textContent"
 # the address, once the page shows what it names
-HASH = "routed === location.hash ? routed : null"
+HASH = "viewer.routed === location.hash ? location.hash : null"
 # A solution whose fourth letter is refused, and a list whose first pattern has one push out.
 WALK = "Walk\n#######\n#@ $ .#\n#  *  #\n#######\n"
 WALK_ANSWER = "level 1\nsolution\nrRlLRR\nend\n"

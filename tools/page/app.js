@@ -1,7 +1,5 @@
 // The page that audits: takes texts, and asks the program's thread.
 
-const MOST_KEPT = 100000;
-const HEADER = /^sokoban-answers/, INNER_HEADER = /\nsokoban-answers [12]\r?\n/, INNER_ROW = /\n[-@+$*._ ]*#[-#@+$*._ ]*(?:\n|$)/;
 const INSTEAD = "Use another browser, or the program sokoaudit on Linux, sokoaudit.exe on Windows, or "
     + "'reference/sokoaudit audit LEVELS ANSWERS', which needs Python alone.";
 // the smallest module with a vector of 128 bits, which the program's module has too
@@ -24,205 +22,65 @@ A box in a corner
 #  .  #
 #$    #
 #######
+
+A push too many
+#######
+#@ $ .#
+#######
+Solution
+rRRR
 `;
-
-// ---- the two texts: each is what is in its field, or a file
-
-const inputs = Object.fromEntries(["levels", "answers"].map(kind => [kind, { file: null, lists: [], field: $(kind), box: $(`${kind}-file`) }]));
-// several pairs of files, audited one after the other, in place of the two texts
-let pairs = [];
-
-function put(kind, file, words = file && `${file.name}, ${many(file.size, "byte")}`) {
-    const input = inputs[kind];
-    Object.assign(input, { file, lists: [] });
-    if (words && kind === "answers") $("more").open = true;
-    input.field.hidden = Boolean(words);
-    input.box.hidden = !words;
-    input.box.querySelector("span").textContent = words ?? "";
-}
-
-function remove() {
-    pairs = [];
-    $("each").hidden = true;
-    for (const kind in inputs) put(kind, null);
-    if (!areOfLevels()) return;
-    inputs.levels.field.value += moved;
-    inputs.answers.field.value = "";
-}
-
-// Puts levels into their field. Ctrl+Z brings back what was there, unless that is so long that it takes the browser seconds to keep it.
-function write(levels) {
-    const { field } = inputs.levels;
-    field.focus();
-    field.select();
-    if (field.value.length <= MOST_KEPT) document.execCommand(levels ? "insertText" : "delete", false, levels);
-    if (field.value !== levels) field.value = levels;
-}
-
-// Whether a pasted text is taken as a file, which is read at once: a browser lays out a text of 400 KB in a field for seconds. Answers within
-// it go to their own field.
-const isLong = text => text.length > MOST_KEPT && !HEADER.test(text) && !INNER_HEADER.test(text);
-
-function clear(levels = "") {
-    begin("");
-    remove();
-    inputs.answers.field.value = "";
-    write(levels);
-    $("message").hidden = true;
-    $("why").textContent = "";
-    hide();
-}
-
-const hasLevels = () => Boolean(pairs.length || (inputs.levels.file ?? inputs.levels.field.value.trim()));
-const baseOf = ({ name }) => name.replace(/(?!^)\.[^.]*$/, "");
-// the files of each drop that the thread hasn't told apart yet
-let untold = [];
-
-// Takes files: levels, answers and lists of solutions, which the thread tells apart, after those of drops before that it hasn't told apart yet.
-async function take(files) {
-    if (!files.length) return;
-    const drops = [...untold, [...files]], asked = ask("Reading the files", "sort", { drops }), made = [];
-    untold = drops;
-    const said = await asked;
-    if (!said) return;
-    untold = [];
-    if (said.trouble) return complain(said.trouble);
-    const taken = drops.map((some, i) => place(some, said.kinds[i], made));
-    if (!taken.at(-1)) return;
-    await audit();
-    if (made.length) $("notes").append(` Left out, since they were made from the levels: ${few(made)}.`);
-}
-
-// Takes the files of a drop by their kinds. Without levels they are for those that are there. Notes what was made from levels, and returns
-// whether the files go together.
-function place(files, kinds, made) {
-    // a file replaces the one of its name
-    const others = former => former.filter(({ name }) => !files.some(it => it.name === name));
-    const again = files.findIndex(it => it.name === inputs.levels.file?.name);
-    if (kinds[again] === "list") kinds[again] = "levels";
-    let [levels, answers, lists] = ["levels", "answers", "list"].map(kind => files.filter((_, i) => kinds[i] === kind));
-    made.push(...files.filter((_, i) => kinds[i] === "made").map(({ name }) => name));
-    // lists may come before their levels, or stay with mended ones, but don't go with others
-    if (!levels.length || !hasLevels() || levels.length === 1 && kinds[again] === "levels") lists = [...lists, ...others(inputs.levels.lists)];
-    if (!levels.length && pairs.length) {
-        levels = pairs.map(it => it.levels);
-        answers = [...answers, ...others(pairs.flatMap(it => it.answers ?? [])).filter(former => !answers.some(it => baseOf(it) === baseOf(former)))];
-        lists = [...lists, ...others(pairs[0].lists)];
-    }
-    if (levels.length > 1 || answers.length > 1) return takePairs(levels, answers, lists);
-    takePair(levels[0], answers[0], lists);
-    return true;
-}
-
-// Takes one file of levels and one of answers, or either. New levels drop the answers of others, but not those of the same file.
-function takePair(levels, answers, lists) {
-    if (pairs.length || levels && hasLevels() && levels.name !== inputs.levels.file?.name) remove();
-    if (levels || lists.length) {
-        const typed = hasLevels() ? new File([inputs.levels.field.value], "levels") : null, file = levels ?? inputs.levels.file ?? typed;
-        put("levels", file, lists.length ? [file, ...lists].filter(it => it).map(({ name }) => name).join(", ") : undefined);
-        inputs.levels.lists = lists;
-    }
-    if (answers) put("answers", answers);
-}
-
-// takes several files of levels, each with the answers of its name
-function takePairs(levels, answers, lists) {
-    const ofNone = answers.find(file => !levels.some(it => baseOf(it) === baseOf(file)));
-    if (ofNone) {
-        complain(`${ofNone.name}: no levels file among these has this name.`);
-        return false;
-    }
-    const twins = answers.map(it => answers.filter(other => baseOf(other) === baseOf(it))).find(({ length }) => length > 1);
-    if (twins) {
-        complain(`${twins[1].name}: ${twins[0].name} is for the same levels file.`);
-        return false;
-    }
-    pairs = levels.map(file => ({ levels: file, lists, answers: answers.find(it => baseOf(it) === baseOf(file)) ?? null }));
-    put("levels", null, many(levels.length, "levels file"));
-    put("answers", null, answers.length ? many(answers.length, "answers file") : undefined);
-    return true;
-}
-
-// where answers end: before the levels that follow their last record, if there are rows
-function endOfAnswers(text) {
-    const row = text.search(INNER_ROW), end = row < 0 ? -1 : text.lastIndexOf("\nend\n", row);
-    return end < 0 ? text.length : end + 5;
-}
-
-// moves pasted answers from the field of the levels to their own, also in place of those that were moved before
-let moved = "", isOfLevels = false;
-function moveAnswers() {
-    const { levels, answers } = inputs, text = levels.field.value, before = answers.field.value;
-    if (levels.file || answers.file || before.trim() && before !== moved) return;
-    const near = text.indexOf("\nsokoban-answers "), inner = near < 0 ? null : INNER_HEADER.exec(text);
-    const at = HEADER.test(text) ? 0 : inner ? inner.index + 1 : -1;
-    if (at < 0) return;
-    const end = at + endOfAnswers(text.slice(at)), below = text.slice(end);
-    answers.field.value = text.slice(at, end);
-    moved = answers.field.value;
-    $("more").open = true;
-    levels.field.value = text.slice(0, at) + (below && `${below}\n`);
-    isOfLevels = Boolean(levels.field.value);
-}
-
-// whether the field of the answers has those that were pasted with the levels
-const areOfLevels = () => isOfLevels && inputs.answers.field.value === moved;
-
-// the files of a pair, or the two texts
-function sourcesOf(pair) {
-    let { levels, answers, lists } = pair ?? { levels: inputs.levels.file, answers: inputs.answers.file, lists: inputs.levels.lists };
-    // of a list alone it is said that it has no level
-    if (!levels && !hasLevels()) [levels = null, ...lists] = lists;
-    const isTyped = !pair && !answers && inputs.answers.field.value.trim();
-    return { levels: levels ?? inputs.levels.field.value, answers: answers ?? (isTyped ? inputs.answers.field.value : null), lists,
-        names: [levels?.name ?? "levels", answers?.name ?? "answers"] };
-}
 
 // ---- runs
 
-const runner = new Thread(words => busy(words));
-// the number of what the user asked for last, and what is said while it runs
-let runs = 0, ticking = 0, began = 0, stage = "";
+const runner = new Thread(words => run.say(words));
 
-function tick() {
-    const seconds = Math.floor((Date.now() - began) / 1000);
-    $("busy").querySelector("span").textContent = stage + (seconds ? `, ${many(seconds, "second")}` : "");
-}
-
-// says what runs, or nothing for ""
-function busy(words) {
-    stage = words;
-    $("busy").hidden = !words;
-    if (!words) {
-        clearInterval(ticking);
-        ticking = 0;
-        return;
+// What the user asked for last: its number, what is said while it runs, and since when.
+class Run {
+    number = 0;
+    stage = "";
+    began = 0;
+    ticking = 0;
+    // Ends what runs, of which nothing is shown any more, and says what begins. Returns its number.
+    begin(words) {
+        if (runner.isBusy) runner.stop();
+        this.say(words);
+        inputs.untold = [];
+        return ++this.number;
     }
-    if (!ticking) {
-        began = Date.now();
-        ticking = setInterval(tick, 1000);
+    // says what runs, or nothing for ""
+    say(words) {
+        this.stage = words;
+        $("busy").hidden = !words;
+        if (!words) {
+            clearInterval(this.ticking);
+            this.ticking = 0;
+            return;
+        }
+        if (inputs.text !== EXAMPLE || inputs.levels) document.body.classList.remove("welcome");
+        if (!this.ticking) {
+            this.began = Date.now();
+            this.ticking = setInterval(() => this.tick(), 1000);
+        }
+        $("message").hidden = true;
+        $("why").textContent = $("said").textContent = "";
+        this.tick();
     }
-    $("message").hidden = true;
-    $("why").textContent = $("said").textContent = "";
-    tick();
+    tick() {
+        const seconds = Math.floor((Date.now() - this.began) / 1000);
+        $("busy").querySelector("span").textContent = this.stage + (seconds ? `, ${many(seconds, "second")}` : "");
+    }
+    // Asks the thread for what the user wants now. Returns its answer, or null if the user wanted
+    // something else before it came.
+    async ask(words, task, values) {
+        const mine = this.begin(words), said = await runner.ask(task, values);
+        if (mine !== this.number) return null;
+        const trouble = troubleIn(said), data = trouble || !said.report ? null : await inSlices(dataOf(said));
+        if (mine === this.number) this.say("");
+        return mine === this.number ? { ...said, trouble, data } : null;
+    }
 }
-
-// Ends what runs, of which nothing is shown any more, and says what begins. Returns its number.
-function begin(words) {
-    if (runner.isBusy) runner.stop();
-    busy(words);
-    untold = [];
-    return ++runs;
-}
-
-// Asks the thread for what the user wants now. Returns its answer, or null if the user wanted something else before it came.
-async function ask(words, task, values) {
-    const mine = begin(words), said = await runner.ask(task, values);
-    if (mine !== runs) return null;
-    const trouble = troubleIn(said), data = trouble || !said.report ? null : await inSlices(dataOf(said));
-    if (mine === runs) busy("");
-    return mine === runs ? { ...said, trouble, data } : null;
-}
+const run = new Run();
 
 // Does work in parts, between which the page answers. Returns its value.
 async function inSlices(work) {
@@ -237,120 +95,204 @@ async function inSlices(work) {
 // ends what runs, and says so
 function cancel() {
     const isRunning = !$("busy").hidden;
-    begin("");
+    run.begin("");
     if (isRunning) $("why").textContent = "Cancelled.";
 }
 
 function complain(words) {
     hide();
+    $("form").open = true;
     $("message").textContent = words;
     $("message").hidden = false;
     $("why").textContent = faultWords(words);
 }
 
-// takes away what is shown of an earlier run
-function hide() {
-    $("result").hidden = true;
-    $("result").classList.remove("stale");
-    newFrame();
-    tellAll([]);
-}
-
-// What an answer of a thread says that is no result, or "". After an error the next task gets a new thread.
+// What an answer of a thread says that is no result, or "". After an error the next task gets a new
+// thread.
 function troubleIn({ isStart, error, name, fault }, thread = runner) {
     if (!error) return fault ?? "";
     thread.stop();
     if (isStart) return `This browser can't run the program: ${error}. ${INSTEAD}`;
     if (error === "out of memory" || name === "RangeError") return `out of memory. ${INSTEAD}`;
-    if (name === "RuntimeError" || name === "InternalError") return `The program stopped, since its stack or its memory was overrun (${error}). ${INSTEAD}`;
+    if (name === "RuntimeError" || name === "InternalError") {
+        return `The program stopped, since its stack or its memory was overrun (${error}). ${INSTEAD}`;
+    }
     return `The page has a fault (${name}: ${error}). Please report this.`;
 }
 
-// Runs a task and shows its result. Returns the result, or null if something else was asked for since.
-async function run(words, task, values) {
-    const said = await ask(words, task, values);
-    if (!said) return null;
-    if (said.trouble) complain(said.trouble);
-    else show(Object.assign(kept, said), task === "make");
-    tellAll(said.said ?? []);
-    return said;
-}
-
-async function auditPair(pair, words) {
-    const sources = sourcesOf(pair);
-    kept.pair = pair;
-    hide();
-    if (sources.levels) return run(words, "audit", sources);
-    begin("");
-    complain("There is nothing to audit yet: paste or drop levels.");
-    return null;
-}
-
-// says in the list of files what became of one, if there is a list and a result
-function tellTotal(pair, result) {
-    if (!pair || !result) return;
-    // what is said of a file is shown only until the next one
-    const unread = (result.said ?? []).filter(({ isNote }) => !isNote).length;
-    pair.total.textContent = `${result.trouble || totalIn(result.report)}${unread ? `, ${many(unread, "remark")}` : ""}`;
-}
-
-async function audit() {
-    moveAnswers();
-    $("each").hidden = !pairs.length;
-    $("each").replaceChildren();
-    if (!pairs.length) return auditPair(null, "Auditing");
-    const buttons = [];
-    for (const [i, pair] of pairs.entries()) {
-        const said = await auditPair(pair, `File ${i + 1} of ${pairs.length}`);
-        if (!said) break;
-        const button = document.createElement("button"), item = document.createElement("li");
-        pair.total = document.createElement("span");
-        button.textContent = pair.levels.name;
-        // a click would end what runs
-        button.disabled = true;
-        button.addEventListener("click", async () => tellTotal(pair, await auditPair(pair, "Auditing")));
-        buttons.push(button);
-        item.append(button, " ", pair.total);
-        tellTotal(pair, said);
-        $("each").append(item);
+// shows a result, or what is wrong
+function showResult(result, areSame = false) {
+    if (!result.trouble) {
+        show(result, areSame);
+        return;
     }
-    for (const button of buttons) button.disabled = false;
-    return null;
+    complain(result.trouble);
+    tellAll(result.said ?? []);
+}
+
+function clear(text = "") {
+    run.begin("");
+    inputs.write(text);
+    $("message").hidden = true;
+    $("why").textContent = $("said").textContent = "";
+    hide();
+}
+
+// Takes files: levels, answers and lists of solutions, which the thread tells apart, after the ones of
+// drops before that it hasn't told apart yet.
+async function take(files) {
+    if (!files.length) return;
+    const drops = [...inputs.untold, [...files]], asked = run.ask("Reading the files", "sort", { drops }), made = [];
+    inputs.untold = drops;
+    const said = await asked;
+    if (!said) return;
+    inputs.untold = [];
+    if (said.trouble) {
+        complain(said.trouble);
+        return;
+    }
+    const faults = drops.map((some, i) => inputs.place(some, said.kinds[i], made));
+    if (faults.at(-1)) {
+        complain(faults.at(-1));
+        return;
+    }
+    await audit();
+    if (made.length) $("notes").append(` Left out, since they were made from the levels: ${few(made)}.`);
+}
+
+// audits what is there, and shows the result
+async function audit() {
+    hide();
+    $("several").hidden = !inputs.pairs.length;
+    $("each").replaceChildren();
+    if (inputs.pairs.length) return auditPairs();
+    const sources = inputs.sources();
+    if (!sources) {
+        run.begin("");
+        complain("There is nothing to audit yet: paste or drop levels.");
+        return null;
+    }
+    const result = await run.ask("Auditing", "audit", sources);
+    if (result) showResult(result);
+    return result;
 }
 
 const textsOf = ({ levels, answers, names, slices, said }) => ({ levels, answers, names, slices, said });
-const make = async () => tellTotal(kept.pair, await run("Looking for certificates", "make", textsOf(kept)));
+
+// looks for certificates
+async function make() {
+    const { pair } = kept, result = await run.ask("Looking for certificates", "make", textsOf(kept));
+    if (!result) return;
+    if (pair) pair.result = result;
+    showResult(result, true);
+    if (pair) tellTotals();
+}
+
+// ---- several files
+
+// Audits several files, one after the other, and shows the first of those with open levels.
+async function auditPairs() {
+    const { pairs } = inputs;
+    for (const pair of pairs) pair.result = null;
+    for (const [i, pair] of pairs.entries()) {
+        const result = await run.ask(`File ${i + 1} of ${pairs.length}`, "audit", inputs.sources(pair));
+        if (!result) break;
+        pair.result = result;
+        tellTotals(i + 1 < pairs.length);
+    }
+    const done = worstFirst(pairs);
+    tellTotals();
+    if (done.length && inputs.pairs === pairs) showPair(done[0]);
+}
+
+// the files that are done: first those without a report, and those with the most open levels
+function worstFirst(pairs) {
+    const open = ({ result: { trouble, report } }) => {
+        const { refused, missing } = trouble ? { refused: Infinity, missing: 0 } : countsIn(totalIn(report));
+        return refused + missing;
+    };
+    return pairs.filter(({ result }) => result).sort((one, other) => Number(open(other) > open(one)) - Number(open(other) < open(one)));
+}
+
+function showPair(pair) {
+    kept.pair = pair;
+    showResult(pair.result);
+}
+
+// Shows the sum of several files and what became of each. While others run, none can be clicked, since
+// a click would end what runs.
+function tellTotals(areRunning = false) {
+    const done = worstFirst(inputs.pairs), sum = {};
+    for (const { result } of done) {
+        const counts = result.trouble ? {} : countsIn(totalIn(result.report));
+        for (const word in counts) sum[word] = (sum[word] ?? 0) + counts[word];
+    }
+    $("sum").replaceChildren(`${many(done.length, "file")}, `, ...totalWords({ total: 0, ...sum }));
+    $("each").replaceChildren(...done.map(pair => {
+        const { result: { trouble, report, said = [] }, levels: { name } } = pair;
+        const unread = said.filter(({ isNote }) => !isNote).length;
+        const button = html("button", { onclick: () => showPair(pair) }, name);
+        button.disabled = areRunning;
+        return html("li", {}, button, " ", ...trouble ? [trouble] : totalWords(countsIn(totalIn(report))),
+            unread ? `, ${many(unread, "remark")}` : "");
+    }));
+}
 
 // ---- what the user does
 
+// Folds the form once the text in it is audited, so that the result comes first. A user who typed on
+// meanwhile stays in the field.
+function fold() {
+    if ($("result").hidden || $("result").classList.contains("stale")) return;
+    $("form").open = false;
+    $("total").focus();
+}
+
+// audits a text that was pasted: answers for a file of levels, or levels
+async function takeText(text) {
+    const isLong = text.length > MOST_KEPT && !HEADER.test(text) && !INNER_HEADER.test(text);
+    if (isLong) await take([new File([text], "levels")]);
+    else if (HEADER.test(text) && (inputs.levels || inputs.pairs.length)) await take([new File([text], "answers")]);
+    else {
+        clear(text);
+        await audit();
+        fold();
+    }
+}
+
 function listen() {
-    const on = (id, does) => $(id).addEventListener("click", does);
-    for (const kind in inputs) {
-        const { field, box } = inputs[kind];
-        field.addEventListener("paste", event => {
-            const data = event.clipboardData, isText = !data?.files.length || data.types.includes("text/plain");
-            const text = isText ? data?.getData("text/plain") ?? "" : "";
-            if (isText && !isLong(text)) return setTimeout(audit, 0);
-            event.preventDefault();
-            return take(isText ? [new File([text], kind)] : data.files);
-        });
-        field.addEventListener("beforeinput", () => {
-            const isAll = field.value && field.selectionEnd - field.selectionStart === field.value.length;
-            if (isAll && field === inputs.levels.field && areOfLevels()) inputs.answers.field.value = "";
-        });
-        field.addEventListener("input", () => $("result").classList.add("stale"));
-        box.querySelector("button").addEventListener("click", () => {
+    const on = (id, does) => $(id).addEventListener("click", does), field = $("levels");
+    // What is pasted outside of a field replaces what is there. A browser lays out a long text in a
+    // field for seconds, so such a one is taken as a file.
+    addEventListener("paste", event => {
+        const { clipboardData: data, target } = event;
+        const isText = !data?.files.length || data.types.includes("text/plain");
+        const text = isText ? data?.getData("text/plain") ?? "" : "";
+        if (target !== field && target.closest?.("input, textarea")) return;
+        if (target === field && isText && text.length <= MOST_KEPT) {
+            setTimeout(() => audit().then(fold), 0);
+            return;
+        }
+        event.preventDefault();
+        if (!isText) take(data.files);
+        else if (text.trim()) takeText(text);
+    });
+    field.addEventListener("input", () => $("result").classList.add("stale"));
+    field.addEventListener("focus", () => document.body.classList.contains("welcome") && field.select());
+    for (const kind of ["levels", "answers"]) {
+        $(`${kind}-file`).querySelector("button").addEventListener("click", () => {
             cancel();
-            if (pairs.length) remove();
-            else put(kind, null);
+            if (inputs.pairs.length) inputs.remove();
+            else if (kind === "levels") Object.assign(inputs, { levels: null, lists: [] });
+            else inputs.answers = null;
+            inputs.show();
             $("result").classList.add("stale");
             field.focus();
         });
     }
     on("audit", async () => {
         await audit();
-        // a user who types on meanwhile stays in the field
-        if (!$("result").hidden && !$("result").classList.contains("stale")) $("total").focus();
+        fold();
     });
     on("make", async () => {
         await make();
@@ -365,55 +307,52 @@ function listen() {
     on("save-levels", () => save("xsb", new Blob([kept.levels])));
     on("save-answers", () => save("answers", new Blob([kept.answers])));
     on("save-page", savePage);
+    on("link", event => copyLink(event.target));
     on("choose", () => $("files").click());
     on("clear", () => clear());
     on("example", () => {
         clear(EXAMPLE);
-        // on a phone the keyboard would cover the result
-        if (matchMedia("(pointer: coarse)").matches) inputs.levels.field.blur();
         audit();
     });
+    document.querySelector("#proved .why-proved").addEventListener("click", explain);
+    $("table").addEventListener("toggle", showTable);
     $("files").addEventListener("change", () => {
         const files = [...$("files").files];
         $("files").value = "";
         take(files);
     });
-    // what is pasted outside of a field replaces what is there
-    addEventListener("paste", event => {
-        if (event.target.closest?.("input, textarea")) return;
-        const { files } = event.clipboardData, text = event.clipboardData.getData("text/plain");
-        event.preventDefault();
-        if (files.length) take(files);
-        else if (isLong(text)) take([new File([text], "levels")]);
-        else if (text.trim()) clear(text), audit();
-    });
     addEventListener("keydown", event => {
         if (event.key === "Enter" && (event.ctrlKey || event.metaKey)) $("audit").click();
-        // the keys of the levels hold here too, if nothing else has the focus
-        else if (!$("result").hidden && event.target.matches?.("body, #total")) $("page").contentWindow.press?.(event);
     });
-    for (const name of ["scroll", "resize"]) addEventListener(name, () => $("page").contentWindow.seen?.(), { passive: true });
-    addEventListener("resize", () => $("page").contentWindow.grow?.());
-    addEventListener("beforeprint", () => $("printed").replaceChildren(...$("page").contentWindow.onPaper?.() ?? []));
-    addEventListener("afterprint", () => $("printed").replaceChildren());
-    addEventListener("popstate", ({ state }) => $("page").contentWindow.visit?.(state?.drawnAt === drawnAt ? state.to : ""));
-    takeDrops(window);
+    addEventListener("hashchange", () => openLink());
+    // a level that is opened with Ctrl gets a tab of its own, by a link that has it
+    for (const name of ["click", "auxclick"]) addEventListener(name, openBeside);
+    takeDrops();
 }
 
-// takes the files that are dropped on a window: this one, or the frame
-function takeDrops(view) {
-    view.addEventListener("dragover", event => {
+// takes the files that are dropped anywhere
+function takeDrops() {
+    addEventListener("dragover", event => {
         // a field takes a text itself
         if (!event.dataTransfer.types.includes("Files") && event.target.closest?.("input, textarea")) return;
         event.preventDefault();
         document.body.classList.add("dropping");
     });
-    for (const name of ["dragleave", "drop"]) view.addEventListener(name, () => document.body.classList.remove("dropping"));
-    view.addEventListener("drop", event => {
+    for (const name of ["dragleave", "drop"]) addEventListener(name, () => document.body.classList.remove("dropping"));
+    addEventListener("drop", event => {
         if (!event.dataTransfer.files.length) return;
         event.preventDefault();
         take(event.dataTransfer.files);
     });
+}
+
+async function openBeside(event) {
+    const link = event.target.closest?.("#view a[href^='#']"), number = Number(link?.hash.slice(1));
+    const isOther = event.ctrlKey || event.metaKey || event.shiftKey || event.button === 1;
+    if (!number || !isOther) return;
+    event.preventDefault();
+    const level = shownData.levels[number - 1];
+    window.open(await linkToLevel(level, shownData.records[number]));
 }
 
 function canRun() {
@@ -421,5 +360,35 @@ function canRun() {
     return typeof WebAssembly === "object" && WebAssembly.validate(bytes);
 }
 
-if (canRun()) listen();
-else complain(`This browser has no WebAssembly with vectors, which the program needs here. ${INSTEAD}`);
+// opens the levels that the address has, and returns whether it has any
+async function openLink() {
+    const [, number, at, words] = LINK.exec(location.hash) ?? [];
+    if (!words) return false;
+    const text = await unpacked(words).catch(() => "");
+    clear(text);
+    const result = await audit();
+    fold();
+    if (!result?.data) return true;
+    draw(number ? `#${number}${at ? `:${at}` : ""}` : "");
+    return true;
+}
+
+// Shows the example to whoever opens the page, with a certificate for its unsolvable level. A text that
+// the browser kept over a reload is audited in its place.
+async function welcome() {
+    if (await openLink()) return;
+    if (inputs.text.trim()) {
+        await audit();
+        fold();
+        return;
+    }
+    $("levels").value = EXAMPLE;
+    document.body.classList.add("welcome");
+    const result = await audit();
+    if (result && document.body.classList.contains("welcome")) await make();
+}
+
+if (canRun()) {
+    listen();
+    addEventListener("pageshow", welcome, { once: true });
+} else complain(`This browser has no WebAssembly with vectors, which the program needs here. ${INSTEAD}`);

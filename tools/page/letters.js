@@ -102,7 +102,7 @@ class Groups {
     }
 }
 
-function lettersIn(lines) {
+function groupsIn(lines) {
     const groups = new Groups();
     for (const it of lines) groups.add(it);
     return groups.end();
@@ -130,74 +130,45 @@ const joined = pieces => pieces.map(({ piece }) => piece).join("");
 // the steps of letters that solve nothing; after enough of them no more are tried
 let steps = 0;
 
-// A board as bytes with a wall around it: 1 is a wall, 2 a goal, 4 a box. `why` says why it has none, or is "".
-function boardOf(rows) {
-    if (rows.length > MOST_SIDE || rows.some(({ length }) => length > MOST_SIDE)) return { why: "the level is too large" };
-    const width = Math.max(...rows.map(({ length }) => length)) + 2, cells = new Uint8Array(width * (rows.length + 2)).fill(1), players = [];
-    rows.forEach((row, y) => [...row.padEnd(width - 2)].forEach((cell, x) => {
-        const place = (y + 1) * width + x + 1;
-        cells[place] = { "#": 1, ".": 2, "+": 2, "$": 4, "*": 6 }[cell] ?? 0;
-        if (cell === "@" || cell === "+") players.push(place);
-    }));
-    const far = new Int32Array(128);
-    for (const [letter, by] of Object.entries({ l: -1, u: -width, r: 1, d: width })) {
-        for (const it of [letter, letter.toUpperCase()]) far[it.charCodeAt(0)] = by;
-    }
-    const count = is => cells.reduce((sum, cell) => sum + is(cell), 0);
-    return { cells, far, player: players[0], off: count(cell => cell === 4), boxes: count(cell => cell > 3),
-        why: players.length === 1 ? "" : `the level has ${many(players.length, "player")}` };
+// The board of some rows, its state at the start, and why no letters are tried on it, or "".
+function boardToTry(rows) {
+    const isLarge = rows.length > MOST_SIDE || rows.some(({ length }) => length > MOST_SIDE);
+    const board = new Board(isLarge ? [] : rows), { length } = board.players;
+    const fault = isLarge ? "the level is too large" : length === 1 ? "" : `the level has ${many(length, "player")}`;
+    return Object.assign(board, { fault, start: board.state() });
 }
 
-// Letters as they are played: where boxes were pushed, as the number of the letter and the places from and to; after how many letters all boxes
-// are on goals; how many boxes aren't at the end; and why the next letter can't be played.
-class Replay {
-    pushes = [];
-    ends = [];
-    off = 0;
-    stop = "";
-    // Plays letters on a board, until one can't be played. The board is left as it was. Returns how many were played.
-    play({ cells, far, player, off }, letters, most) {
-        const { pushes, ends } = this;
-        let at = 0;
-        pushes.length = ends.length = 0;
-        for (; at < most; at++) {
-            const by = far[letters.charCodeAt(at)] ?? 0, to = player + by, cell = cells[to];
-            if (!by || cell & 1 || cell & 4 && cells[to + by] & 5) {
-                this.stop = !by ? "letter" : cell & 1 ? "wall" : "blocked";
-                break;
-            }
-            if (cell & 4) {
-                cells[to] ^= 4;
-                cells[to + by] ^= 4;
-                off += (cell & 2) / 2 - (cells[to + by] & 2) / 2;
-                pushes.push(at, to, to + by);
-            }
-            player = to;
-            if (!off) ends.push(at + 1);
-        }
-        for (let i = pushes.length - 3; i >= 0; i -= 3) {
-            cells[pushes[i + 2]] ^= 4;
-            cells[pushes[i + 1]] ^= 4;
-        }
-        this.off = off;
-        if (off || at < most) steps += TRY + at;
-        return at;
-    }
+// Plays letters, given as bytes, on a board as far as they can be played, whatever their case. The board
+// is left as it was. Returns how many were played, how many boxes aren't on goals then, and why the next
+// letter can't be played. The lists get the pushes, and after how many letters all boxes are on goals.
+function tryOn(board, letters, pushes, ends) {
+    board.play(letters, letters.length, false, pushes, ends);
+    const { at, off, why } = board;
+    board.undo(pushes, board.start);
+    if (off || at < letters.length) steps += TRY + at;
+    return { at, off, why };
 }
-const trial = new Replay();
 
-// Whether letters without numbers solve a board. It is asked millions of times.
-const solves = (board, letters) => !board.why && trial.play(board, letters, letters.length) === letters.length && !trial.off;
+// Whether letters without numbers, given as bytes, solve a board. It is asked millions of times.
+const tried = [];
+function solves(board, letters) {
+    if (board.fault) return false;
+    tried.length = 0;
+    const { at, off } = tryOn(board, letters, tried, null);
+    return at === letters.length && !off;
+}
 
-// Plays letters on a board. Returns why they don't solve it, or "", the number of moves and of pushes, the letters each in the case that its
-// step has, and after how many of them all boxes are on goals.
+// Plays letters on a board. Returns why they don't solve it, or "", the number of moves and of pushes,
+// the letters each in the case that its step has, and after how many of them all boxes are on goals.
 function played(board, text) {
-    const letters = expanded(text, MOST_PLAYED), replay = new Replay();
-    const none = board.why || (letters === null || letters.length > MOST_PLAYED ? "it can't be written out, or is too long to be tried" : "");
+    const letters = expanded(text, MOST_PLAYED), pushes = [], ends = [];
+    const none = board.fault || (letters === null || letters.length > MOST_PLAYED
+        ? "it can't be written out, or is too long to be tried" : "");
     if (none) return { letters: "", why: none, ends: [] };
-    const at = replay.play(board, letters, letters.length), { off, ends, pushes } = replay, made = [...letters.slice(0, at).toLowerCase()];
+    const { at, off, why: stop } = tryOn(board, bytesOf(letters), pushes, ends);
+    const made = [...letters.slice(0, at).toLowerCase()];
     let why = off ? `it leaves ${off === 1 ? "a box" : `${off} boxes`} off the goals` : "";
-    if (at < letters.length) why = `letter ${at + 1}, ${letters[at]}: ${replay.stop}`;
+    if (at < letters.length) why = `letter ${at + 1}, ${letters[at]}: ${stop}`;
     for (let i = 0; i < pushes.length; i += 3) made[pushes[i]] = made[pushes[i]].toUpperCase();
     return { why, ends, moves: at, pushes: pushes.length / 3, letters: made.join("") + letters.slice(at) };
 }

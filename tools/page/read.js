@@ -55,7 +55,7 @@ class Reading {
         return this.from[this.places[i].first].part;
     }
     boardAt(i) {
-        return this.boards[i] ??= boardOf(this.lines.slice(this.places[i].first, this.places[i].end));
+        return this.boards[i] ??= boardToTry(this.lines.slice(this.places[i].first, this.places[i].end));
     }
     add(i, ...some) {
         this.chosen[i].push(...some);
@@ -76,7 +76,7 @@ class Reading {
             this.tell(`Trying the letters of level ${i + 1} of ${levels.length}`);
             const gap = from.slice(i < 0 ? 0 : places[i].end, places[i + 1]?.first).filter(it => it?.line !== undefined);
             const left = [], heads = [];
-            for (const group of lettersIn(gap)) for (const it of this.tryGroup(i, group, left, heads)) left.push(it);
+            for (const group of groupsIn(gap)) for (const it of this.tryGroup(i, group, left, heads)) left.push(it);
             for (const { part, number } of this.chosen[i]?.length === 0 ? heads : []) {
                 this.say(part, number, "a heading of a solution without letters that are read");
             }
@@ -132,7 +132,7 @@ class Reading {
     solvedBy(piece, above, isTried) {
         const letters = expanded(piece, MOST_PLAYED), found = [];
         if (letters === null || letters.length > MOST_PLAYED || steps >= MOST_STEPS) return found;
-        const isNew = i => i < this.levels.length && !this.isSolved[i] && solves(this.boardAt(i), letters);
+        const bytes = bytesOf(letters), isNew = i => i < this.levels.length && !this.isSolved[i] && solves(this.boardAt(i), bytes);
         if (isNew(above + 1)) found.push(above + 1);
         for (const i of this.unsolved()) {
             if (i === above + 1 || i === above && isTried) continue;
@@ -185,7 +185,7 @@ class Reading {
     result() {
         for (const i of this.levels.keys()) {
             const { boxes, off } = this.boardAt(i), { part, number } = this.from[this.places[i].first];
-            if (boxes && !off) this.say(part, number, `level ${i + 1} is solved as it stands`, true);
+            if (boxes.length && !off) this.say(part, number, `level ${i + 1} is solved as it stands`, true);
         }
         this.sayBeside();
         const answers = this.answers(), isSame = this.isSame(), isOne = this.parts.length === 1;

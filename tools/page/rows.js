@@ -1,7 +1,7 @@
 // Finds the rows of levels in lines: plain, run-length coded, quoted, in a table or in one line. Makes them plain.
 
 const MOST_ROWS = 65536, LONGEST_LINE = 20000, LONGEST_STRING = 1000, LONGEST_JOINED = 1 << 20, MOST_BLANKS = 64;
-const PLAIN = /^[-#@+$*._ ]*$/, CELL = "#-@+$*._ 0123456789bBpPo()", CELLS = /^[-#@+$*._ 0-9bBpPo()]*$/;
+const CELL = "#-@+$*._ 0123456789bBpPo()", CELLS = /^[-#@+$*._ 0-9bBpPo()]*$/;
 const PIECES = { b: "$", B: "*", p: "@", P: "+", o: "." }, MAZE = { X: "#", "*": "$", "&": "*" };
 const BREAK = /(\r{0,2}\n(?:\r(?!\n))?|\r)|[\v\f\x85\u2028\u2029]|\ufeff/;
 // what parts the rows of a level that stands in one line
@@ -122,10 +122,10 @@ function stringIn(line) {
 // The row that a line may be: { kind, rows, lead }, or null. A bare line has no marks of other programs left.
 function rowIn(line, isBare = false) {
     if (!/[#&\uff03\u2588]/.test(line) || /^\s*::/.test(line)) return null;
-    if (PLAIN.test(line)) return { kind: "plain", rows: [line], lead: "" };
+    if (IS_PLAIN.test(line)) return { kind: "plain", rows: [line], lead: "" };
     if (line.length > LONGEST_LINE) return line.length > LONGEST_JOINED ? null : joinedIn(line);
     const lead = /^(?:\t+|: (?=[-_ ]*#)|(?:> ?)+)?/.exec(line)[0], core = line.slice(lead.length).trimEnd();
-    if (PLAIN.test(core)) return { kind: "plain", rows: [core], lead };
+    if (IS_PLAIN.test(core)) return { kind: "plain", rows: [core], lead };
     if (CELLS.test(core)) {
         const rows = spelled([core]);
         return rows && { kind: "coded", rows, lead };
@@ -133,7 +133,7 @@ function rowIn(line, isBare = false) {
     const end = core.endsWith("|") && !core.startsWith("|") && CELLS.test(core.replace(/\|/g, "")) ? spelled(core.split("|").filter(it => it)) : null;
     if (end) return { kind: "joined", rows: end, lead, goesOn: true };
     const marked = core.replace(/^[~x^ ]+(?=#)|(?<=#)[~x^ ]+$/g, it => " ".repeat(it.length));
-    if (marked !== core && PLAIN.test(marked)) return { kind: "marked", rows: [marked.trimEnd()], lead };
+    if (marked !== core && IS_PLAIN.test(marked)) return { kind: "marked", rows: [marked.trimEnd()], lead };
     const string = core.length < LONGEST_STRING ? stringIn(core) : null, beside = string ? null : BESIDE.exec(core);
     if (string) return string;
     if (beside) return { kind: "beside", rows: [beside[1]], lead: "" };
@@ -218,7 +218,7 @@ function findLevel(lines, first, last, faults) {
 // Whether a line that isn't read may be meant as a row, or as levels in another form.
 function isRowLike(line, isNear) {
     const core = line.replace(/^[\s"',;()|>]+|[\s"',;()|]+$/g, "");
-    if (isNear && /^(.)(?!\1*$)/.test(core) && (PLAIN.test(core) || core.includes("#") && !/^;/.test(line))) return true;
+    if (isNear && /^(.)(?!\1*$)/.test(core) && (IS_PLAIN.test(core) || core.includes("#") && !/^;/.test(line))) return true;
     if (/^(?![2468]*$)\d{5,}$|^(?=.*\d)(?=.*[A-Z])[A-Za-z0-9+\/]{60,}={0,2}$/.test(core) || /^([^\s\w#;=~*.:-])\1{3,}$/.test(core)) return true;
     if (/^X[X@$.*+ _-]*[@$.*+][X@$.*+ _-]*X$/.test(core)) return true;
     if (core.split("#").length < 3 || !/^\d*#|#$|##/.test(core) || /^(?:;|::)/.test(line)) return false;

@@ -1,103 +1,116 @@
-// Shows a result of the page that audits: its totals, its levels by the viewer in a frame, and what is saved of it.
+// Shows a result: its total, its levels by the viewer, and what is saved of it.
 
 const MOST_SAID = 200;
-const $ = id => document.getElementById(id);
-// the result that is shown
+// the result that is shown, the viewer of its levels, and the number of the last viewer
 const kept = {};
+let viewer = null, of = 0;
 
 const totalIn = report => report.slice(report.lastIndexOf("\n", report.length - 2) + 1).trimEnd();
+const STATES = { solved: "solved", unsolvable: "proved unsolvable", refused: "refused", missing: "without an answer" };
+
+// The numbers of a last line as they are read: "3 levels: 1 solved, 2 refused". Each has its colour,
+// and zeros are left out.
+function totalWords({ total, ...counts }) {
+    const parts = Object.entries(STATES).filter(([status]) => counts[status])
+        .map(([status, words]) => html("span", { class: status }, `${counts[status]} ${words}`));
+    return [many(total, "level"), ...parts.flatMap((part, i) => [i ? ", " : ": ", part])];
+}
+
+// the numbers of a last line, by their words
+function countsIn(line) {
+    const words = line.split(" "), counts = {};
+    for (let i = 0; i < words.length; i += 2) counts[words[i]] = Number(words[i + 1]);
+    return counts;
+}
 
 // says what was read with a change, or not at all: the latter first
 function tellAll(said) {
-    const sorted = [...said].sort((a, b) => Boolean(a.isNote) - Boolean(b.isNote)), more = sorted.splice(MOST_SAID).length;
-    $("told").replaceChildren(...sorted.map(({ place, words, isNote }) => {
-        const item = document.createElement("li");
-        item.className = isNote ? "" : "unread";
-        item.textContent = place ? `${place}: ${words}` : words;
-        return item;
-    }), ...more ? [`and ${more} more`] : []);
+    const sorted = [...said].sort((a, b) => Boolean(a.isNote) - Boolean(b.isNote));
+    const more = sorted.splice(MOST_SAID).length;
+    $("told").replaceChildren(...sorted.map(({ place, words, isNote }) =>
+        html("li", { class: isNote ? "" : "unread" }, place ? `${place}: ${words}` : words)),
+    ...more ? [`and ${more} more`] : []);
 }
 
 // Shows a result. If its levels are those that are shown, the open one stays open.
-function show({ names, totals, notes, report, status, took, data }, areSame) {
+function show(result, areSame) {
+    const { names, totals, notes, report, status, took, data } = Object.assign(kept, { table: null }, result);
     globalThis.shownData = data;
-    $("total").textContent = (pairs.length ? `${names[0]}: ` : "") + totalIn(report);
+    $("total").replaceChildren(...inputs.pairs.length ? [`${names[0]}: `] : [],
+        ...totalWords(countsIn(totalIn(report))));
     $("said").textContent = $("total").textContent;
     $("total").className = status ? "open" : totals.count ? "fine" : "";
-    $("notes").textContent = [...notes, ...took > 1000 ? [`The program took ${(took / 1000).toFixed(1)} seconds.`] : []].join(" ");
+    $("notes").textContent = [...notes, ...took > 1000
+        ? [`The program took ${(took / 1000).toFixed(1)} seconds.`] : []].join(" ");
     $("lines").textContent = report;
     $("make").disabled = !totals.missing;
+    $("table").open = false;
     $("result").hidden = false;
-    draw(areSame && history.state?.drawnAt === drawnAt ? history.state.to : totals.count === 1 ? "#1" : "");
+    draw(areSame ? viewer?.address ?? "" : totals.count === 1 ? "#1" : "");
+    tellAll(result.said ?? []);
 }
 
-const START = "<script>start();<\/script>";
-const viewerText = JSON.parse($("viewer").textContent);
-// the viewer as a page around its data, and what it has more
-const viewerParts = more => viewerText.replace(START, () => more + START).split("@DATA@");
-const scriptOf = (id, type = "") => `<script${type}>${$(id).textContent}<\/script>`;
-
-// Writes the viewer into a window, with levels of its own, since it notes on them what it shows. They stay those of the window when another
-// result is shown here. It isn't loaded from an address, since a browser lets a page from a file follow no link within such a one.
-function fill(view, data = shownData) {
-    const own = { ...data, levels: data.levels.map(level => level.copy()) };
-    Object.assign(view, { shownData: own, judged, deadSquares, openLevel: number => openLevel(number, own) });
-    const inside = view.document;
-    inside.open();
-    inside.write(viewerParts(scriptOf("inside")).join("null"));
-    inside.close();
-    return inside;
+// shows the levels of the result, at an address
+function draw(address) {
+    viewer?.close();
+    of = Math.max(of + 1, Date.now());
+    history.replaceState({ of }, "", location.href.replace(/#.*/s, "") + address);
+    viewer = mount($("view"), shownData, { judge: judged, deadSquares, linkOf: linkToLevel, explain, of,
+        heading: false, title: "sokoaudit",
+        unanswered: "There is no answer for this level. 'Prove unsolvable levels' tries to prove that it has none; "
+            + "'sokotool find' looks for one." });
 }
 
-// puts an empty frame in the place of the one that is there, whose work ends
-function newFrame() {
-    const frame = document.createElement("iframe");
-    frame.id = "page";
-    frame.title = $("page").title;
-    $("page").replaceWith(frame);
-    return frame;
+// takes away what is shown of an earlier run
+function hide() {
+    $("result").hidden = true;
+    $("result").classList.remove("stale");
+    viewer?.close();
+    viewer = null;
+    tellAll([]);
 }
 
-// Enters into the history what the frame shows, and when its result was drawn: numbers of levels from before are of another one.
-let drawnAt = 0;
-function enter(does, to) {
-    history[does]({ to, drawnAt }, "");
-}
-
-// puts the viewer into a new frame, which is as high as its content, and shows a level there, or all
-function draw(to) {
-    const before = document.activeElement, frame = newFrame(), inside = fill(frame.contentWindow);
-    const grow = frame.contentWindow.grow = () => {
-        frame.style.height = `${Math.ceil(inside.body.getBoundingClientRect().height) + 2}px`;
-        inside.documentElement.style.setProperty("--tall", `${innerHeight}px`);
-    };
-    takeDrops(frame.contentWindow);
-    new ResizeObserver(grow).observe(inside.body);
-    grow();
-    drawnAt = Date.now();
-    enter("replaceState", to);
-    // A level's page takes the focus, which stays with the user here.
-    if (to) frame.contentWindow.visit(to);
-    before.focus({ preventScroll: true });
-}
-
-// Opens a level in a window of its own, as a click with Ctrl wants. Without this page nothing can be judged there.
-function openLevel(number, data) {
-    const view = window.open("");
-    fill(view, data);
-    view.go(number);
-    addEventListener("pagehide", () => Object.assign(view, { judged: async () => ({ line: "" }), deadSquares: null }));
-}
-
-// shows the top of the frame after it has become shorter
-function showTop() {
-    if ($("page").getBoundingClientRect().top < 0) $("page").scrollIntoView();
+// shows what is proved
+function explain() {
+    $("proof").open = true;
+    $("proof").scrollIntoView({ block: "end" });
+    $("proof").querySelector("summary").focus({ preventScroll: true });
 }
 
 // the cells of a legal level that are dead squares, by the program
 async function deadSquares(rows) {
     const said = await judge.ask("dead", { rows });
     return { cells: said.cells ?? [], fault: said.isStopped ? "stopped" : troubleIn(said, judge) };
+}
+
+// ---- links, and the table
+
+// a link that opens a level of the result as it is shown
+function linkToLevel(level, record, at) {
+    const head = /^[^\n\r]*/.exec(textOf(kept.answers.subarray(0, 64)))[0];
+    return linkOf(textOfLevel(level), answersOf(record, head), at === undefined ? "#1" : `#1:${at}`);
+}
+
+// copies a link that opens all levels of the result
+async function copyLink(button) {
+    const isShort = kept.levels.length + kept.answers.length < 10 * MOST_KEPT;
+    const [levels, answers] = [kept.levels, kept.answers].map(bytes => new TextDecoder().decode(bytes));
+    const link = isShort ? await linkOf(levels, answers) : "";
+    if (link) await copy(link, button);
+    else button.textContent = "too long for a link: save the page";
+}
+
+// shows the table of the result, or of all files
+async function showTable() {
+    const place = $("table"), results = inputs.pairs.length
+        ? inputs.pairs.flatMap(({ result }) => result?.data ? [result] : []) : [kept];
+    if (!place.open || kept.table) return;
+    const rows = kept.table = await inSlices(tableRows(results));
+    const button = html("button", { id: "save-csv", onclick: () => save("csv", new Blob([csvOf(rows)])) }, "Save as CSV");
+    place.replaceChildren(place.querySelector("summary"), button, ...tableOf(rows, row => {
+        if (row.result !== kept && row.result.data !== kept.data) show(row.result, false);
+        viewer.go(row.number);
+    }));
 }
 
 // ---- what is saved
@@ -110,10 +123,14 @@ function save(what, blob, name = kept.names[0]) {
     setTimeout(() => URL.revokeObjectURL(link.href), 60000);
 }
 
+// Saves the page of the result: the viewer around its data, with the program that judges.
 async function savePage() {
-    const plain = ' type="text/plain"', more = ["wasm", "texts", "thread"].map(id => scriptOf(id, `${plain} id="${id}"`));
-    const parts = viewerParts([...more, scriptOf("threads"), scriptOf("inside")].join("\n"));
-    const result = textsOf(kept), said = await judge.ask("page", { parts, result });
+    const scriptOf = (id, type = "") => `<script id="${id}"${type}>${$(id).textContent}<\/script>`;
+    const plain = " type=\"text/plain\"", more = ["wasm", "texts", "thread"].map(id => scriptOf(id, plain));
+    const [above, between, below] = JSON.parse($("saved").textContent);
+    const scripts = [scriptOf("game"), scriptOf("viewer"), ...more, scriptOf("threads")].join("\n");
+    const parts = [above, `${between}${scripts}\n${below}`], result = textsOf(kept);
+    const said = await judge.ask("page", { parts, result });
     if (said.page) save("html", kept.page = said.page, result.names[0]);
     else if (!said.isStopped) complain(troubleIn(said, judge));
 }

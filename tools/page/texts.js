@@ -4,6 +4,16 @@
 
 const MOST_BYTES = 33554432, MOST_SIDE = 255, MOST_TITLE = 1000, MOST_CACHED = 100000;
 
+// What a row is: a wall and no other characters than those of levels. The thread looks for rows in
+// whole texts; a mark may stand before the first one.
+const CHARACTERS = "-#@+$*._ ", ROW = "[-@+$*._ ]*#[-#@+$*._ ]*", MARK = "\\xef\\xbb\\xbf|\\ufeff";
+const IS_PLAIN = new RegExp(`^[${CHARACTERS}]*$`), IS_ROW = new RegExp(`^${ROW}$`);
+const inLines = row => new RegExp(`(?:^(?:${MARK})?|\\n)(?:${row})(?:\\r?\\n|$)`);
+const HAS_ROW = inLines(ROW);
+const isRow = line => IS_ROW.test(line);
+// how answers begin, alone and within a text
+const HEADER = new RegExp(`^(?:${MARK})?sokoban-answers`), INNER_HEADER = /\nsokoban-answers [12]\r?\n/;
+
 function textOf(bytes) {
     const parts = [];
     for (let at = 0; at < bytes.length; at += 32768) {
@@ -41,7 +51,6 @@ function eachLine(text, does, at = 0, areBlanksJoined = false) {
     }
 }
 
-const many = (number, one) => `${number} ${one}${number === 1 ? "" : "s"}`;
 const few = numbers => numbers.slice(0, 12).join(", ") + (numbers.length > 12 ? ", .." : "");
 const fewOf = (one, numbers) => `${one}${numbers.length > 1 ? "s" : ""} ${few(numbers)}`;
 
@@ -80,8 +89,6 @@ function after(key, line, low) {
     const match = key.exec(low);
     return match && line.slice(match[0].length);
 }
-
-const isRow = line => line.includes("#") && !/[^-#@+$*._ ]/.test(line);
 
 // the title that a line of text is, or ""
 function titleIn(line) {
@@ -211,6 +218,32 @@ function rowsIn(bytes, { at, end }) {
         at = stop + 1;
     }
     return rows;
+}
+
+// ---- both texts in one
+
+// Parts a text into its levels, and its answers, or null. Answers begin with a header and end before
+// the levels that follow their last record. The last ones count.
+function parted(text) {
+    const levels = [], find = new RegExp(INNER_HEADER, "g");
+    let answers = null, at = 0;
+    for (let begin = HEADER.test(text) ? 0 : -1; ;) {
+        if (begin < 0) {
+            find.lastIndex = Math.max(0, at - 1);
+            const inner = find.exec(text);
+            if (!inner) break;
+            begin = inner.index + 1;
+        }
+        find.lastIndex = begin;
+        const next = find.exec(text), block = text.slice(begin, next ? next.index + 1 : text.length);
+        const row = HAS_ROW.exec(block), end = row ? block.lastIndexOf("\nend\n", row.index + 1) : -1;
+        answers = end < 0 ? block : block.slice(0, end + 5);
+        levels.push(text.slice(at, begin));
+        at = begin + answers.length;
+        begin = -1;
+    }
+    levels.push(text.slice(at));
+    return { levels: levels.filter(it => it).join("\n"), answers };
 }
 
 // ---- records

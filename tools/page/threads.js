@@ -13,7 +13,7 @@ class Thread {
         return this.waiting.size > 0;
     }
     start() {
-        const parts = ["texts", "thread"].map(id => document.getElementById(id).textContent);
+        const parts = ["game", "texts", "thread"].map(id => document.getElementById(id).textContent);
         const worker = this.worker = new Worker(URL.createObjectURL(new Blob(parts, { type: "text/javascript" })));
         worker.onmessage = ({ data: { id, stage, slice, ...said } }) => {
             // nothing waits for what an ended thread says
@@ -77,3 +77,6 @@ async function judged(rows, record) {
     if (said.error) judge.stop();
     return { line: said.line ?? "", body: bytes ? (said.slices ?? []).flat() : record?.body ?? [] };
 }
+
+// what a saved page hands to its viewer
+globalThis.hooks = { judge: judged };

@@ -2,8 +2,9 @@
 
 const FAULT = 2, REPORT_ROOM = 1 << 20, MADE_ROOM = 1 << 22, SAID_EVERY = 200, MOST_LINES = 1 << 21;
 const NO_MEMORY = 1, KINDS = ["", "solution", "unsolvable"], OUTCOME = 9, LINE = 13, RECORD = 7, MOST_LEVELS = 10000;
-const HEADER = /^(?:\xef\xbb\xbf)?sokoban-answers/, HAS_ROW = /(?:^(?:\xef\xbb\xbf)?|\n)[-@+$*._ ]*#[-#@+$*._ ]*(?:\r?\n|$)/;
-const SINCE = "are left out, since there are answers", LEFT_OUT = `The solutions beside the levels ${SINCE}`, NO_ANSWERS = "sokoban-answers 1\n", NO_LEVEL = "No level is found.", ROW = "A row has a wall # and no other characters than @ + $ * . - _ and blanks.";
+const SINCE = "are left out, since there are answers", LEFT_OUT = `The solutions beside the levels ${SINCE}`;
+const NO_ANSWERS = "sokoban-answers 1\n", NO_LEVEL = "No level is found.";
+const WHAT_ROWS_ARE = "A row has a wall # and no other characters than @ + $ * . - _ and blanks.";
 // the words of a verdict in numbers: why a level, a letter or a line is refused
 const WHYS = " size player box goals open letter wall blocked case syntax count board seed goals".split(" ");
 // the module, how long the program ran in this task, and the most memory that it took
@@ -108,16 +109,18 @@ function unmarked(bytes, name, said) {
     return isWide ? bytesOf(utf8(readBytes(bytes).text)) : bytes.subarray(3);
 }
 
+// a row that isn't a line of walls, which would part solutions
+const HAS_PIECES = inLines("[-_ ]*#[-#_ ]*[@+$*.][-#@+$*._ ]*");
+
 // The kind of a file: answers by their first line, what was made from levels, a list of letters without a level, or levels.
 async function kindOf(file) {
     if (HEADER.test(readBytes(await bytesIn(file, 256)).text)) return "answers";
     const bytes = await bytesIn(file);
     if (isMade(bytes)) return "made";
-    // a row that isn't a line of walls, which would part solutions
-    if (/(?:^|\n)[-_ ]*#[-#_ ]*[@+$*.][-#@+$*._ ]*(?:\r?\n|$)/.test(textOf(bytes))) return "levels";
+    if (HAS_PIECES.test(textOf(bytes))) return "levels";
     const parts = await partsOf(file.name, bytes);
     parts.forEach(findRows);
-    return !parts.some(({ lines }) => lines.some(({ row }) => row)) && parts.some(({ lines }) => lettersIn(lines).length) ? "list" : "levels";
+    return !parts.some(({ lines }) => lines.some(({ row }) => row)) && parts.some(({ lines }) => groupsIn(lines).length) ? "list" : "levels";
 }
 
 // The kinds of files that came together: answers also by their names, and what was made from levels only beside levels.
@@ -136,8 +139,13 @@ function linesIn(bytes) {
 }
 
 // The levels and answers of sources. Without answers, or if no line is a row, the levels are read in all forms.
-async function textsOf({ levels: source, lists, answers: given, names }, tell) {
-    const levels = await bytesIn(source), ofAnswers = [], answers = given && unmarked(await bytesIn(given), names[1], ofAnswers), notes = [];
+async function textsOf({ levels: file, answers: answersFile, lists, text: field, names }, tell) {
+    // The text may have both. With a file of levels it counts if it has answers alone.
+    const typed = parted(utf8(field)), whole = file ? await bytesIn(file) : bytesOf(typed.levels), ofAnswers = [], notes = [];
+    const isBoth = file && !answersFile && whole.length <= MOST_BYTES && INNER_HEADER.test(textOf(whole));
+    const inFile = isBoth ? parted(textOf(whole)) : null, levels = isBoth ? bytesOf(inFile.levels) : whole;
+    const given = answersFile ? await bytesIn(answersFile) : inFile?.answers ?? (!file || !HAS_ROW.test(typed.levels) ? typed.answers : null);
+    const answers = given === null ? null : unmarked(typeof given === "string" ? bytesOf(given) : given, names[1], ofAnswers);
     const asTheyAre = { levels, answers: answers ?? bytesOf(NO_ANSWERS), names, notes, said: ofAnswers };
     if (levels.length > MOST_BYTES) return asTheyAre;
     const isLong = linesIn(levels) > MOST_LINES;
@@ -157,7 +165,7 @@ async function textsOf({ levels: source, lists, answers: given, names }, tell) {
     const machine = await Machine.start(), spansOf = it => machine.spans(machine.put(bytesOf(it)));
     const { text, levels: found, answers: made, isSame, taken, said } = readParts(parts, spansOf, tell);
     said.push(...ofAnswers);
-    if (!found.length && !said.length) said.push({ place: "", words: ROW });
+    if (!found.length && !said.length) said.push({ place: "", words: WHAT_ROWS_ARE });
     if (!found.length && !answers) throw Object.assign(new Fault(NO_LEVEL), { said });
     if (!found.length) return { levels, answers, names, said, notes: [NO_LEVEL] };
     if (!answers) notes.push(`${many(taken, "solution")} found for ${many(found.length, "level")}.`);

@@ -123,7 +123,7 @@ def skeleton() -> str:
 def _page_of(data: Dict[str, Any], above: str) -> bytes:
     """Returns the page of some data. It runs no script but those whose checksums its policy has."""
     page = skeleton()
-    scripts = re.findall(r"<script>(.*?)</script>", page + above, re.S)
+    scripts = re.findall(r"<script(?: id=\"\w+\")?>(.*?)</script>", page + above, re.S)
     sums = [base64.b64encode(hashlib.sha256(it.encode()).digest()).decode() for it in scripts]
     # No text may end the block of the data: '<' is escaped.
     values = {"DATA": json.dumps(data).replace("<", "\\u003c"),

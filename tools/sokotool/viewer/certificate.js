@@ -5,9 +5,14 @@ const LEGEND = "Shaded: where the player may be. Faint: the other boxes, where t
     + "that covers its result.";
 
 class PatternsView {
-    constructor(view) {
-        Object.assign(this, view, { work: new Parts(), startWork: new Parts(), patterns: [] });
-        this.work.run(patternsIn(this.board, this.record.body), patterns => this.begin(patterns));
+    constructor(page) {
+        const { record, verdict, board, at, side, viewer } = page;
+        Object.assign(this, { page, record, verdict, board, to: at, side, viewer, patterns: [],
+            work: new Parts(), startWork: new Parts() });
+        this.work.run(patternsIn(board, record.body), patterns => this.begin(patterns));
+    }
+    get at() {
+        return this.now;
     }
     begin(patterns) {
         this.patterns = patterns;
@@ -17,7 +22,7 @@ class PatternsView {
         this.refused = this.patterns.findIndex(({ line }) => line === refused);
         this.push = this.refused >= 0 && why === "push" ? { at, dir } : null;
         this.build();
-        this.go(Number(this.at) || this.refused + 1 || 1);
+        this.go(Number(this.to) || this.refused + 1 || 1);
     }
     get keys() {
         if (!this.patterns.length) return {};
@@ -41,7 +46,7 @@ class PatternsView {
             button("next", "next pattern", () => this.step(1)),
             toStart), this.note, this.moves, html("p", { class: "key" }, LEGEND));
         const { board: { players, boxes } } = this;
-        this.startWork.run(this.certificate.covering(players[0] ?? -1, boxes), start => start < 0
+        this.startWork.run(this.certificate.covering(players[0] ?? -1, new Set(boxes)), start => start < 0
             || toStart.append(button("start position", undefined, () => this.show(start + 1))));
     }
     // draws a pattern, counted from 1, and the pushes out of it once they are found
@@ -57,7 +62,7 @@ class PatternsView {
         }
         const isDone = this.work.run(this.certificate.pushesOut(pattern), (pushes, isLate) => {
             this.draw(pattern, pushes);
-            if (isLate) say(this.note.textContent);
+            if (isLate) this.viewer.say(this.note.textContent);
         });
         if (!isDone) this.draw(pattern, null);
     }
@@ -65,9 +70,9 @@ class PatternsView {
     draw(pattern, pushes) {
         const { boxes, line } = pattern, region = pattern.region();
         const cells = many(region.size, "cell");
-        this.pane.replaceChildren(draw(this.board, { boxes, shade: region,
+        this.page.show({ boxes: [...boxes].filter(box => box >= 0), shade: region,
             others: othersOf(this.board, boxes), where: `player in ${cells}`,
-            arrows: (pushes ?? []).map(out => this.arrow(out)) }));
+            arrows: (pushes ?? []).map(out => this.arrow(out)) });
         this.moves.replaceChildren(...(pushes ?? []).map(out =>
             html("li", { class: this.kind(out) }, out.covered < 0 ? this.words(out)
                 : html("button", { onclick: () => this.follow(out) }, this.words(out)))));
@@ -99,7 +104,7 @@ class PatternsView {
     }
     show(to) {
         this.go(to);
-        settle(this.now, `Pattern ${this.now} of ${this.patterns.length}. ${this.note.textContent}`);
+        this.viewer.settle(this.now, `Pattern ${this.now} of ${this.patterns.length}. ${this.note.textContent}`);
     }
     step(by) {
         this.show(this.now + by);
@@ -118,28 +123,35 @@ class PatternsView {
 // the boxes of the start that a pattern leaves out: the nearest one to each of its boxes that is
 // elsewhere counts as moved
 function othersOf(board, boxes) {
-    const others = new Set([...board.boxes].filter(box => !boxes.has(box)));
-    const column = place => place % board.width, row = place => Math.floor(place / board.width);
-    const far = (a, b) => Math.abs(column(a) - column(b)) + Math.abs(row(a) - row(b));
+    const others = new Set(board.boxes.filter(box => !boxes.has(box)));
+    const far = (a, b) => Math.abs(board.column(a) - board.column(b))
+        + Math.abs(board.row(a) - board.row(b));
     for (const box of boxes) {
-        if (board.boxes.has(box) || !others.size) continue;
+        if (board.boxes.includes(box) || !others.size) continue;
         others.delete([...others]
             .reduce((best, other) => far(other, box) < far(best, box) ? other : best));
     }
-    return others;
+    return [...others];
 }
 
-function zoneView({ board, verdict: { status, words }, first: { zone, line }, pane, side }) {
-    const cells = new Set(zone.map(cell => board.place(cell)).filter(place => place >= 0));
+// the places of a zone on a board
+const zoneOf = (board, { zone }) => new Set(zone.map(cell => board.place(cell))
+    .filter(place => place >= 0));
+
+// a zone as a position, with the push that leads out of it, if there is one
+const zonePosition = (board, cells, leak) => ({ boxes: board.boxes, players: board.players,
+    shade: cells, shadeKind: "zone", arrows: leak ? [{ from: leak.from, dir: leak.dir,
+        kind: "refused", length: .9, title: "a push leads out of the zone" }] : [] });
+
+function zoneView(page, first) {
+    const { board, verdict: { status, words }, side } = page, cells = zoneOf(board, first);
     const isLeak = status === "refused" && words[2] === "leak";
-    const leak = isLeak ? leakOf(board, cells, words.slice(3)) : null;
-    const inside = places => [...places].filter(place => cells.has(place)).length;
-    pane.append(draw(board, { boxes: board.boxes, players: board.players, shade: cells,
-        shadeKind: "zone", arrows: leak ? [{ from: leak.from, dir: leak.dir, kind: "refused",
-            length: .9, title: "a push leads out of the zone" }] : [] }));
+    const leak = isLeak ? leakOf(board, words.slice(3)) : null;
+    const inside = places => places.filter(place => cells.has(place)).length;
+    page.show(zonePosition(board, cells, leak));
     side.append(html("p", { class: "counts" }, field("cells", cells.size),
         field("boxes", inside(board.boxes)), field("goals", inside(board.goals))),
-    html("p", { class: "note" }, `Line ${line}. `
+    html("p", { class: "note" }, `Line ${first.line}. `
         + (leak ? `A push from ${board.name(leak.from)} ${NAMES[leak.dir]} leads out of the zone.`
             : status === "refused" ? `The zone is refused: ${words.slice(2).join(" ")}.`
                 : "No push leads out of the zone, and it has more boxes than goals.")));

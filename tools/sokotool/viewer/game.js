@@ -1,153 +1,214 @@
-// The game: boards, steps, regions and pushes out of them. A place is a number, row by row.
+// The game: boards, letters that are played on them, regions, and pushes out of them. The thread
+// that audits plays on the same boards.
 
+// what a cell has, as bits of its byte
+const WALL = 1, GOAL = 2, BOX = 4;
+const BYTES = { "#": WALL, ".": GOAL, "+": GOAL, "$": BOX, "*": GOAL | BOX };
+// the letters of a solution: small for a walk, and capital for a push
+const LETTERS = "lurdLURD";
 const STEPS = { l: [-1, 0], u: [0, -1], r: [1, 0], d: [0, 1] };
 const BACK = { l: "r", u: "d", r: "l", d: "u" };
 const NAMES = { l: "left", u: "up", r: "right", d: "down" };
-// how many letters are read at once, after how many a state is kept, and after how many the work pauses
-const MOST_AT_ONCE = 1 << 16, KEPT_EVERY = 1 << 16, PAUSE_EVERY = 1 << 9;
+// how many letters are read at once, after how many a state is kept, and after how many the work
+// pauses
+const MOST_AT_ONCE = 1 << 16, KEPT_EVERY = 1 << 16, PAUSE_EVERY = 1 << 12;
 
+const many = (number, one, more = `${one}s`) => `${number} ${number === 1 ? one : more}`;
+
+// A board as bytes, row by row, with a wall around it. A place is the number of a byte, so that its
+// column and its row count from 1. The boxes and the player move as letters are played.
 class Board {
+    at = 0;
+    pushes = 0;
+    changes = 0;
+    last = -1;
+    // why the next letter can't be played, or ""
+    why = "";
     constructor(rows) {
+        this.rows = rows;
         this.height = rows.length;
         this.width = rows.reduce((most, row) => Math.max(most, row.length), 0);
-        Object.assign(this, { walls: new Set(), goals: new Set(), boxes: new Set(), players: [] });
-        // the walls once more, to look them up
-        this.solid = new Uint8Array(this.width * this.height);
+        this.stride = this.width + 2;
+        this.cells = new Uint8Array(this.stride * (this.height + 2)).fill(WALL);
+        this.players = [];
         rows.forEach((row, y) => {
+            const first = (y + 1) * this.stride + 1;
+            this.cells.fill(0, first, first + this.width);
             for (let x = 0; x < row.length; x++) {
-                const place = y * this.width + x, character = row[x];
-                if (character === "#") this.walls.add(place), this.solid[place] = 1;
-                if (character === "." || character === "*" || character === "+") this.goals.add(place);
-                if (character === "$" || character === "*") this.boxes.add(place);
-                if (character === "@" || character === "+") this.players.push(place);
+                this.cells[first + x] = BYTES[row[x]] ?? 0;
+                if (row[x] === "@" || row[x] === "+") this.players.push(first + x);
             }
         });
-        this.room = this.region(this.players.slice(0, 1), new Set());
+        this.player = this.players[0] ?? -1;
+        this.boxes = this.placesOf(BOX);
+        this.goals = this.placesOf(GOAL);
+        this.off = this.boxes.filter(place => !(this.cells[place] & GOAL)).length;
+        // how far a letter leads, by its byte
+        this.far = new Int32Array(256);
+        for (const letter of LETTERS) {
+            const [dx, dy] = STEPS[letter.toLowerCase()];
+            this.far[letter.charCodeAt(0)] = dx + dy * this.stride;
+        }
+    }
+    // the places with something, where it is now
+    placesOf(bit) {
+        const { width, height, stride, cells } = this, found = [];
+        for (let y = 1; y <= height; y++) {
+            for (let place = y * stride + 1; place <= y * stride + width; place++) {
+                if (cells[place] & bit) found.push(place);
+            }
+        }
+        return found;
+    }
+    // the cells that the player could reach without boxes
+    get room() {
+        return this.foundRoom ??= this.region(this.players.slice(0, 1), []);
     }
     // the place of a cell, whose column and row count from 1, or -1 off the board
     place([column, row]) {
         const isOn = column >= 1 && row >= 1 && column <= this.width && row <= this.height;
-        return isOn ? (row - 1) * this.width + column - 1 : -1;
+        return isOn ? row * this.stride + column : -1;
+    }
+    column(place) {
+        return place % this.stride;
+    }
+    row(place) {
+        return Math.floor(place / this.stride);
     }
     name(place) {
-        return `${place % this.width + 1},${Math.floor(place / this.width) + 1}`;
+        return `${this.column(place)},${this.row(place)}`;
     }
-    // the place next to a place, or -1 off the board
     next(place, dir) {
-        if (place < 0) return -1;
-        const x = place % this.width + STEPS[dir][0];
-        const y = Math.floor(place / this.width) + STEPS[dir][1];
-        return x < 0 || y < 0 || x >= this.width || y >= this.height ? -1 : y * this.width + x;
+        return place < 0 ? -1 : place + this.far[dir.charCodeAt(0)];
     }
     isWall(place) {
-        return place < 0 || this.solid[place] === 1;
+        return place < 0 || (this.cells[place] & WALL) !== 0;
     }
-    // the places that are connected to a seed without walls and boxes
+    isGoal(place) {
+        return (this.cells[place] & GOAL) !== 0;
+    }
+    // the places that are connected to seeds without walls and boxes
     region(seeds, boxes) {
-        const { width, height } = this, most = width * height, seen = this.solid.slice(), work = [];
-        for (const box of boxes) seen[box] = 1;
+        const seen = this.cells.map(cell => cell & WALL), found = [], { stride } = this;
         const visit = place => {
-            if (place < 0 || place >= most || seen[place]) return;
+            if (place < 0 || seen[place]) return;
             seen[place] = 1;
-            work.push(place);
+            found.push(place);
         };
+        for (const box of boxes) if (box >= 0) seen[box] = 1;
         seeds.forEach(visit);
         // the places that are found stay in the list, in the order in which they are looked at
-        for (let at = 0; at < work.length; at++) {
-            const place = work[at], x = place % width;
-            if (x) visit(place - 1);
-            if (x < width - 1) visit(place + 1);
-            visit(place - width);
-            visit(place + width);
+        for (let at = 0; at < found.length; at++) {
+            for (const by of [-1, 1, -stride, stride]) visit(found[at] + by);
         }
-        return new Set(work);
+        return new Set(found);
+    }
+
+    // ---- letters
+
+    // Plays letters, given as bytes, from the next one up to a number of them, until one can't be
+    // played. If it is strict, a letter must have the case of its step. The lists, if there are
+    // any, get the pushes (the number of the letter, and the places from and to), and after how
+    // many letters all boxes are on goals.
+    play(letters, to, isStrict = false, pushes = null, ends = null) {
+        const { cells, far } = this;
+        let { at, player, off } = this;
+        this.why = "";
+        for (; at < to && player >= 0; at++) {
+            const letter = letters[at], by = far[letter], next = player + by, cell = cells[next];
+            const isPush = (cell & BOX) !== 0;
+            if (!by) this.why = "letter";
+            else if (cell & WALL) this.why = "wall";
+            else if (isPush && cells[next + by] & (WALL | BOX)) this.why = "blocked";
+            else if (isStrict && isPush === letter >= 97) this.why = "case";
+            if (this.why) break;
+            if (isPush) {
+                const beyond = next + by;
+                cells[next] ^= BOX;
+                cells[beyond] ^= BOX;
+                off += (cell & GOAL) / GOAL - (cells[beyond] & GOAL) / GOAL;
+                this.pushes++;
+                if (next !== this.last) this.changes++;
+                this.last = beyond;
+                pushes?.push(at, next, beyond);
+            }
+            player = next;
+            if (!off) ends?.push(at + 1);
+        }
+        Object.assign(this, { at, player, off });
+    }
+    // where the player is and what was counted, and the cells if the boxes are to be kept too
+    state(cells) {
+        const { at, player, off, pushes, changes, last } = this;
+        return { at, player, off, pushes, changes, last, why: "", ...cells && { cells } };
+    }
+    // takes back the pushes that were played since a state
+    undo(pushes, state) {
+        for (let i = pushes.length - 3; i >= 0; i -= 3) {
+            this.cells[pushes[i + 2]] ^= BOX;
+            this.cells[pushes[i + 1]] ^= BOX;
+        }
+        Object.assign(this, state);
     }
 }
 
-// The letters of a solution as bytes, since a string of millions would be made in one long step.
-class Letters {
-    constructor(most) {
-        this.bytes = new Uint8Array(most);
-        this.length = 0;
-    }
-    add(text) {
-        for (let i = 0; i < text.length; i++) {
-            const byte = text.charCodeAt(i);
-            if (byte > 32 || !/[ \t\r\n]/.test(text[i])) this.bytes[this.length++] = byte;
-        }
-    }
-    // the letter after some others, or undefined after the last
-    at(i) {
-        return i >= 0 && i < this.length ? String.fromCharCode(this.bytes[i]) : undefined;
-    }
-    slice(from, to) {
-        return Array.from(this.bytes.subarray(from, Math.min(to, this.length)), byte => String.fromCharCode(byte));
-    }
-}
-
-// The letters in a record's body without blanks. Pauses often, since they may be millions.
-function* lettersIn(body) {
-    const letters = new Letters(body.reduce((sum, [, line]) => sum + line.length, 0));
+// The letters of a record's body without blanks, as bytes, since a string of millions would be made
+// in one long step. Pauses often.
+function* lettersOf(body) {
+    const bytes = new Uint8Array(body.reduce((sum, [, line]) => sum + line.length, 0));
+    let length = 0;
     for (const [, line] of body) {
         for (let at = 0; at < line.length; at += MOST_AT_ONCE) {
-            letters.add(line.slice(at, at + MOST_AT_ONCE));
+            const end = Math.min(line.length, at + MOST_AT_ONCE);
+            for (let i = at; i < end; i++) {
+                const byte = line.charCodeAt(i);
+                if (byte > 32 || !/[ \t\r\n]/.test(line[i])) bytes[length++] = byte;
+            }
             yield;
         }
     }
-    return letters;
+    return bytes.subarray(0, length);
 }
 
-// A solution while it plays: the state after some letters. Stops before the first letter that is refused. Going back starts from the last
-// state that was kept, and plays on from there.
-class Play {
-    constructor(board, letters) {
-        Object.assign(this, { board, letters, boxes: new Set(board.boxes), player: board.players[0] ?? -1 });
-        this.at = this.pushes = this.changes = 0;
-        this.lastBox = -1;
-        this.kept = [this.state()];
+// A solution while it plays. It stops before the first letter that is refused. Going back starts
+// from the last state that was kept, and plays on from there.
+class Replay {
+    kept = [];
+    constructor(rows, letters) {
+        Object.assign(this, { board: new Board(rows), letters });
+        this.keep();
     }
-    get moves() {
-        return this.at;
+    keep() {
+        this.kept.push(this.board.state(this.board.cells.slice()));
     }
-    state() {
-        return { at: this.at, boxes: [...this.boxes], player: this.player, pushes: this.pushes, changes: this.changes, lastBox: this.lastBox };
+    get at() {
+        return this.board.at;
     }
-    // why the next letter is refused, or ""
-    fault() {
-        const letter = this.letters.at(this.at), dir = letter?.toLowerCase();
-        if (!(dir in STEPS)) return "letter";
-        const { board, boxes } = this, next = board.next(this.player, dir);
-        if (board.isWall(next)) return "wall";
-        const pushes = boxes.has(next), beyond = pushes ? board.next(next, dir) : next;
-        if (pushes && (board.isWall(beyond) || boxes.has(beyond))) return "blocked";
-        return pushes === (letter === dir) ? "case" : "";
+    // the letter after some others, or undefined after the last
+    letter(i) {
+        return i >= 0 && i < this.letters.length ? String.fromCharCode(this.letters[i]) : undefined;
     }
+    // plays one letter, and returns whether it could be played
     next() {
-        if (this.at >= this.letters.length || this.fault()) return false;
-        const dir = this.letters.at(this.at).toLowerCase(), from = this.board.next(this.player, dir);
-        if (this.boxes.has(from)) {
-            const to = this.board.next(from, dir);
-            this.boxes.delete(from);
-            this.boxes.add(to);
-            this.pushes++;
-            if (from !== this.lastBox) this.changes++;
-            this.lastBox = to;
-        }
-        this.player = from;
-        this.at++;
-        if (this.at === this.kept.length * KEPT_EVERY) this.kept.push(this.state());
-        return true;
+        const { at } = this;
+        this.board.play(this.letters, Math.min(at + 1, this.letters.length), true);
+        return this.at > at;
     }
     // Plays to the state after some letters. Pauses often.
     *seek(to) {
-        if (to < this.at) {
-            const state = this.kept[Math.max(0, Math.floor(to / KEPT_EVERY))];
-            Object.assign(this, state, { boxes: new Set(state.boxes) });
+        const { board, kept, letters } = this;
+        if (to < board.at) {
+            const state = kept[Math.max(0, Math.floor(to / KEPT_EVERY))];
+            Object.assign(board, state, { cells: state.cells.slice() });
         }
-        while (this.at < to && this.next()) if (this.at % PAUSE_EVERY === 0) yield;
-    }
-    isSolved() {
-        return [...this.boxes].every(box => this.board.goals.has(box));
+        to = Math.min(to, letters.length);
+        for (let isOn = true; isOn && board.at < to;) {
+            const until = Math.min(to, kept.length * KEPT_EVERY, board.at + PAUSE_EVERY);
+            board.play(letters, until, true);
+            isOn = board.at === until;
+            if (board.at === kept.length * KEPT_EVERY) this.keep();
+            yield;
+        }
     }
 }
 
@@ -252,7 +313,7 @@ function isWithin(some, all) {
 }
 
 // where a zone leaks: a cell of it from which a relaxed push leads out
-function leakOf(board, zone, words) {
+function leakOf(board, words) {
     const place = board.place(words[0].split(",").map(Number));
     return { from: place, to: board.next(place, words[1]), dir: words[1] };
 }

@@ -4,21 +4,28 @@ const MOST_LETTERS = 400, MOST_TO_COPY = 1 << 20;
 let pace = 6;
 
 class SolutionView {
-    constructor(view) {
-        Object.assign(this, view, { ticking: 0, work: new Parts(), play: null });
-        this.work.run(lettersIn(this.record.body), letters => this.begin(letters));
+    replay = null;
+    ticking = 0;
+    work = new Parts();
+    constructor(page) {
+        const { record, verdict, at, side, viewer, level } = page;
+        Object.assign(this, { page, record, verdict, to: at, side, viewer, level });
+        this.work.run(lettersOf(record.body), letters => this.begin(letters));
     }
     // shows the start, or the letter that the address names or the report refuses
     begin(letters) {
-        this.play = new Play(this.board, letters);
+        this.replay = new Replay(this.level.rows, letters);
         this.end = letters.length;
-        const { status, words } = this.verdict, isRefused = status === "refused";
-        this.refusedAt = isRefused && words[0] === "move" ? Number(words[1]) - 1 : -1;
+        this.refusedAt = refusedAt(this.verdict);
         this.build();
-        const isOpen = !this.at && words[0] === "unsolved";
-        const at = this.at === "end" || isOpen ? this.end : this.at ? Number(this.at) || 0 : Math.max(0, this.refusedAt);
+        const isOpen = !this.to && this.verdict.words[0] === "unsolved";
+        const at = this.to === "end" || isOpen ? this.end
+            : this.to ? Number(this.to) || 0 : Math.max(0, this.refusedAt);
         this.render();
-        this.work.run(this.play.seek(at), () => this.render());
+        this.work.run(this.replay.seek(at), () => this.render());
+    }
+    get at() {
+        return this.replay?.at;
     }
     build() {
         this.counts = html("p", { class: "counts" });
@@ -39,69 +46,77 @@ class SolutionView {
             html("label", {}, "speed ", this.speed)), this.note, this.letters, wholeOf(this.record.body));
     }
     get keys() {
-        if (!this.play) return {};
+        if (!this.replay) return {};
         return { ArrowRight: () => this.step(1), ArrowLeft: () => this.step(-1),
             PageDown: () => this.step(10), PageUp: () => this.step(-10),
             Home: () => this.seek(0), End: () => this.seek(this.end), " ": () => this.toggle(),
             "+": () => this.faster(3), "-": () => this.faster(-3) };
     }
     render() {
-        const { board, play, refusedAt } = this;
-        const next = play.letters.at(refusedAt)?.toLowerCase();
-        const arrows = play.at === refusedAt && play.player >= 0 && next in STEPS
-            ? [{ from: play.player, dir: next, kind: "refused", length: .9,
-                title: "the letter that is refused" }] : [];
-        this.pane.replaceChildren(
-            draw(board, { boxes: play.boxes, players: [play.player], arrows }));
-        this.counts.replaceChildren(field("moves", play.moves), field("pushes", play.pushes),
-            field("changes", play.changes), html("span", { class: "state",
-                "data-solved": String(play.isSolved()) }, this.state()));
-        this.range.value = play.at;
+        const { replay, replay: { board, at }, refusedAt: refused } = this;
+        this.page.show(positionOf(replay, refused));
+        this.counts.replaceChildren(field("moves", at), field("pushes", board.pushes),
+            field("changes", board.changes), html("span", { class: "state",
+                "data-solved": String(!board.off) }, this.state()));
+        this.range.value = at;
         this.renderLetters();
-        this.note.textContent = refusedAt < 0 ? ""
-            : `Letter ${refusedAt + 1} is refused${play.at === refusedAt ? " here" : ""}: `
+        this.note.textContent = refused < 0 ? ""
+            : `Letter ${refused + 1} is refused${at === refused ? " here" : ""}: `
             + `${this.verdict.words[2]}.`;
     }
     renderLetters() {
-        const { play, refusedAt } = this;
-        const from = Math.max(0, Math.min(play.at - MOST_LETTERS / 2, this.end - MOST_LETTERS));
-        const kind = i =>
-            i === refusedAt ? "bad" : i < play.at ? "done" : i === play.at ? "here" : "";
-        const some = play.letters.slice(from, from + MOST_LETTERS).map((letter, i) =>
-            html("span", { class: kind(from + i) }, /[!-~]/.test(letter) ? letter : "\u00b7"));
-        this.letters.replaceChildren(from ? "\u2026" : "", ...some,
-            from + MOST_LETTERS < this.end ? "\u2026" : "");
+        const { replay, replay: { at }, refusedAt: refused, end } = this;
+        const from = Math.max(0, Math.min(at - MOST_LETTERS / 2, end - MOST_LETTERS));
+        const spans = [];
+        for (let i = from; i < Math.min(from + MOST_LETTERS, end); i++) {
+            const letter = replay.letter(i);
+            spans.push(html("span", { class: i === refused ? "bad" : i < at ? "done"
+                : i === at ? "here" : "" }, /[!-~]/.test(letter) ? letter : "\u00b7"));
+        }
+        this.letters.replaceChildren(from ? "\u2026" : "", ...spans,
+            from + MOST_LETTERS < end ? "\u2026" : "");
     }
     // how far the boxes are
     state() {
-        const off = [...this.play.boxes].filter(box => !this.board.goals.has(box)).length;
+        const { off } = this.replay.board;
         return off ? `${many(off, "box", "boxes")} off the goals` : "every box on a goal";
     }
     // what the step is, in words
     words() {
-        const { at, letters } = this.play, letter = letters.at(at - 1);
+        const { replay, replay: { at } } = this, letter = replay.letter(at - 1);
         const step = at ? `${letter === letter.toLowerCase() ? "step" : "push"} `
             + NAMES[letter.toLowerCase()] : "start";
         return `Letter ${at} of ${this.end}: ${step}. ${this.state()}. ${this.note.textContent}`;
     }
     seek(to) {
         this.stop();
-        this.work.run(this.play.seek(to), () => this.shown());
+        this.work.run(this.replay.seek(to), () => this.shown());
     }
     step(by) {
-        this.seek(this.play.at + by);
+        this.seek(this.at + by);
+    }
+    // a tap right of the player leads on, and one left of it back
+    tap(x) {
+        const { board } = this.replay, { a, e } = this.page.picture.element.getScreenCTM();
+        this.step(x < e + a * middle(board, board.player)[0] ? -1 : 1);
     }
     shown() {
         this.render();
-        settle(this.play.at, this.words());
+        this.viewer.settle(this.at, this.words());
     }
     toggle() {
-        if (this.ticking) return this.stop();
+        if (this.ticking) {
+            this.stop();
+            return;
+        }
         this.run.textContent = "stop";
-        this.work.run(this.play.seek(this.play.at >= this.end ? 0 : this.play.at), () => this.tick());
+        this.work.run(this.replay.seek(this.at >= this.end ? 0 : this.at), () => this.tick());
     }
     tick() {
-        if (!this.play.next()) return this.stop();
+        if (!this.replay.next()) {
+            this.stop();
+            return;
+        }
         this.shown();
         this.ticking = setTimeout(() => this.tick(), 1000 / pace);
     }
@@ -109,11 +124,26 @@ class SolutionView {
         this.work.stop();
         clearTimeout(this.ticking);
         this.ticking = 0;
-        if (this.play) this.run.textContent = "play";
+        if (this.replay) this.run.textContent = "play";
     }
     faster(by) {
         this.speed.value = pace = Math.max(1, Math.min(60, pace + by));
     }
+}
+
+// the number of letters before the one that a verdict refuses, or -1
+const refusedAt = ({ status, words }) =>
+    status === "refused" && words[0] === "move" ? Number(words[1]) - 1 : -1;
+
+// a replay as a position: the player looks to where the last letter led, or the first will, and an
+// arrow shows the letter that is refused
+function positionOf(replay, refused) {
+    const { board, board: { at, player } } = replay, next = replay.letter(refused)?.toLowerCase();
+    const isHere = at === refused && player >= 0 && next in STEPS;
+    const dir = replay.letter(Math.max(0, at - 1))?.toLowerCase();
+    return { boxes: board.placesOf(BOX), players: [player], dir: dir in STEPS ? dir : undefined,
+        arrows: isHere ? [{ from: player, dir: next, kind: "refused", length: .9,
+            title: "the letter that is refused" }] : [] };
 }
 
 // all letters of a solution, to be looked at and copied; of millions the first ones
