@@ -37,7 +37,8 @@ def worst() -> Iterator[Timed]:
     yield last_fails(side=60, lines=300, decoys=1000)
     yield many_fail(side=120, sets=60, lines=3000)
     yield many_fail(side=120, sets=60, lines=3000, shut=True)
-    yield in_turn(side=120, big=1000, lines=3000)
+    yield in_turn(side=120, boxes=18, big=1000, lines=3000)
+    yield in_turn(side=120, boxes=60, big=1000, lines=6000, ahead=True)
     yield passage(side=255, big=100, lines=3000, boxes=150)
     yield pairs(side=255, lines=2)
     yield colliding(side=255, lines=60, boxes=1500)
@@ -89,12 +90,15 @@ class Hall:
         goals = dict.fromkeys(islice(free, len(things) - 1), ".")
         return walled(self.side, self.side, {**things, **goals, **dict.fromkeys(self.walls, "#")})
 
-    def decoys(self, boxes: List[Cell], lines: int) -> List[str]:
-        """Decoys of eight of these boxes, no line twice."""
+    def decoys(self, boxes: List[Cell], lines: int, ahead: bool = False) -> List[str]:
+        """Decoys of eight of these boxes, no line twice. With `ahead` each has a cell beside one
+        of the boxes too."""
         rng = random.Random(1)
+        beside = [it for x, y in boxes for it in ((x, y - 1), (x - 1, y), (x + 1, y), (x, y + 1))]
         found: Dict[str, bool] = {}
         while len(found) < lines:
-            found[line([*rng.sample(boxes, 8), self.plug], self.pocket)] = True
+            some = [*rng.sample(boxes, 8), *(rng.choice(beside) for _ in range(ahead)), self.plug]
+            found[line(some, self.pocket)] = True
         return [*found]
 
 
@@ -189,17 +193,17 @@ def many_fail(side: int, sets: int, lines: int, shut: bool = False) -> Timed:
     return Timed(name, AUDIT, level, listed(texts + hall.decoys(some, lines)))
 
 
-def in_turn(side: int, big: int, lines: int) -> Timed:
-    """Lines of 22 boxes, which two lines of two boxes in the last row cover in turn, among decoys
-    that come before these."""
+def in_turn(side: int, boxes: int, big: int, lines: int, ahead: bool = False) -> Timed:
+    """Lines of some boxes and four others, which two lines of two boxes in the last row cover in
+    turn, among decoys that come before these. With `ahead` the decoys have a box ahead."""
     hall, every = Hall(side), grid(range(9, side - 9, 4), range(9, side - 9, 4))
-    some, rest = every[:18], every[18:]
+    some, rest = every[:boxes], every[boxes:]
     ends = [[(2, side - 1), (3, side - 1)], [(side - 2, side - 1), (side - 1, side - 1)]]
     texts = [line([*some, *two, hall.plug, *ends[place % 2]], (5, 5))
              for place, two in enumerate(islice(combinations(rest, 2), big))]
-    return Timed("lines that one of two lines in the last row covers", AUDIT,
-                 hall.level([*some, hall.plug, *ends[0], *ends[1]]),
-                 listed([*texts, *map(line, ends), *hall.decoys(some, lines)]))
+    name = "lines that one of two lines in the last row covers" + ", with decoys ahead" * ahead
+    return Timed(name, AUDIT, hall.level([*some, hall.plug, *ends[0], *ends[1]]),
+                 listed([*texts, *map(line, ends), *hall.decoys(some, lines, ahead)]))
 
 
 def passage(side: int, big: int, lines: int, boxes: int) -> Timed:

@@ -1,5 +1,6 @@
 //! On which sides of a box a region lies.
-ghost use Rattle.std.specs.Prelude.{◌≡◌};
+ghost use Rattle.std.specs.Prelude.{◌≡◌, IsTrue};
+ghost use Rattle.cellset.specs.declared.dir.Dir.{Dir as GridDir};
 ghost use Rattle.patterns.specs.Sides.{toward};
 
 use cellset::Dir;
@@ -24,5 +25,12 @@ impl Sides {
             Dir::R => self.right,
             Dir::D => self.down,
         }
+    }
+
+    // Returns whether a neighbour is in the region.
+    pub(crate) fn has_any(self) -> bool
+        ensures { (d : GridDir) → IsTrue (toward self d) → IsTrue result }
+    {
+        self.left || self.up || self.right || self.down
     }
 }

@@ -160,8 +160,11 @@ impl Unsettled {
                         to: kept[number],
                         sides: task.tables.sides_of(group, number),
                     };
-                    take_met(&mut self.here, kept, Some(ahead));
-                    take_met(&mut self.away, kept, Some(ahead));
+                    // Without this, each look goes through all open pushes.
+                    if ahead.sides.has_any() {
+                        take_met(&mut self.here, kept, Some(ahead));
+                        take_met(&mut self.away, kept, Some(ahead));
+                    }
                 }
                 false
             }
