@@ -41,6 +41,7 @@ PACKAGES = {
         **PREFIX,
         "the static program":
             "bin/sokoaudit-static audit $first.xsb $first.answers | cmp - $first.report",
+        "the conformance set": "share/sokoaudit/conformance/run --kinds text,zones bin/sokoaudit",
         "the sums": "sha256sum --quiet -c SHA256SUMS",
     }),
     "deb": (UNPACK, "unpacked/usr", ("lib/x86_64-linux-gnu", "lib/python3/dist-packages"), {
