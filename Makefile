@@ -1,6 +1,6 @@
 # Targets for people; the script 'sokoaudit' needs only prove-sokoaudit.
 #   make                 proves and builds the program; make prove-CRATE proves one crate after the crates that it uses
-#   make check           runs the gate
+#   make check           runs the gate, or without the toolchain all tests that need none (without make: python3 -m tests)
 #   make fuzz            compares the program, the reference and the page's module on new random cases and on texts that are changed a little,
 #                        for ten minutes, or MINUTES=60; SEED=5 repeats those of a seed, which is printed
 #   make install         installs the program, sokotool, man pages, completions, documents and samples below DESTDIR/PREFIX
@@ -24,7 +24,7 @@ built = crates/sokoaudit/out
 all:
 	@packaging/build
 check:
-	@bash .ci/run
+	@python3 -m tests
 fuzz: all
 	@tests/run reference.fuzz --minutes $(or $(MINUTES),10) $(if $(SEED),--seed $(SEED)) --page sokoaudit.html $(built)/sokoaudit
 pyz:

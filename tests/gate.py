@@ -1,14 +1,18 @@
 """tests/run gate [FUNCTION..]: tests how the gate counts and how it runs parts at once, by planted
 parts; that it runs each part and each share of one; and what tests/bare hands on. Only the named
 functions of this file run. Ends in 'N passed, M failed'."""
+import contextlib
 import glob
+import io
 import os
 import re
 import signal
+import unittest.mock
 from collections import Counter, defaultdict
 from shlex import quote
 from typing import Dict, List
 
+from tests import __main__ as every
 from tests import mutants
 from tests.runner import (TOP, Cases, arguments, call, chosen, decode, enter_folder, read, run,
                           shell, write)
@@ -38,6 +42,21 @@ PLANTED = (
     ("echo Traceback; exit 1", 0, "0 passed, 1 failed"),
     ("kill -KILL $PPID; exit 0", 0, "0 passed, 1 failed"),
 )
+# the same of 'python3 -m tests': a part, the commands that it needs, and what its line says
+ALONE = (
+    ("echo 5 passed, 0 failed", "", "5 0 0 0"),
+    ("echo p: skipped: what: why; echo 2 passed, 0 failed, 3 skipped", "", "2 0 3 0 why"),
+    ("echo 1; echo p: FAILED: it; echo 5 passed, 2 failed; exit 1", "", "5 2 0 0/p: FAILED: it/"
+     "5 passed, 2 failed"),
+    ("echo 4 passed, 0 failed; exit 1", "", "4 1 0 0/4 passed, 0 failed"),
+    ("echo 3 passed, 1 failed", "", "3 2 0 0/3 passed, 1 failed"),
+    ("echo 2 passed, 0 failed; echo more", "", "0 1 0 0/2 passed, 0 failed/more"),
+    ("exit 0", "", "0 1 0 0"),
+    ("touch begun", "bash none-such", "0 0 1 0 there is no command none-such"),
+)
+# the parts that need the toolchain, the program, or what a browser shows
+OF_THE_GATE = {"calls", "edits", "lacking", "library", "mutants", "native", "packages", "page",
+               "reference", "refusals", "speed"}
 RUN = f'cd {quote(TOP)} && . tests/counts && part "$@" && finish'
 BUSY = "i=0; while [ $i != 200000 ]; do i=$((i + 1)); done; "
 # parts in two lanes in bash, each in a line, and the numbers that the gate prints: of a part that
@@ -146,14 +165,22 @@ def whole(cases: Cases) -> None:
     os.chmod("tests/bare", 0o755)
     write("tests/counts", STUB)
     os.mkdir("packaging")
-    for name in ("sources", "needs", "build"):
-        os.symlink("/bin/true", f"packaging/{name}")
+    os.mkdir("bin")
+    for name in ("packaging/sources", "packaging/needs", "packaging/build", "bin/rt"):
+        os.symlink("/bin/true", name)
+    plain = os.environ["PATH"]
+    write("tests/__main__.py", "print('python3 -m tests')\n")
+    shell("mkdir plain && ln -sf /usr/bin/* /bin/* plain; rm -f plain/rt")
+    cases.same("without the toolchain the gate is 'python3 -m tests'",
+               "python3 -m tests\nstatus 0\n", shell("PATH=plain bash .ci/run"))
+    os.environ["PATH"] = f"{os.getcwd()}/bin:{plain}"
     usage = "usage: .ci/run; tests/run runs a part\nstatus 2\n"
     cases.same("an option begins no gate", usage, shell("bash .ci/run --help"))
     write("tests/failing.sh", "exit 1")
     cases.same("what counts no failure begins no gate", "status 1\n", shell("bash .ci/run"))
     write("tests/failing.sh", "")
     said = shell("bash .ci/run").splitlines()
+    os.environ["PATH"] = plain
     begun = [it.split()[1:] for it in said if it.startswith("tests/run ")]
     heads = (re.match(r'"""tests/run (\w+)', read(it))
              for it in glob.glob(f"{TOP}/tests/*.py") + glob.glob(f"{TOP}/tests/*/__main__.py"))
@@ -180,6 +207,32 @@ def whole(cases: Cases) -> None:
     cases.same("each fault has a name of its own", "[]", str(twice))
 
 
+def without_toolchain(cases: Cases) -> None:
+    """A case for each planted part of 'python3 -m tests', for its sum, for the words of a part, and
+    for which parts these are."""
+    parts = {part: needs for part, needs, _ in ALONE}
+    printed = io.StringIO()
+    with unittest.mock.patch.object(every, "PARTS", parts), \
+            unittest.mock.patch.object(every, "command_of", lambda it: ["bash", "-c", it]), \
+            contextlib.redirect_stdout(printed), contextlib.suppress(SystemExit):
+        every.run_parts()
+    said = [" ".join(it.split()) for it in printed.getvalue().splitlines()]
+    for part, _, wanted in ALONE:
+        first, *more = wanted.split("/")
+        line = f"{part.split()[0]} {first}"
+        cases.holds(f"python3 -m tests: {part}", line in said and
+                    said[said.index(line) + 1:][:len(more)] == more, *said)
+    cases.same("the sum", "19 passed, 7 failed, 4 skipped", said[-1])
+    cases.holds("a part that lacks a command isn't begun", not os.path.exists("begun"))
+    words = every.command_of("tables reference/sokoaudit made")
+    cases.same("the command of a part", str(["tests.tables", f"{TOP}/reference/sokoaudit", "made"]),
+               str(words[-3:]))
+    gate = {*re.findall(r"(?m)^[^#\n]*\d .*tests/run (\w+)", read(f"{TOP}/.ci/run"))} - OF_THE_GATE
+    named = {it.split()[0] for it in every.PARTS}
+    cases.same("it has each part that needs no program", str(sorted({*gate, "reference.parts"})),
+               str(sorted(named)))
+
+
 def variables(cases: Cases) -> None:
     """A case: of these variables those that a user's machine has are handed on."""
     more = {"PYTHONUNBUFFERED": "1", "LC_ALL": "C", "SOKOAUDIT": "x"}
@@ -196,7 +249,8 @@ def wrong_words(cases: Cases) -> None:
 
 
 if __name__ == "__main__":
-    parts = {it.__name__: it for it in (counting, at_once, whole, variables, wrong_words)}
+    every_part = counting, at_once, whole, without_toolchain, variables, wrong_words
+    parts = {it.__name__: it for it in every_part}
     named = chosen(arguments("gate [FUNCTION..]"), [*parts])
     cases, _folder = Cases("gate"), enter_folder()
     for name in named:

@@ -23,7 +23,6 @@ from tests import runner
 TOP = runner.TOP
 LACKING = os.environ.get("LACKING", "")
 not_on_windows = unittest.skipIf(LACKING == "windows", "Windows has no such thing")
-is_slow = unittest.skipIf(LACKING, "it takes long or measures time, and asks nothing of the system")
 needs_copies = unittest.skipIf(LACKING == "windows", "a search is a new Python there, without what "
                                "this test replaces")
 needs_a_memory_limit = unittest.skipIf(LACKING, "there is no limit of memory")
@@ -32,6 +31,23 @@ SAMPLES = os.path.join(TOP, "samples")
 ONE = "#####\n#@$.#\n#####\n"
 PARSER_OF = functools.lru_cache(None)(main.parser_for)
 PIECE = 0.016  # the processor seconds of a piece of work on an idle machine
+
+
+def over_reference() -> bool:
+    """Returns whether the reference stands for the program in this run."""
+    return os.path.realpath(PROGRAM) == os.path.join(TOP, "reference", "sokoaudit")
+
+
+def needs_program(test: Any) -> Any:
+    """Skips a test of what the program alone prints or leaves unsaid, where the reference stands
+    for it: that has its own help, and a note in each file that a check writes."""
+    return unittest.skipIf(over_reference(), "the reference has other words")(test)
+
+
+def is_slow(test: Any) -> Any:
+    """Skips a test that takes long or measures time, and asks nothing of the system, where another
+    system or the reference stands for what ships."""
+    return unittest.skipIf(LACKING or over_reference(), "it takes long or measures time")(test)
 
 
 def plain_variables() -> Dict[str, str]:

@@ -5,7 +5,7 @@ from typing import Union
 
 from sokotool import auditor, own_files, system
 from tests.tools import helping
-from tests.tools.helping import TOP, Case, Result, reference_here
+from tests.tools.helping import TOP, Case, Result, needs_program, reference_here
 
 LEVELS = "Corner\n#####\n#$ .#\n# @ #\n#####\n"
 REFERENCE = os.path.join(TOP, "reference", "sokoaudit")
@@ -92,6 +92,7 @@ class Auditor(Case):
         self.assertEqual(self.tool("named", "mine.xsb", "mine.report").status, 0)
         self.assertEqual(self.tool("page", "mine.xsb", "mine.answers", "mine.report").status, 0)
 
+    @needs_program
     def test_the_note_goes_when_the_program_checks(self) -> None:
         """Also if a record was typed below it."""
         self.use_reference_here()

@@ -9,7 +9,7 @@ from typing import Any, Callable, Dict, Optional
 
 from sokotool import auditor, forms, levels, own_files
 from tests.tools.ending import Meanwhile
-from tests.tools.helping import TOP
+from tests.tools.helping import TOP, needs_program
 from tests.tools.test_check import CORNER, LONG, LOST, Check
 
 
@@ -134,6 +134,7 @@ class Beside(Check):
         self.assertTrue(result.err.startswith("check: mine.answers is there, but not its levels"))
         self.assertEqual({name: self.read(name) for name in os.listdir()}, files)
 
+    @needs_program
     def test_slip_during_the_search_has_no_find_lost(self) -> None:
         """What the search found is kept, although the answers can't be read any more."""
         self.write("a.txt", CORNER + "\n" + LONG.replace("Solution", "No solution"))

@@ -2,7 +2,7 @@
 import os
 import shutil
 
-from tests.tools.helping import Result
+from tests.tools.helping import Result, needs_program
 from tests.tools.test_check import Check
 
 # Two steps to the right push the box to the far goal, and a walk around it to the near one.
@@ -14,6 +14,7 @@ EXPORT = (f"{ROWS}Title: Two ways\n\nSolution/Moves\n{MOVES}\n\nSolution/Pushes\
 BOTH = b"sokoban-answers 1\nlevel 1\nsolution\nurrrdL\nend\n"
 
 
+@needs_program
 class Both(Check):
     def setUp(self) -> None:
         super().setUp()

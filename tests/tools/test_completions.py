@@ -4,11 +4,12 @@ import os
 import re
 import shutil
 import subprocess
+import unittest
 from typing import Dict, List, NamedTuple, Set
 
 from sokotool import main
 from tests.tools import helping
-from tests.tools.helping import TOP, Case
+from tests.tools.helping import TOP, Case, needs_program
 
 FILES = ["a b.xsb", "c.txt"]
 # what bash offers after the words of a line, the last of which is cut
@@ -153,16 +154,20 @@ class Completions(Case):
                     self.assertEqual(offers(program, name, *["c.txt"] * at, ""), place.offered(),
                                      (program, name, at))
 
+    @needs_program
     def test_bash(self) -> None:
         self.compare("bash")
 
+    @unittest.skipUnless(shutil.which("bash"), "there is no bash")
     def test_typed_words(self) -> None:
         self.write("-old.xsb", "")
         for line, offered in TYPED.items():
             self.assertEqual(self.bash(*line.split()), offered, line)
 
+    @needs_program
     def test_zsh(self) -> None:
         self.compare("zsh")
 
+    @needs_program
     def test_fish(self) -> None:
         self.compare("fish")

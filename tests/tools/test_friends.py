@@ -7,7 +7,7 @@ import zipfile
 from typing import Dict
 
 from sokotool import answers, auditor, levels
-from tests.tools.helping import SAMPLES
+from tests.tools.helping import SAMPLES, needs_program
 from tests.tools.test_check import CORNER, LONG, LOST, Check
 
 PROOF = "level 1\nunsolvable\n; the corner\npattern 2,2 @ *\nend\n"
@@ -101,6 +101,7 @@ class Answers(Check):
         self.assertEqual([it.letters for it in answers.read(self.read("mine.answers")).records],
                          [b"rRRR"])
 
+    @needs_program
     def test_comments_between_records(self) -> None:
         """They go to the next record, and those at the end to the last one."""
         self.write("a.xsb", CORNER + "\n" + LOST)
@@ -170,6 +171,7 @@ class Folders(Check):
         self.tool("convert", "every", *sorted(it for it in os.listdir() if it[:5] == "mine."))
         self.assertEqual(len(levels.read(self.read("every.xsb"))), 1)
 
+    @needs_program
     def test_written_files_in_an_archive(self) -> None:
         shutil.rmtree("inbox")
         self.write("two.txt", LOST)

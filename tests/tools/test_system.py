@@ -16,7 +16,8 @@ from typing import Callable, Dict
 from sokotool import levels, main, output, progress, searches, sources, system
 from sokotool.search.budget import Budget, Limits
 from tests.tools import helping
-from tests.tools.helping import LACKING, ONE, SAMPLES, TOP, Case, not_on_windows, plain_variables
+from tests.tools.helping import (LACKING, ONE, SAMPLES, TOP, Case, needs_program,
+                                 not_on_windows, plain_variables)
 
 OTHER = "######\n#@ $.#\n######\n"
 SAMPLE = os.path.join(SAMPLES, "first")
@@ -82,6 +83,7 @@ class System(Case):
                               for it, wanted in zip(found, written[0])], [[], []])
         self.assertEqual(len(levels.read(written[0][0]["my.xsb"])), 2)
 
+    @needs_program
     def test_case_of_names(self) -> None:
         """Upper case in the end of a name, as old systems write it, makes no difference."""
         os.mkdir("in")
