@@ -14,7 +14,9 @@ page count:
   'zone', an answers file if it begins with 'sokoban-answers', and if it begins with 'level 1' the
   line that an audit of the last level and answers prints
 
-The counts of definitions in a page are counted again (tests/definitions.py).
+The counts of definitions in a page are counted again (tests/definitions.py). What a reader types
+in ```console and ```sh can be typed in bash and zsh alike: a comment, [! and a variable `status`
+can't.
 """
 import glob
 import os
@@ -91,6 +93,14 @@ def run_page(cases: Cases, page: str, variables: Mapping[str, str]) -> None:
                 cases.same(name, wanted, next(printed, "it was not run"))
 
 
+def check_shells(cases: Cases, page: str) -> None:
+    """A case: on a terminal bash and zsh take each line that is typed."""
+    blocks = re.findall(r"(?ms)^```(?:console|sh)\n(.*?)^```", read(page))
+    typed = [line for it in blocks for line in it.splitlines()]
+    wrong = [it for it in typed if re.search(r"(^|\s)#\s|\[!|\bstatus=", it)]
+    cases.holds(f"{page} can be typed in bash and zsh", not wrong, *wrong)
+
+
 def check_counts(cases: Cases, page: str) -> None:
     """Cases: a page that says how many lines one reads to believe a kind of line says it right."""
     specs = Specs()
@@ -110,5 +120,6 @@ is_script = os.path.samefile(program, f"{TOP}/sokoaudit")
 variables = without_toolchain(cases) if is_script else {**os.environ, "SOKOAUDIT": program}
 for page in pages:
     run_page(cases, page, variables)
+    check_shells(cases, page)
     check_counts(cases, page)
 cases.finish()

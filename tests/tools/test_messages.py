@@ -22,11 +22,11 @@ class Messages(Case):
     """The table of sentences."""
 
     def test_the_page_has_each_message(self) -> None:
-        page = read(os.path.join(TOP, "docs/messages.md"))
-        rows = re.findall(r"(?m)^\| `([^`]+)` \| (.*?) \| (.*?) \|$", page)
-        shown = {key_of(words): (meaning, cure) for words, meaning, cure in rows}
-        for pointer in ("refused ..", "board WHY"):  # a heading, and what points at other rows
-            del shown[pointer]
+        page = read(os.path.join(TOP, "docs/messages.md")).replace("\n  ", " ")
+        rows = re.findall(r"(?m)^- \*\*`([^`]+)`\*\* (.*?)(?: \*(.*)\*)?$", page)
+        shown = {key_of(words): (meaning.replace("\\*", "*"), cure.replace("\\*", "*"))
+                 for words, meaning, cure in rows}
+        del shown["board WHY"]  # it points at other rows
         self.assertEqual({**VERDICTS, **REFUSALS, **ERRORS}, shown)
 
     def test_each_refusal_of_the_samples_has_a_sentence(self) -> None:
