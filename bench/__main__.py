@@ -61,9 +61,8 @@ def measured(command: str) -> str:
 
 def print_table(only: str) -> None:
     """Prints bench/times.table."""
-    commit = run(["git", "-C", TOP, "describe", "--always", "--dirty"]).partition("\n")[0]
     limits = timing.read_limits()
-    print(f"# At commit {commit}: processor time, and the most memory that the program held\n"
+    print("# processor time, and the most memory that the program held\n"
           "# case | target or limit | measured", flush=True)
     for name, command in slowest(only):
         used, unit = timing.seconds(command, 3)

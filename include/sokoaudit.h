@@ -44,7 +44,7 @@ extern "C" {
 #endif
 
 /* The version of the program and of this header, and the same as a number: 10000, 100 and 1 times its three parts. */
-#define SOKOAUDIT_VERSION "0.2.0"
+#define SOKOAUDIT_VERSION "0.3.0-dev"
 #define SOKOAUDIT_VERSION_NUMBER 200
 
 /* The limits. */

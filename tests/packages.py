@@ -10,7 +10,8 @@ from tests.runner import TOP, Cases, arguments, enter_folder, run
 
 # commands of bash that have to succeed, by their names
 SOURCES = {
-    "the version of CHANGELOG.md": "grep -E \"^## $version, 20..-..-..$\" \"$top/CHANGELOG.md\"",
+    "the version of CHANGELOG.md":
+        "grep -E \"^## $version(, 20..-..-..)?$\" \"$top/CHANGELOG.md\"",
     "installation": "\"$top/packaging/install\" $built/sokoaudit root/usr",
 }
 # at a prefix
@@ -47,8 +48,11 @@ PACKAGES = {
     "deb": (UNPACK, "unpacked/usr", ("lib/x86_64-linux-gnu", "lib/python3/dist-packages"), {
         **PREFIX,
         "the program that was built": "cmp bin/sokoaudit $built/sokoaudit",
-        "the dependencies": """dpkg-deb -f $room/deb/sokoaudit_${version}_amd64.deb Depends |
-            cmp - <(echo 'libc6 (>= 2.34), python3')""",
+        "the dependencies": """dpkg-deb -f $room/deb/sokoaudit_*_amd64.deb Depends |
+            cmp - <(echo 'libc6 (>= 2.34), python3 (>= 3.8)')""",
+        "a version that a release follows": """test ${version%-dev} = $version ||
+            dpkg --compare-versions $(dpkg-deb -f $room/deb/sokoaudit_*_amd64.deb Version) lt \\
+                ${version%-dev}""",
     }),
 }
 LIBRARY = """export PKG_CONFIG_PATH=$PWD/{0}/pkgconfig PKG_CONFIG_ALLOW_SYSTEM_CFLAGS=1

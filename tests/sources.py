@@ -107,6 +107,18 @@ def check_types(cases: Cases, names: Sequence[str]) -> None:
             cases.succeeds(f"mypy on {script}", *MYPY, cache, script)
 
 
+def releases(cases: Cases) -> None:
+    """A case for each release: the history has the commit that CHANGELOG.md names."""
+    found = re.findall(r"(?m)^## ([\d.]+), .*\n\nCommit (\w+)\.", read(f"{TOP}/CHANGELOG.md"))
+    cases.holds("CHANGELOG.md names the commit of each release", len(found) >= 2)
+    if not re.match(r"\d{3}", run(["git", "-C", TOP, "rev-list", "--count", "HEAD"])):
+        cases.skip("the commits of the releases", "this copy has no history", len(found))
+        return
+    for version, commit in found:
+        cases.succeeds(f"the commit of {version}", "git", "-C", TOP, "merge-base", "--is-ancestor",
+                       commit, "HEAD")
+
+
 def install(cases: Cases) -> None:
     """Cases: the versions are the program's, and pip installs sokotool."""
     command = read(f"{TOP}/crates/arguments/src/command.rt")
@@ -162,6 +174,7 @@ def main() -> None:
         for name in found["javascript"]:
             cases.holds(f"the syntax of {name}", name in said,
                         *(it for it in said if it.startswith(f"{name}:")))
+    releases(cases)
     install(cases)
     cases.finish()
 

@@ -37,7 +37,7 @@ HINDERED = {
     '"$0" -- make -l 2>&1 | grep -c usage': "1\nstatus 0\n",
     '"$0" audit levels -- -a': ONE,
     '"$0" dead levels ١ 2>&1 | grep -c usage': "1\nstatus 0\n",
-    '"$0" -V --none': "sokoaudit 0.2.0\nstatus 0\n",
+    '"$0" -V --none': "sokoaudit 0.3.0-dev\nstatus 0\n",
     'cp levels grün; "$0" make grün': "sokoban-answers 1\nstatus 0\n",
     '"$0" make .': "cannot read levels\nstatus 2\n",
     '"$0" make levels >/dev/full': "cannot write\nstatus 2\n",

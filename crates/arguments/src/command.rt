@@ -116,7 +116,7 @@ fn number_of(inner: &ArgMatches<'_>, id: &str) -> Option<usize>
 }
 
 // The version. Man pages and packages take it from here.
-const VERSION: &str = "0.2.0";
+const VERSION: &str = "0.3.0-dev";
 
 const ABOUT: &str = "Audits Sokoban solutions and proofs that a level has none";
 
