@@ -17,6 +17,7 @@ PARTS = {
     "tools reference/sokoaudit": "",
     "documents sokoaudit": "bash",
     "script": "bash make git",
+    "hostile reference/sokoaudit quick": "bash",
     "gate": "bash flock git",
     "manual sokoaudit": "bash make",
     "reference.parts": "bash",
