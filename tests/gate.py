@@ -55,8 +55,8 @@ ALONE = (
     ("touch begun", "bash none-such", "0 0 1 0 there is no command none-such"),
 )
 # the parts that need the toolchain, the program, or what a browser shows
-OF_THE_GATE = {"calls", "edits", "lacking", "library", "mutants", "native", "packages", "page",
-               "reference", "refusals", "speed"}
+OF_THE_GATE = {"broken", "calls", "edits", "lacking", "library", "mutants", "native", "packages",
+               "page", "reference", "refusals", "speed"}
 RUN = f'cd {quote(TOP)} && . tests/counts && part "$@" && finish'
 BUSY = "i=0; while [ $i != 200000 ]; do i=$((i + 1)); done; "
 # parts in two lanes in bash, each in a line, and the numbers that the gate prints: of a part that
@@ -190,9 +190,10 @@ def whole(cases: Cases) -> None:
     shares: Dict[str, List[str]] = defaultdict(list)
     for part, *words in begun:
         shares[part] += [it for it in words if re.fullmatch(r"\d/\d|timed", it)]
-    for part in ("tools", "mutants", "page"):
-        count = len(shares[part]) - 1
-        wanted = [*(f"{it}/{count}" for it in range(1, count + 1)), "timed"]
+    for part in ("tools", "mutants", "page", "broken"):
+        timed = ["timed"] * (part != "broken")
+        count = len(shares[part]) - len(timed)
+        wanted = [*(f"{it}/{count}" for it in range(1, count + 1)), *timed]
         cases.same(f"and each share of {part}", str(wanted), str(shares[part]))
     found = {f"{module}.{method}" for word in shares["tools"]
              for it in dealing.names_of(dealing.tests_of([word]))

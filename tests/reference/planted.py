@@ -8,6 +8,7 @@ seed. A line says after how many cases the output differs from the reference's. 
 minutes. The last line is 'N passed, M failed'; an edit that isn't found counts as failed.
 """
 import argparse
+import glob
 import os
 import random
 import re
@@ -61,7 +62,8 @@ def write_batches(seed: int, count: int) -> List[str]:
 def plant(top: str, edit: str) -> None:
     """Puts an edit into the sources."""
     crate, name = edit.split("/")
-    lines = read(f"{top}/crates/{crate}/must-fail/{name}.edit").split("\n")
+    (file,) = glob.glob(f"{top}/crates/{crate}/*/{name}.edit")
+    lines = read(file).split("\n")
     path = f"{top}/crates/{crate}/{lines[0][len('file: '):]}"
     text = read(path)
     for old, new in zip(lines[1::2], lines[2::2]):
