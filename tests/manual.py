@@ -1,8 +1,9 @@
 """tests/run manual PROGRAM: compares the man pages with the programs. They have every text that the
 sources of sokoaudit can print, their examples show what it prints, and the page of sokotool has the
 options and defaults of its parser; mandoc, if it is installed, finds no fault in them. There are
-the files that HACKING.md names, the definitions and lemmas that pages name in brackets, and what
-pages and examples use of the header for C. Ends in 'N passed, M failed'."""
+the files that HACKING.md names and the crates in its picture, the definitions and lemmas that pages
+name in brackets, and what pages and examples use of the header for C. Ends in 'N passed, M failed'.
+"""
 import argparse
 import glob
 import os
@@ -40,6 +41,16 @@ def named(cases: Cases) -> None:
         brackets = re.findall(r"\(([^()]*)\)", read(f"{TOP}/docs/{page}.md"))
         names = {it for text in brackets for it in re.findall(r"`(\w+)`", text)}
         cases.same(f"the names of {page}.md", "", " ".join(sorted(names - known)))
+
+
+def corridor(cases: Cases) -> None:
+    """A case for each crate: the picture in HACKING.md has it, after those that it uses."""
+    picture = read(f"{TOP}/HACKING.md").partition("\n### From the bytes")[2].partition("\n**")[0]
+    places = {name: at for at, name in enumerate(re.findall(r"\b([a-z_]+) ─", picture))}
+    for name, used in re.findall(r"(?m)^(\w+)[ \w]*:(.*)$", read(f"{TOP}/crates.txt")):
+        below = [places.get(it, 0) for it in used.split() if os.path.isdir(f"{TOP}/crates/{it}")]
+        cases.holds(f"HACKING.md draws {name} after what it uses",
+                    name in places and max(below, default=-1) < places[name])
 
 
 def examples(cases: Cases, program: str) -> None:
@@ -124,6 +135,7 @@ for name in sorted(set(re.findall(r"[A-Za-z]+\.antt", read(f"{TOP}/HACKING.md"))
     cases.holds(f"HACKING.md names {name}",
                 glob.glob(f"{TOP}/crates/*/[sp]*/**/{name}", recursive=True))
 named(cases)
+corridor(cases)
 options(cases)
 header(cases)
 examples(cases, program)

@@ -1,19 +1,20 @@
 """tests/run newcomer [README]: types README.md, or another page, as someone does who has just
 unpacked the repository: in a copy of its files alone, with what the system has on the PATH but the
 toolchain. The commands print what the page shows, also in its picture of a terminal, those in
-running text name files that are there, and the links lead to files and headings. Ends in 'N passed,
-M failed'."""
+running text name files that are there, the other picture is that of the samples, and the links lead
+to files and headings. Ends in 'N passed, M failed'."""
 import glob
 import html
 import os
 import re
+import tempfile
 from typing import Dict, Iterator, List
 
 from tests.runner import TOP, Cases, arguments, call, decode, enter_folder, read, shell, write
 
 COPY = 'git -C "$0" ls-files -coz --exclude-standard | tar -C "$0" --null -T - -cf - | tar -xf -'
 NOTE = "sokoaudit: this is the reference in Python, not the proved program"
-PICTURE = "docs/pictures/terminal.svg"
+PICTURE, LEVELS = "docs/pictures/terminal.svg", "docs/pictures/first.svg"
 # on Windows this starts Python
 PY = '#!/bin/sh\nexec python3 "$@"\n'
 # what stands for the words of a reader, so that a command in running text can be run
@@ -21,6 +22,8 @@ GIVEN = {"mine": "mine", "FILES": "samples/exports", "LEVELS": "samples/first.xs
          "ANSWERS": "samples/first.answers", "N": "4", "/usr/local": "installed"}
 # their status, if it isn't 0: some of the samples are broken on purpose
 STATUS = {"sokotool check": 1, "sokotool.pyz check": 1}
+# the tests, among which this part is
+TESTS = ("python3 -m tests", "py -m tests")
 # these show their help or need words, which the page leaves out
 ALONE = {"sokotool": "--version", "reference/sokoaudit": "--version", "./sokoaudit": "--version"}
 
@@ -29,6 +32,8 @@ def typed(page: str) -> Iterator[str]:
     """The commands in running text: they begin with Python or with a file of the repository."""
     text = re.sub(r"(?ms)^```.*?^```", "", page)
     for line in re.findall(r"`((?:py|python3|\./\w+)(?: [^`]+)?)`", text):
+        if line in TESTS:
+            continue
         words = [GIVEN.get(it, it) for it in line.replace("\\", "/").split()]
         yield " ".join([*words, ALONE[words[-1]]] if words[-1] in ALONE else words)
 
@@ -48,14 +53,22 @@ def is_pictured(cases: Cases, command: str, said: str) -> None:
                "\n".join(html.unescape(shown).split()))
 
 
+def are_drawn(cases: Cases, variables: Dict[str, str]) -> None:
+    """A case: the picture of the levels is the one of the samples and their report."""
+    with tempfile.TemporaryDirectory() as folder:
+        succeeds(cases, f"packaging/pictures {folder}", variables)
+        cases.same("the picture of the levels", read(f"{folder}/first.svg"), read(LEVELS))
+
+
 def blocks(cases: Cases, page: str, variables: Dict[str, str]) -> None:
     """A case for each command of a block. What it prints on standard output is what is shown."""
     for kind, body in re.findall(r"(?ms)^```([^\n]*)\n(.*?)^```", page):
         if kind == "sh":
-            for command in body.splitlines():
+            for command in (it for it in body.splitlines() if it not in TESTS):
                 said = succeeds(cases, command, {**variables, "SOKOAUDIT_QUIET": "1"})
                 if PICTURE in page:
                     is_pictured(cases, command, said)
+                    are_drawn(cases, variables)
         elif kind == "console":
             for command, wanted in re.findall(r"(?m)^\$ (.*)\n((?:(?!\$ ).*\n)*)", body):
                 ran = call(["bash", "-c", command], env=variables)
