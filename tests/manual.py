@@ -113,12 +113,25 @@ def options_of(command: str) -> Dict[str, argparse.Action]:
     return {it[2:]: action for action in found for it in action.option_strings if it[:2] == "--"}
 
 
+def values_in_man(command: str) -> Dict[str, str]:
+    """What the synopsis of a command calls the values of its options."""
+    synopsis = TOOL[TOOL.index(".Sh SYNOPSIS"):TOOL.index(".Sh DESCRIPTION")]
+    parts = [it for it in synopsis.split("\n.Nm\n") if it.startswith(f".Cm {command}\n")]
+    return {name: value for part in parts
+            for name, value in re.findall(r"Fl -([a-z-]+) Ar (\w+)", part)}
+
+
 def options(cases: Cases) -> None:
-    """Two cases for each command of sokotool: the page has its options, and their defaults."""
+    """Three cases for each command of sokotool: the page has its options, what its help calls their
+    values, and their defaults."""
     for command in COMMANDS:
         found = options_of(command)
         cases.same(f"the options of {command}", " ".join(sorted(found.keys() - {"help", "output"})),
                    " ".join(sorted(in_man(command) - {"output"})))
+        named = {name: str(it.metavar or name).lower() for name, it in found.items()
+                 if it.nargs != 0 and not it.choices and name != "output"}
+        cases.same(f"the values of {command}", str(sorted(named.items())),
+                   str(sorted(values_in_man(command).items())))
         helped = " ".join(it.help or "" for it in found.values())
         defaults = sorted(re.findall(r"\(default ([\d.]+)", helped))
         cases.same(f"the defaults of {command}", str(defaults), str(defaults_in_man(command)))

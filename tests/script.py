@@ -42,9 +42,11 @@ printf '#!/bin/sh\necho "%s|$PWD|$*"\ntest "$1" != refused\n' \
 echo logic=proved functions=3 axioms=0
 END
 """
+# Words are cut at ends of lines alone, since the folder may have blanks in its name.
 # edit: a new source of the lowest crate; fakes: a command that prints a line; builds: the number of
 # builds; python: a Python that runs these words, or the real one
 BEFORE = r"""
+IFS=$'\n'
 edit() { echo "$1" >$tree/crates/low/src/main.rt; }
 fakes() { printf '#!/bin/sh\necho %s\n' "$2" >$tree/../bin/$1 && chmod +x $tree/../bin/$1; }
 builds() { cat $tree/builds 2>/dev/null | wc -l; }
@@ -59,7 +61,7 @@ cases.demands("make", "git")
 room, help = os.path.realpath(folder.name), read(f"{TOP}/samples/help").partition("\n")[0]
 version = run([f"{TOP}/reference/sokoaudit", "--version"]).partition("\n")[0]
 tree, here = f"{room}/tree", f"{room}/else where"
-nobody = "" if os.getuid() else "setpriv --reuid=65534 --regid=65534 --clear-groups"
+nobody = "" if os.getuid() else "setpriv\n--reuid=65534\n--regid=65534\n--clear-groups"
 os.environ.update(top=TOP, tree=tree, run=f"{tree}/sokoaudit", nobody=nobody)
 os.environ["PATH"] = f"{room}/bin:{os.environ['PATH']}"
 shell(TREE)
@@ -123,8 +125,9 @@ case("an installation that fails says where", 1, "", "install-tools: alone/level
 case("an empty prefix is none", 1, "", "usage: packaging/install-tools",
      "$nobody $tree/packaging/install-tools ''")
 case("nor is it to what installs the program", 2, "", "usage: packaging/install PROGRAM PREFIX",
-     "files=\"$tree/CHANGELOG.md $tree/crates/arguments/src/command.rt\"; touch $files; "
-     f"TMPDIR=/tmp {LACKS} $nobody $tree/packaging/install /bin/true ''; s=$?; rm $files; exit $s")
+     "files=($tree/CHANGELOG.md $tree/crates/arguments/src/command.rt); touch \"${files[@]}\"; "
+     f"TMPDIR=/tmp {LACKS} $nobody $tree/packaging/install /bin/true ''; s=$?; "
+     "rm \"${files[@]}\"; exit $s")
 case("it installs the reference", 0, "level 1 solved moves 1 pushes 1 changes 1", NOTE,
      "root/usr/bin/sokoaudit audit levels answers")
 case("and its help", 0, help, "", "root/usr/bin/sokoaudit --help")
@@ -140,6 +143,8 @@ for name in ("sokoaudit", "sokotool"):
     case(f"a copy of {name} alone says what it lacks", 2, "",
          f"{name}: this script needs the files beside it: make a link to it, or install it",
          f"mkdir lone; cp \"$top/{name}\" lone; {LACKS} lone/{name} -V; s=$?; rm -r lone; exit $s")
+case("sokotool runs as a module", 0, version.replace("sokoaudit", "sokotool"), "",
+     f"cd \"$top/tools\" && {sys.executable} -B -m sokotool --version")
 old_python = "import runpy, sys; sys.version_info = 3, 7; runpy.run_path(sys.argv[1])"
 case("an old Python is named", 2, "", "sokotool: this script needs Python 3.8 or later",
      f"{sys.executable} -c '{old_python}' \"$top/sokotool\"")
@@ -251,7 +256,7 @@ case("an old C library", 2, "", "glibc 2.34 or later",
      "edit five; fakes getconf 'glibc 2.31'; $run a")
 case("another system", 2, "", "Linux on x86-64", "fakes uname 'Darwin arm64'; $run a")
 if cases.needs("script", "a run on a terminal"):
-    on_terminal = "rm ../bin/{getconf,uname}; PROGRAM=2.5 script -qc \"'$run' a\" terminal"
+    on_terminal = "rm ../bin/{getconf,uname}; PROGRAM=2.5 script -qc '\"$run\" a' terminal"
     count = "proving sokoaudit, 2 of 3 functions, 0:(0[1-9]|[1-5])"
     shown = f"grep -Eq '{count}' terminal || cat terminal >&2"
     case("on a terminal one line shows the progress", 0, "", "", f"{on_terminal} >said && {shown}")

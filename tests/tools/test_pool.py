@@ -19,6 +19,7 @@ from tests.tools.helping import Case, not_on_windows
 # Two steps to the right push the box to the far goal, and walks around it to the near one.
 ROWS = [b"########", b"#      #", b"#@.$ . #", b"#      #", b"########"]
 SHORT, AROUND, LONGER = b"rRR", b"urrrdL", b"udurrrdL"
+SOLVED = report.read(b"level 1 solved moves 3 pushes 2 changes 1\n")
 
 
 STATE = changes.Snapshot([Level(1, ROWS, 1)], forms.forms_of([Level(1, ROWS, 1)]))
@@ -47,18 +48,18 @@ class Picked(Case):
         for given in ((LONGER, AROUND, SHORT), (SHORT, AROUND, LONGER)):
             for best, wanted in ((PUSHES, AROUND), (MOVES, SHORT), (BOTH, SHORT)):
                 found = self.picked(best, *given)
-                chosen = found._choice(1)
-                assert chosen is not None
-                self.assertEqual(chosen.answer.letters, wanted)
-                other = found._other(chosen)
-                self.assertEqual(other and other.answer.letters, AROUND if best == BOTH else None)
+                found.audited(lambda _: SOLVED, lambda text: text)
+                self.assertEqual(found.chosen[1].answer.letters, wanted)
+                self.assertEqual([it.answer.letters for it in found.others.values()],
+                                 [AROUND] * (best == BOTH))
 
     def test_reason_of_a_refusal(self) -> None:
         """It names no line of a text that nobody sees."""
         found = Pool(STATE, MOVES)
         found.add_file("a.answers", read(b"level 1\nunsolvable\npattern 3,3 @ *\nend\n"), STATE)
-        found.chosen = {1: [*found._of[1].values()][0]}
-        found._refuse(report.read(b"level 1 refused line 4 push 3,3 r\n"), found.chosen)
+        found.audited(lambda text: report.read(
+            b"level 1 refused line 4 push 3,3 r\n" if b"pattern" in text else b"level 1 missing\n"),
+                      lambda text: text)
         self.assertEqual(found.left_out(),
                          ["a.answers line 2: refused for level 1: push 3,3 r"])
 
@@ -252,14 +253,14 @@ class Own(Case):
     def test_lock_of_a_file_that_is_gone(self) -> None:
         """Whoever had the lock may have removed the file before it was locked here."""
         def lock(number: int) -> bool:
-            os.unlink("lock")
-            self.write("lock", "")
+            if not seen:
+                os.unlink(".sokotool-mine.lock")
+                self.write(".sokotool-mine.lock", "")
+            seen.append(number)
             return real(number)
 
+        seen: List[int] = []
         real = system.lock
-        with unittest.mock.patch.object(system, "lock", lock):
-            self.assertIsNone(own_files._locked("lock"))
-        file = own_files._locked("lock")
-        self.assertIsNotNone(file)
-        assert file is not None
-        file.close()
+        with unittest.mock.patch.object(system, "lock", lock), \
+                own_files.alone("mine", Progress("check")):
+            self.assertEqual(len(seen), 2)

@@ -47,7 +47,7 @@ def arguments(parser: argparse.ArgumentParser) -> None:
     parser.add_argument("--seconds", metavar="S", type=seconds, default=SECONDS,
                         help="search each level that is left for up to S seconds "
                         f"(default {SECONDS}, 0 for no search)")
-    parser.add_argument("--search", metavar="S", type=seconds, default=BUDGET,
+    parser.add_argument("--search", metavar="T", type=seconds, default=BUDGET,
                         help=f"search for S seconds in all (default {BUDGET}, 0 for no search)")
     parser.add_argument("--jobs", metavar="N", type=above_zero(int),
                         default=system.processors(),
@@ -59,7 +59,7 @@ def arguments(parser: argparse.ArgumentParser) -> None:
                              "on standard input, and in the file {}")
     parser.add_argument("--solver-seconds", metavar="S", type=above_zero(float), default=BUDGET,
                         help=f"end a run of the solver after S seconds (default {BUDGET})")
-    parser.add_argument("--solver-search", metavar="S", type=above_zero(float), default=math.inf,
+    parser.add_argument("--solver-search", metavar="T", type=above_zero(float), default=math.inf,
                         help="begin no run of the solver after S seconds (no limit by default)")
     parser.add_argument("--verbose", action="store_true", help="print what the solver prints")
     parser.add_argument("--csv", action="store_true",
