@@ -1,5 +1,6 @@
 """Where each level comes from and why it is refused, in the summary of check and on its page."""
 import csv
+import itertools
 import json
 import os
 import re
@@ -97,6 +98,18 @@ class Sources(test_check.Check):
         left = {number: it["left"] for number, it in self.sources("a.txt").items()}
         self.assertEqual([said[:8] for said in left["2"]], ["line 5: ", "line 6: "])
         self.assertEqual(left["1"], [])
+
+    def test_a_problem_of_a_file_is_of_no_level(self) -> None:
+        """Files without a level, before and after a good one."""
+        self.write("a.zip", b"PK\x03\x04 torn")
+        self.write("b.txt", ONE + "\n" + ONE)
+        self.write("c.txt", "no level\n")
+        for words in itertools.permutations(("a.zip", "b.txt", "c.txt")):
+            left = [it["left"] for it in self.sources(*words).values()]
+            self.assertEqual(left, [[], []], words)
+            said = self.check("mine", *words).out.decode()
+            for name in ("a.zip", "c.txt"):
+                self.assertIn(f"problem: {name} line 1: no level in this file\n", said)
 
 
 class Shown(viewing.Page, test_check.Check):
