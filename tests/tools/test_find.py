@@ -40,6 +40,9 @@ KINDS = {
                         "#########\n", 8),
     "box outside the room": ("########\n#@$. #$#\n#    ###\n# .  #\n######\n", 1),
 }
+# where a shorter list was found
+SHORTENED = {"two boxes and a push": 7, "too few goals along two walls": 13, "whole level": 3,
+             "closed diagonal": 1}
 SOLVABLE = "######\n#    #\n#@$  #\n#  . #\n######\n"
 
 
@@ -89,7 +92,7 @@ class Kinds(Case):
         lines = self.audit("kinds.xsb", "answers").decode().splitlines()
         for line, (kind, (_, most)) in zip(lines, KINDS.items()):
             self.assertIn(" unsolvable patterns ", line, kind)
-            self.assertLessEqual(int(line.split()[-1]), most, kind)
+            self.assertLessEqual(int(line.split()[-1]), SHORTENED.get(kind, most), kind)
 
     def test_lists_as_by_hand(self) -> None:
         self.write("levels", SIDE + "\n" + CORRAL)
