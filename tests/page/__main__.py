@@ -9,7 +9,7 @@ from functools import partial
 from typing import Callable, Dict, List, Sequence
 
 from bench.measured import Size, cases as bench_cases
-from tests.page import answering, drawn, forms, hostile, late, using
+from tests.page import answering, drawn, forms, hostile, late, sharing, using
 from tests.page.comparing import HEADER, Comparison
 from tests.page.driving import Tab
 from tests.reference.fuzz import batches
@@ -122,7 +122,7 @@ COMPARED: Sequence[Callable[[Comparison], None]] = (
 # by whether their tab is painted: it is where something waits for a frame, or a user acts
 USED: Dict[bool, Sequence[Callable[[Comparison, Tab], None]]] = {
     False: (*forms.UNPAINTED, *using.UNPAINTED, *late.UNPAINTED),
-    True: (*using.PARTS, *late.PARTS, *drawn.PARTS, *answering.PARTS)}
+    True: (*using.PARTS, *late.PARTS, *drawn.PARTS, *sharing.PARTS, *answering.PARTS)}
 TIMED = [part.__name__ for part in answering.PARTS]
 UNTIMED = [it for it in (part.__name__ for part in (*COMPARED, *USED[False], *USED[True]))
            if it not in TIMED]

@@ -1,10 +1,11 @@
 """What is drawn, looked at as a user does: which cells a shape fills, and the colours of a card."""
-from typing import Dict, List, Sequence
+import random
+from typing import Dict, List, Sequence, Tuple
 
 from tests.page.comparing import HEADER, Comparison
 from tests.page.driving import Tab
 from tests.page.forms import zipped
-from tests.page.using import CORNER, LETTERS, LEVEL
+from tests.page.using import CORNER, LETTERS, LEVEL, dead_cells
 from tests.runner import TOP, write
 
 INSIDE = "$('view')"
@@ -40,6 +41,34 @@ COLOURS = """((inside, width, height) => {
 })(%s, %d, %d)"""
 CELLS = {"#": "wall", " ": "floor", ".": "goal", "$": "box", "*": "home", "@": "player",
          "+": "player"}
+# the texts whose contrast to what is behind them is below 4.5
+PALE = """(() => {
+    const light = colour => {
+        const parts = colour.match(/[\\d.]+/g).slice(0, 3).map(it => {
+            const part = it / 255;
+            return part <= .04045 ? part / 12.92 : ((part + .055) / 1.055) ** 2.4;
+        });
+        return .2126 * parts[0] + .7152 * parts[1] + .0722 * parts[2] + .05;
+    };
+    const isClear = it => /, 0\\)$|^transparent$/.test(getComputedStyle(it).backgroundColor);
+    const behind = it => it.parentElement && isClear(it) ? behind(it.parentElement) : it;
+    const hasText = it => [...it.childNodes].some(node => node.nodeType === 3 && node.data.trim())
+        || it.matches("textarea");
+    return [...document.querySelectorAll("body *")].filter(it => hasText(it) && it.checkVisibility()
+        && !it.closest("svg, script, style, option")).flatMap(it => {
+        const pair = [light(getComputedStyle(it).color),
+            light(getComputedStyle(behind(it)).backgroundColor)];
+        const contrast = Math.max(...pair) / Math.min(...pair);
+        return contrast < 4.5 ? [`${it.localName}.${it.className} ${contrast.toFixed(1)}`] : [];
+    });
+})()"""
+FAR = {"l": (-1, 0), "u": (0, -1), "r": (1, 0), "d": (0, 1)}
+# how far the player's shape reaches from the middle of its cell
+LOOK = """(({ x, y, width, height }, place) => {
+    const { board } = viewer.page.answer.replay;
+    return [x + width / 2 - middle(board, board.player)[0],
+        y + height / 2 - middle(board, board.player)[1]];
+})(document.querySelector(".level .player").getBBox())"""
 # where the middle of each arrow is from the middle of its player's cell, and its direction
 ARROWS = """[...%s.querySelectorAll(".arrow")].map(it => {
     const { x, y, width, height } = it.querySelector(".shaft").getBBox();
@@ -61,7 +90,7 @@ def boards(check: Comparison, tab: Tab) -> None:
     tab.opened()
     found: Dict[str, List[str]] = tab.ask(FILLED)
     for kind, characters in (("wall", "#"), ("goal", ".+*"), ("box", "$"), ("box home", "*"),
-                             ("player", "@+")):
+                             ("player", "@+"), ("floor", " .$@+*")):
         check.same(f"cells of {kind}", cells(rows, characters), sorted(
             found.get(kind, []), key=lambda it: [int(n) for n in it.split(",")[::-1]]))
     tab.press("End")
@@ -76,6 +105,11 @@ def boards(check: Comparison, tab: Tab) -> None:
     tab.wait(f"{INSIDE}.querySelector('.counts b').textContent === '1'")
     check.same("one letter is done", 1, tab.ask(
         f"{INSIDE}.querySelectorAll('.letters .done').length"))
+    for at, letter in enumerate(LETTERS, 1):
+        tab.ask(f"viewer.page.answer.seek({at}); 0")
+        x, y = tab.ask(LOOK)
+        dx, dy = FAR[letter.lower()]
+        check.same(f"the player looks {letter}", True, x * dx + y * dy > .05)
     tab.press("End", " ")
     tab.wait(f"{INSIDE}.querySelector('.counts b').textContent === '3'")
     tab.press(" ")
@@ -99,9 +133,8 @@ def boards(check: Comparison, tab: Tab) -> None:
                                     .split()}
     check.same("the region is where it is named", sorted(room), sorted(found.get("region", [])))
     tab.opened(20)
-    far = {"l": (-1, 0), "u": (0, -1), "r": (1, 0), "d": (0, 1)}
     for way, x, y in tab.ask(ARROWS):
-        check.same(f"an arrow points {way}", True, x * far[way][0] + y * far[way][1] > .3)
+        check.same(f"an arrow points {way}", True, x * FAR[way][0] + y * FAR[way][1] > .3)
 
 
 def small_boards(check: Comparison, tab: Tab) -> None:
@@ -117,23 +150,10 @@ def small_boards(check: Comparison, tab: Tab) -> None:
             wanted = [[CELLS[it] for it in row] for row in rows]
             check.same(f"a card of {board!r}, dark: {dark}", wanted,
                        [line[:len(row)] for line, row in zip(seen, rows)])
-        contrast = tab.ask("""(() => {
-            const light = colour => { const [r, g, b] = colour.match(/[\\d.]+/g).map(it => {
-                const part = it / 255; return part <= .04045 ? part / 12.92
-                    : ((part + .055) / 1.055) ** 2.4; });
-                return .2126 * r + .7152 * g + .0722 * b + .05; };
-            const of = (element, back) => { const view = element.ownerDocument.defaultView;
-                const pair = [light(view.getComputedStyle(element).color),
-                    light(view.getComputedStyle(back).backgroundColor)];
-                return Math.max(...pair) / Math.min(...pair); };
-            const inside = %s;
-            return [of(document.querySelector("h1"), document.body),
-                of(document.querySelector("footer"), document.body),
-                of($("total"), document.body),
-                ...[...inside.querySelectorAll(".card .title, .card .line, .card b")].map(
-                    it => of(it, it.closest(".card")))];
-        })()""" % INSIDE)
-        check.same(f"texts can be read, dark: {dark}", [], [it for it in contrast if it < 4.5])
+        check.same(f"the overview can be read, dark: {dark}", [], tab.ask(PALE))
+        tab.opened(1)
+        tab.ask("$('form').open = $('proof').open = $('raw').open = true; 0")
+        check.same(f"so can a level, dark: {dark}", [], tab.ask(PALE))
     tab.size(1280, 900)
 
 
@@ -209,4 +229,73 @@ def rest(check: Comparison, tab: Tab) -> None:
                    tab.until(f"{moves} === '{count}'", 20))
 
 
-PARTS = (boards, small_boards, saying, rest)
+def made(rng: random.Random) -> Tuple[List[str], str]:
+    """A random level, and letters that solve it: where its boxes end are its goals."""
+    while True:
+        width, height = rng.randint(5, 9), rng.randint(5, 9)
+        free = {(x, y) for x in range(1, width - 1) for y in range(1, height - 1)
+                if rng.random() < .8}
+        if len(free) < 8:
+            continue
+        places = rng.sample(sorted(free), rng.randint(2, 4))
+        player, start = places[0], set(places[1:])
+        boxes, letters, at = set(start), "", player
+        for _ in range(rng.randint(20, 60)):
+            letter = rng.choice("lurd")
+            dx, dy = FAR[letter]
+            to, beyond = (at[0] + dx, at[1] + dy), (at[0] + 2 * dx, at[1] + 2 * dy)
+            if to not in free or to in boxes and (beyond not in free or beyond in boxes):
+                continue
+            letters += letter.upper() if to in boxes else letter
+            if to in boxes:
+                boxes = boxes - {to} | {beyond}
+            at = to
+        if boxes == start or not letters:
+            continue
+
+        def cell(x: int, y: int) -> str:
+            is_goal = (x, y) in boxes
+            return ("#" if (x, y) not in free else "+" if (x, y) == player and is_goal else "@"
+                    if (x, y) == player else "*" if (x, y) in start and is_goal else "$"
+                    if (x, y) in start else "." if is_goal else " ")
+
+        return ["".join(cell(x, y) for x in range(width)) for y in range(height)], letters
+
+
+def replayed(rows: Sequence[str], letters: str) -> Dict[str, List[str]]:
+    """The cells of the boxes and the player after some letters, by a replay by itself."""
+    (x, y), = ((int(it.split(",")[0]), int(it.split(",")[1])) for it in cells(rows, "@+"))
+    boxes, goals = set(cells(rows, "$*")), set(cells(rows, ".*+"))
+    for letter in letters:
+        dx, dy = FAR[letter.lower()]
+        x, y = x + dx, y + dy
+        if letter.isupper():
+            boxes = boxes - {f"{x},{y}"} | {f"{x + dx},{y + dy}"}
+    return {"box": sorted(boxes - goals), "box home": sorted(boxes & goals),
+            "player": [f"{x},{y}"]}
+
+
+def replays(check: Comparison, tab: Tab) -> None:
+    """Solved levels as they play, and the dead squares of as many."""
+    rng = random.Random(20)
+    levels = [made(rng) for _ in range(300)]
+    write("made.xsb", "\n".join("".join(f"{row}\n" for row in rows) for rows, _ in levels))
+    write("made.answers", HEADER.decode() + "".join(
+        f"level {i}\nsolution\n{letters}\nend\n" for i, (_, letters) in enumerate(levels, 1)))
+    tab.give("made.xsb", "made.answers")
+    check.same("all are solved", "300 levels: 300 solved", tab.text("total"))
+    for number, (rows, letters) in enumerate(levels, 1):
+        tab.opened(number)
+        tab.wait("viewer.page.answer.replay")
+        far = len(letters)
+        for at in 0, 1, rng.randrange(far), far, rng.randrange(far):
+            tab.ask(f"viewer.page.answer.seek({at}); 0")
+            found: Dict[str, List[str]] = tab.ask(FILLED)
+            wanted = replayed(rows, letters[:at])
+            check.same(f"level {number} after {at} letters", wanted, {
+                kind: sorted(found.get(kind, [])) for kind in wanted})
+        dead = tab.ask(f"deadSquares(shownData.levels[{number - 1}].rows)")
+        check.same(f"dead squares of level {number}", dead_cells(rows), dead["cells"])
+
+
+PARTS = (boards, small_boards, saying, rest, replays)

@@ -54,10 +54,22 @@ class Tab(Browser):
         self.ask("$('message').hidden && hide(); $('levels').value = '';"
                  " document.body.classList.remove('welcome'); 0")
 
+    def reload(self) -> None:
+        """Loads the page once more, as a user does."""
+        self.loaded = False
+        self.call("Page.reload")
+        while not self.loaded:
+            self._message()
+
     def wait(self, expression: str, seconds: float = 30) -> None:
         """Waits until an expression holds."""
         if not self.until(expression, seconds):
             raise TimeoutError(expression)
+
+    def press_button(self, name: str) -> None:
+        """Clicks a button of the form, which is folded once there is a result."""
+        self.ask("$('form').open = true; 0")
+        self.click(f"#{name}")
 
     def give(self, *names: str) -> str:
         """Gives the page files, and waits for the result. Returns the page's message, or ''."""

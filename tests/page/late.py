@@ -20,6 +20,14 @@ def judging(check: Comparison, tab: Tab) -> None:
         check.same(f"level {number} is judged", not is_large, "same verdict." in said)
         is_refused = " refused " in tab.seen(".level .verdict")[0]
         check.same(f"level {number} is explained", is_refused, bool(tab.seen(".why")[0]))
+    tab.ask("clear(); 0")
+    tab.paste("levels", f"{LEVEL}{LETTERS}\n\n{CORNER}")
+    tab.wait("document.querySelectorAll('.preview svg').length === 2")
+    tab.ask("Object.defineProperty(shownData.levels[0], 'rows', { value: ['no row'] });"
+            " draw(''); 0")
+    tab.wait("document.querySelectorAll('.preview svg').length === 1")
+    check.same("nor is the picture of a small collection", [False, True], tab.ask(
+        "[...document.querySelectorAll('.preview')].map(it => it.children.length > 0)"))
     for change in ("levels[0], 'rows', { value: shownData.levels[1].rows }",
                    "levels[0], 'rows', { value: ['no row'] }",
                    "records[1], 'bytes', { value: bytesOf('L\\n') }"):
@@ -148,7 +156,7 @@ def stopped(check: Comparison, tab: Tab) -> None:
     tab.ask("new Promise(done => setTimeout(done, 400))")
     check.same("files that are removed aren't audited", [0, True], tab.ask(
         "[document.querySelectorAll('#each button').length, $('busy').hidden]"))
-    tab.click("#clear")
+    tab.press_button("clear")
     check.same("nothing is said after Clear", ["", True], tab.ask(
         "[$('why').textContent, $('message').hidden]"))
 
@@ -183,8 +191,9 @@ def around(check: Comparison, tab: Tab) -> None:
             "$('view').querySelector('.overview').hidden"))
     tab.call("Emulation.setEmulatedMedia", media="print")
     tab.ask("dispatchEvent(new Event('beforeprint')); 0")
-    check.same("the level that is shown on paper", [[True, False], 0], tab.ask(
-        "[['.board', '.overview'].map(it => $('view').querySelector(it).checkVisibility()),"
+    check.same("the level that is shown on paper", [[True, False, False, False], 0], tab.ask(
+        "[['.board', '.overview', 'nav', '#form'].map(it => document.querySelector("
+        "`#view ${it}, main > ${it}`).checkVisibility()),"
         " $('view').querySelectorAll('.printed').length]"))
     tab.ask("dispatchEvent(new Event('afterprint')); 0")
     tab.call("Emulation.setEmulatedMedia", media="")

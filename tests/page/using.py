@@ -1,10 +1,13 @@
 """What a user does with the page, and what it says then."""
 import base64
+import contextlib
 import html
+import http.server
 import os
 import re
+import threading
 from itertools import permutations, product
-from typing import List, Sequence, Tuple
+from typing import Iterator, List, Sequence, Tuple
 
 from bench.measured import NOOK
 from tests.page.comparing import Comparison, in_words
@@ -48,6 +51,16 @@ BESIDE = """(parent => {
     return [keys.top < boxOf(parent).top + 20, others.filter(it => keys.left < it.right
         && it.left < keys.right && keys.top < it.bottom && it.top < keys.bottom).length];
 })($('view').querySelector('%s'))"""
+# the cells whose middle a cross of a dead square covers
+CROSSED = """(shape => {
+    if (!shape) return [];
+    const { width, height } = shape.ownerSVGElement.viewBox.baseVal, found = [];
+    for (let y = 0; y < height - .2; y++) for (let x = 0; x < width - .2; x++) {
+        const point = new DOMPoint(x + .5, y + .5);
+        if (shape.isPointInStroke(point)) found.push(`${x + 1},${y + 1}`);
+    }
+    return found;
+})($('view').querySelector(".level .dead"))"""
 # what a browser does that has no vectors, or no WebAssembly
 LACKS = "WebAssembly.validate = () => false", "delete globalThis.WebAssembly"
 
@@ -137,8 +150,10 @@ def dead(check: Comparison, tab: Tab) -> None:
         tab.opened()
         tab.click_in_view(".show-dead")
         tab.wait("$('view').querySelector('.said').textContent")
-        check.same(f"dead squares of {board!r}", dead_cells(board.splitlines()), re.findall(
+        wanted = dead_cells(board.splitlines())
+        check.same(f"dead squares of {board!r}", wanted, re.findall(
             r"\d+,\d+", tab.seen(".said")[0]))
+        check.same(f"their crosses in {board!r}", wanted, tab.ask(CROSSED))
 
 
 def pasting(check: Comparison, tab: Tab) -> None:
@@ -274,9 +289,33 @@ def several(check: Comparison, tab: Tab) -> None:
     check.same("it isn't audited anew", "bad.xsb: 2 levels: 2 proved unsolvable", tab.ask(
         "(document.querySelectorAll('#each button')[0].click(),"
         " document.querySelectorAll('#each button')[1].click(), $('total').textContent)"))
-    tab.ask("$('form').open = true; 0")
-    tab.click("#levels-file button")
+    tab.press_button("levels-file button")
     check.same("files that are removed can't be clicked", True, tab.ask("$('several').hidden"))
+
+
+@contextlib.contextmanager
+def listening() -> Iterator[Tuple[int, List[str]]]:
+    """A port where somebody listens, and the first lines of what it is asked."""
+    asked_for: List[str] = []
+
+    class Listener(http.server.BaseHTTPRequestHandler):
+        """Notes each request."""
+        def do_GET(self) -> None:  # pylint: disable=invalid-name
+            """Answers a request."""
+            asked_for.append(self.requestline)
+            self.send_response(200)
+            self.end_headers()
+
+        do_POST = do_GET
+
+        def log_message(self, *_: object) -> None:  # pylint: disable=arguments-differ
+            """Says nothing."""
+
+    server = http.server.HTTPServer(("127.0.0.1", 0), Listener)
+    thread = threading.Thread(target=server.serve_forever, daemon=True)
+    thread.start()
+    yield server.server_port, asked_for
+    server.shutdown()
 
 
 def hostile(check: Comparison, tab: Tab) -> None:
@@ -302,8 +341,13 @@ def hostile(check: Comparison, tab: Tab) -> None:
     tab.ask("document.body.append(Object.assign(document.createElement('script'), "
             "{ textContent: \"document.title = 'run'\" }))")
     check.same("no other script runs", "sokoaudit", tab.ask("document.title"))
-    check.same("no address is asked for", "refused", tab.ask(
-        "fetch('http://127.0.0.1:9/').then(() => 'answered', () => 'refused')"))
+    with listening() as (port, asked_for):
+        for ask in (f"fetch('http://127.0.0.1:{port}/', {{ mode: 'no-cors' }}).catch(() => 0)",
+                    f"document.body.append(Object.assign(new Image(), {{ src: '//127.0.0.1:{port}/"
+                    "' })), 0", f"navigator.sendBeacon('http://127.0.0.1:{port}/', 'x')"):
+            tab.ask(ask)
+        tab.ask("new Promise(done => setTimeout(done, 300))")
+        check.same("no address is asked for, where somebody listens", [], asked_for)
 
 
 def stopping(check: Comparison, tab: Tab) -> None:
@@ -458,7 +502,7 @@ def reaching(check: Comparison, tab: Tab) -> None:
     check.same("a file dropped on the boards", "level 1 missing",
                tab.text("lines").splitlines()[0])
     os.utime("two.xsb", (1e9, 1e9))
-    tab.click("#audit")
+    tab.press_button("audit")
     tab.wait(IDLE)
     check.same("a file that has changed", "cannot read two.xsb: if it was changed",
                tab.message()[:38])
@@ -481,6 +525,7 @@ def files(check: Comparison, tab: Tab) -> None:
         tab.give(*names)
         check.same(f"levels with answers are dropped again, {len(names)}", [LINE, "mended"], [
             tab.text("lines")[:len(LINE)], tab.ask("shownData.levels[0].title")])
+    tab.ask("$('form').open = true; 0")
     check.same("what each button removes", ["Remove levels", "Remove answers"], [
         name for role, name in tab.spoken() if role == "button" and name.startswith("Remove")])
     check.same("all is answered", "fine", tab.ask("$('total').className"))
@@ -488,8 +533,7 @@ def files(check: Comparison, tab: Tab) -> None:
     check.same("new levels drop the former answers", "level 1 missing",
                tab.text("lines").splitlines()[0])
     check.same("something is open", "open", tab.ask("$('total').className"))
-    tab.ask("$('form').open = true; 0")
-    tab.click("#levels-file button")
+    tab.press_button("levels-file button")
     check.same("a removed file leaves its result pale", True,
                tab.ask("$('result').classList.contains('stale')"))
     tab.ask("clear(); 0")
@@ -511,8 +555,7 @@ def files(check: Comparison, tab: Tab) -> None:
     check.same("other answers in their place", "", tab.message())
     tab.give("one.xsb", "two.xsb")
     tab.wait("document.querySelectorAll('#each li').length === 2")
-    tab.ask("$('form').open = true; 0")
-    tab.click("#levels-file button")
+    tab.press_button("levels-file button")
     check.same("several files are removed at once", [True, True], tab.ask(
         "['levels', 'answers'].map(it => $(`${it}-file`).hidden)"))
 
@@ -574,8 +617,7 @@ def fields(check: Comparison, tab: Tab) -> None:
     tab.give("corner.xsb")
     check.same("other levels in a file", "level 1 refused move 2 blocked",
                tab.text("lines").splitlines()[0])
-    tab.ask("$('form').open = true; 0")
-    tab.click("#levels-file button")
+    tab.press_button("levels-file button")
     tab.ask("audit().then(() => 0)")
     check.same("the pasted ones once that is removed", [both, LINE], [
         tab.ask("$('levels').value"), tab.text("lines")[:len(LINE)]])
@@ -614,13 +656,13 @@ def buttons(check: Comparison, tab: Tab) -> None:
         "[document.activeElement.id, $('form').open]"))
     tab.paste("levels", "no level\n")
     check.same("no level", ["No level is found.", "A row has"], [tab.message(), tab.told()[0][:9]])
-    tab.click("#example")
+    tab.press_button("example")
     tab.wait(f"{IDLE} && $('lines').textContent.includes('level 2')")
     check.same("the example", "3 levels: 1 solved, 1 refused, 1 without an answer",
                tab.text("total"))
     back = "document.execCommand('undo'), $('levels').value"
     check.same("Ctrl and Z after it", "no level\n", tab.ask(back))
-    tab.click("#clear")
+    tab.press_button("clear")
     check.same("Ctrl and Z after Clear", "no level\n", tab.ask(back))
 
 

@@ -1,7 +1,7 @@
 // The page that audits: takes texts, and asks the program's thread.
 
-const INSTEAD = "Use another browser, or the program sokoaudit on Linux, sokoaudit.exe on Windows, or "
-    + "'reference/sokoaudit audit LEVELS ANSWERS', which needs Python alone.";
+const INSTEAD = "Use another browser, or the program sokoaudit on Linux, sokoaudit.exe on "
+    + "Windows, or 'reference/sokoaudit audit LEVELS ANSWERS', which needs Python alone.";
 // the smallest module with a vector of 128 bits, which the program's module has too
 const VECTOR = "0061736d010000000105016000017b030201000a080106004100fd0f0b";
 const EXAMPLE = `Round the corner
@@ -30,6 +30,8 @@ A push too many
 Solution
 rRRR
 `;
+
+const KEPT_AS = "sokoaudit";
 
 // ---- runs
 
@@ -68,14 +70,16 @@ class Run {
     }
     tick() {
         const seconds = Math.floor((Date.now() - this.began) / 1000);
-        $("busy").querySelector("span").textContent = this.stage + (seconds ? `, ${many(seconds, "second")}` : "");
+        $("busy").querySelector("span").textContent = this.stage
+            + (seconds ? `, ${many(seconds, "second")}` : "");
     }
     // Asks the thread for what the user wants now. Returns its answer, or null if the user wanted
     // something else before it came.
     async ask(words, task, values) {
         const mine = this.begin(words), said = await runner.ask(task, values);
         if (mine !== this.number) return null;
-        const trouble = troubleIn(said), data = trouble || !said.report ? null : await inSlices(dataOf(said));
+        const trouble = troubleIn(said),
+            data = trouble || !said.report ? null : await inSlices(dataOf(said));
         if (mine === this.number) this.say("");
         return mine === this.number ? { ...said, trouble, data } : null;
     }
@@ -115,7 +119,8 @@ function troubleIn({ isStart, error, name, fault }, thread = runner) {
     if (isStart) return `This browser can't run the program: ${error}. ${INSTEAD}`;
     if (error === "out of memory" || name === "RangeError") return `out of memory. ${INSTEAD}`;
     if (name === "RuntimeError" || name === "InternalError") {
-        return `The program stopped, since its stack or its memory was overrun (${error}). ${INSTEAD}`;
+        return `The program stopped, since its stack or its memory was overrun (${error}). `
+            + INSTEAD;
     }
     return `The page has a fault (${name}: ${error}). Please report this.`;
 }
@@ -138,11 +143,14 @@ function clear(text = "") {
     hide();
 }
 
-// Takes files: levels, answers and lists of solutions, which the thread tells apart, after the ones of
-// drops before that it hasn't told apart yet.
+// Takes files: levels, answers and lists of solutions, which the thread tells apart, after the ones
+// of drops before that it hasn't told apart yet.
 async function take(files) {
     if (!files.length) return;
-    const drops = [...inputs.untold, [...files]], asked = run.ask("Reading the files", "sort", { drops }), made = [];
+    // what is dropped isn't for the example
+    if (document.body.classList.contains("welcome")) clear();
+    const drops = [...inputs.untold, [...files]],
+        asked = run.ask("Reading the files", "sort", { drops }), made = [];
     inputs.untold = drops;
     const said = await asked;
     if (!said) return;
@@ -157,12 +165,15 @@ async function take(files) {
         return;
     }
     await audit();
-    if (made.length) $("notes").append(` Left out, since they were made from the levels: ${few(made)}.`);
+    fold();
+    if (made.length) $("notes").append(
+        ` Left out, since they were made from the levels: ${few(made)}.`);
 }
 
 // audits what is there, and shows the result
 async function audit() {
     hide();
+    kept.pair = null;
     $("several").hidden = !inputs.pairs.length;
     $("each").replaceChildren();
     if (inputs.pairs.length) return auditPairs();
@@ -177,11 +188,13 @@ async function audit() {
     return result;
 }
 
-const textsOf = ({ levels, answers, names, slices, said }) => ({ levels, answers, names, slices, said });
+const textsOf = ({ levels, answers, names, slices, said }) =>
+    ({ levels, answers, names, slices, said });
 
 // looks for certificates
 async function make() {
-    const { pair } = kept, result = await run.ask("Looking for certificates", "make", textsOf(kept));
+    const { pair } = kept, result =
+        await run.ask("Looking for certificates", "make", textsOf(kept));
     if (!result) return;
     if (pair) pair.result = result;
     showResult(result, true);
@@ -195,7 +208,8 @@ async function auditPairs() {
     const { pairs } = inputs;
     for (const pair of pairs) pair.result = null;
     for (const [i, pair] of pairs.entries()) {
-        const result = await run.ask(`File ${i + 1} of ${pairs.length}`, "audit", inputs.sources(pair));
+        const result = await run.ask(`File ${i + 1} of ${pairs.length}`, "audit",
+            inputs.sources(pair));
         if (!result) break;
         pair.result = result;
         tellTotals(i + 1 < pairs.length);
@@ -208,10 +222,12 @@ async function auditPairs() {
 // the files that are done: first those without a report, and those with the most open levels
 function worstFirst(pairs) {
     const open = ({ result: { trouble, report } }) => {
-        const { refused, missing } = trouble ? { refused: Infinity, missing: 0 } : countsIn(totalIn(report));
+        const { refused, missing } = trouble ? { refused: Infinity, missing: 0 }
+            : countsIn(totalIn(report));
         return refused + missing;
     };
-    return pairs.filter(({ result }) => result).sort((one, other) => Number(open(other) > open(one)) - Number(open(other) < open(one)));
+    return pairs.filter(({ result }) => result).sort((one, other) =>
+        Number(open(other) > open(one)) - Number(open(other) < open(one)));
 }
 
 function showPair(pair) {
@@ -219,8 +235,8 @@ function showPair(pair) {
     showResult(pair.result);
 }
 
-// Shows the sum of several files and what became of each. While others run, none can be clicked, since
-// a click would end what runs.
+// Shows the sum of several files and what became of each. While others run, none can be clicked,
+// since a click would end what runs.
 function tellTotals(areRunning = false) {
     const done = worstFirst(inputs.pairs), sum = {};
     for (const { result } of done) {
@@ -233,17 +249,28 @@ function tellTotals(areRunning = false) {
         const unread = said.filter(({ isNote }) => !isNote).length;
         const button = html("button", { onclick: () => showPair(pair) }, name);
         button.disabled = areRunning;
-        return html("li", {}, button, " ", ...trouble ? [trouble] : totalWords(countsIn(totalIn(report))),
+        return html("li", {}, button, " ",
+            ...trouble ? [trouble] : totalWords(countsIn(totalIn(report))),
             unread ? `, ${many(unread, "remark")}` : "");
     }));
 }
 
 // ---- what the user does
 
-// Folds the form once the text in it is audited, so that the result comes first. A user who typed on
-// meanwhile stays in the field.
+// says that the result is of a former text
+function spoil() {
+    if (!$("result").hidden) $("why").textContent = "What is shown is of the text before.";
+    $("result").classList.add("stale");
+}
+
+// Folds the form once the text in it is audited, so that the result comes first. A user who typed
+// on meanwhile stays in the field.
 function fold() {
     if ($("result").hidden || $("result").classList.contains("stale")) return;
+    const files = (inputs.pairs.length ? inputs.pairs : [inputs]).flatMap(({ levels }) => levels
+        ?? []);
+    $("names").textContent = files.length ? few(files.map(({ name }) => name))
+        : "open this to change them";
     $("form").open = false;
     $("total").focus();
 }
@@ -252,7 +279,8 @@ function fold() {
 async function takeText(text) {
     const isLong = text.length > MOST_KEPT && !HEADER.test(text) && !INNER_HEADER.test(text);
     if (isLong) await take([new File([text], "levels")]);
-    else if (HEADER.test(text) && (inputs.levels || inputs.pairs.length)) await take([new File([text], "answers")]);
+    else if (HEADER.test(text) && (inputs.levels || inputs.pairs.length))
+        await take([new File([text], "answers")]);
     else {
         clear(text);
         await audit();
@@ -277,8 +305,9 @@ function listen() {
         if (!isText) take(data.files);
         else if (text.trim()) takeText(text);
     });
-    field.addEventListener("input", () => $("result").classList.add("stale"));
-    field.addEventListener("focus", () => document.body.classList.contains("welcome") && field.select());
+    field.addEventListener("input", spoil);
+    field.addEventListener("focus",
+        () => document.body.classList.contains("welcome") && field.select());
     for (const kind of ["levels", "answers"]) {
         $(`${kind}-file`).querySelector("button").addEventListener("click", () => {
             cancel();
@@ -286,7 +315,7 @@ function listen() {
             else if (kind === "levels") Object.assign(inputs, { levels: null, lists: [] });
             else inputs.answers = null;
             inputs.show();
-            $("result").classList.add("stale");
+            spoil();
             field.focus();
         });
     }
@@ -334,11 +363,13 @@ function listen() {
 function takeDrops() {
     addEventListener("dragover", event => {
         // a field takes a text itself
-        if (!event.dataTransfer.types.includes("Files") && event.target.closest?.("input, textarea")) return;
+        if (!event.dataTransfer.types.includes("Files")
+            && event.target.closest?.("input, textarea")) return;
         event.preventDefault();
         document.body.classList.add("dropping");
     });
-    for (const name of ["dragleave", "drop"]) addEventListener(name, () => document.body.classList.remove("dropping"));
+    for (const name of ["dragleave", "drop"])
+        addEventListener(name, () => document.body.classList.remove("dropping"));
     addEventListener("drop", event => {
         if (!event.dataTransfer.files.length) return;
         event.preventDefault();
@@ -352,7 +383,9 @@ async function openBeside(event) {
     if (!number || !isOther) return;
     event.preventDefault();
     const level = shownData.levels[number - 1];
-    window.open(await linkToLevel(level, shownData.records[number]));
+    const address = await linkToLevel(level, shownData.records[number]);
+    if (address) window.open(address);
+    else viewer.say("The level is too long for a link.");
 }
 
 function canRun() {
@@ -366,6 +399,10 @@ async function openLink() {
     if (!words) return false;
     const text = await unpacked(words).catch(() => "");
     clear(text);
+    if (!text) {
+        complain("The link is cut or broken: ask for it once more.");
+        return true;
+    }
     const result = await audit();
     fold();
     if (!result?.data) return true;
@@ -373,10 +410,27 @@ async function openLink() {
     return true;
 }
 
-// Shows the example to whoever opens the page, with a certificate for its unsolvable level. A text that
-// the browser kept over a reload is audited in its place.
+// keeps the text of the field for this tab, or returns what was kept; a browser may forbid both
+function keep() {
+    try {
+        sessionStorage.setItem(KEPT_AS, inputs.text === EXAMPLE ? "" : inputs.text);
+    } catch {}
+}
+function keptText() {
+    try {
+        return sessionStorage.getItem(KEPT_AS) ?? "";
+    } catch {
+        return "";
+    }
+}
+
+// Shows the example to whoever opens the page, with a certificate for its unsolvable level. A text
+// that was in the field before a reload, or before the browser went back here, is audited in its
+// place.
 async function welcome() {
     if (await openLink()) return;
+    const [{ type }] = performance.getEntriesByType("navigation");
+    if (type !== "navigate") $("levels").value = keptText();
     if (inputs.text.trim()) {
         await audit();
         fold();
@@ -391,4 +445,8 @@ async function welcome() {
 if (canRun()) {
     listen();
     addEventListener("pageshow", welcome, { once: true });
-} else complain(`This browser has no WebAssembly with vectors, which the program needs here. ${INSTEAD}`);
+    addEventListener("pagehide", keep);
+} else {
+    complain("This browser has no WebAssembly with vectors, which the program needs here. "
+        + INSTEAD);
+}

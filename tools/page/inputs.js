@@ -22,12 +22,15 @@ class Inputs {
         return HEADER.test(this.text) && !HAS_ROW.test(this.text);
     }
     get hasLevels() {
-        return Boolean(this.pairs.length || this.levels || this.text.trim() && !this.hasAnswersAlone);
+        return Boolean(this.pairs.length || this.levels || this.text.trim()
+            && !this.hasAnswersAlone);
     }
     // shows which files there are
     show() {
-        const { pairs, levels, answers, lists } = this, ofPairs = pairs.filter(it => it.answers).length;
-        const files = [levels, ...lists].filter(it => it), sized = it => `${it.name}, ${many(it.size, "byte")}`;
+        const { pairs, levels, answers, lists } = this,
+            ofPairs = pairs.filter(it => it.answers).length;
+        const files = [levels, ...lists].filter(it => it),
+            sized = it => `${it.name}, ${many(it.size, "byte")}`;
         const words = { levels: pairs.length ? many(pairs.length, "levels file")
             : files.length === 1 ? sized(files[0]) : files.map(({ name }) => name).join(", "),
         answers: ofPairs ? many(ofPairs, "answers file") : answers ? sized(answers) : "" };
@@ -43,19 +46,20 @@ class Inputs {
         $("several").hidden = true;
         this.show();
     }
-    // Puts a text into the field, without files. Ctrl+Z brings back what was there, unless that is so
-    // long that it takes the browser seconds to keep it.
+    // Puts a text into the field, without files. Ctrl+Z brings back what was there, unless that is
+    // so long that it takes the browser seconds to keep it.
     write(text) {
         this.remove();
         $("form").open = true;
         const field = $("levels");
         field.focus();
         field.select();
-        if (field.value.length <= MOST_KEPT) document.execCommand(text ? "insertText" : "delete", false, text);
+        if (field.value.length <= MOST_KEPT)
+            document.execCommand(text ? "insertText" : "delete", false, text);
         if (field.value !== text) field.value = text;
     }
-    // Takes the files of a drop by their kinds. Without levels they are for those that are there. Adds
-    // what was made from levels to a list, and returns why the files don't go together, or "".
+    // Takes the files of a drop by their kinds. Without levels they are for those that are there.
+    // Adds what was made from levels to a list, and returns why the files don't go together, or "".
     place(files, kinds, made) {
         // a file replaces the one of its name
         const others = former => former.filter(({ name }) => !files.some(it => it.name === name));
@@ -75,14 +79,16 @@ class Inputs {
             lists = [...lists, ...others(this.pairs[0].lists)];
         }
         const fault = levels.length > 1 || answers.length > 1
-            ? this.placePairs(levels, answers, lists) : this.placePair(levels[0], answers[0], lists);
+            ? this.placePairs(levels, answers, lists)
+                : this.placePair(levels[0], answers[0], lists);
         this.show();
         return fault;
     }
-    // Takes one file of levels and one of answers, or either. New levels drop the answers of others,
-    // but not those of the same file.
+    // Takes one file of levels and one of answers, or either. New levels drop the answers of
+    // others, but not those of the same file.
     placePair(levels, answers, lists) {
-        if (this.pairs.length || levels && this.hasLevels && levels.name !== this.levels?.name) this.remove();
+        const areOthers = levels && this.hasLevels && levels.name !== this.levels?.name;
+        if (this.pairs.length || areOthers) this.remove();
         if (levels) this.levels = levels;
         if (levels || lists.length) this.lists = lists;
         if (answers) this.answers = answers;
@@ -96,17 +102,19 @@ class Inputs {
         const twins = answers.map(it => answers.filter(isOf(it))).find(({ length }) => length > 1);
         if (twins) return `${twins[1].name}: ${twins[0].name} is for the same levels file.`;
         this.remove();
-        this.pairs = levels.map(file => ({ levels: file, lists, answers: answers.find(isOf(file)) ?? null }));
+        this.pairs = levels.map(file =>
+            ({ levels: file, lists, answers: answers.find(isOf(file)) ?? null }));
         return "";
     }
-    // What the thread is given: the files of a pair, or what is there; or null if there is nothing. The
-    // thread tells levels and answers in the text apart.
+    // What the thread is given: the files of a pair, or what is there; or null if there is nothing.
+    // The thread tells levels and answers in the text apart.
     sources({ levels, answers, lists } = this) {
         const text = this.pairs.length ? "" : this.text;
         // of a list alone it is said that it has no level
         if (!levels && !this.hasLevels) [levels = null, ...lists] = lists;
         if (!levels && !this.hasLevels) return null;
-        return { levels, answers, lists, text, names: [levels?.name ?? "levels", answers?.name ?? "answers"] };
+        return { levels, answers, lists, text,
+            names: [levels?.name ?? "levels", answers?.name ?? "answers"] };
     }
 }
 

@@ -1,44 +1,62 @@
-// Finds the letters of solutions in lines, and plays them on boards. Nothing here decides what counts: what is found is audited.
+// Finds the letters of solutions in lines, and plays them on boards. Nothing here decides what
+// counts: what is found is audited.
 
-const MOST_PLAYED = 1 << 20, MOST_STEPS = 1e8, MOST_PIECES = 2000, MOST_TRIES = 100, TRY = 20, LONG = 8;
+const MOST_PLAYED = 1 << 20, MOST_STEPS = 1e8, MOST_PIECES = 2000, MOST_TRIES = 100, TRY = 20,
+    LONG = 8;
 const LETTERS_ALONE = /^[0-9() \t,;.'"`*-]*[lurdLURD][lurdLURD0-9() \t,;.'"`*-]*$/;
 const BETWEEN = /[ \t,;.'"`*-]/g, LOOSE = /(?<![\w(])\d+(?=[ \t,;.'"`*-]|$)/g;
-const AMONG_WORDS = /(?<![\p{L}\p{N}])[0-9(]*[lurdLURD][lurdLURD0-9() \t,;.'"`*-]*(?![\p{L}\p{N}])/gu;
-const IS_HEAD = new RegExp("solution|lurd\\s*[:=;#([\\d]|\\bmoves(?:\\s*#?\\d+)?(?:\\s*[:=]|\\s+is\\b)\\s*[lurd]|answer\\s*[:=]|\\bsoln?\\b|l(?:\u00f6|oe)sung|soluci|solu[c\u00e7]"
-    + "|soluzione|oplossing|l\u00f6sning|\u0440\u0435\u0448\u0435\u043d\u0438|\u7b54\u6848|\u89e3", "i");
-const IS_PLAIN_HEAD = new RegExp("^\\W*(?:(?:best|shortest|optimal|first|second|my|moves?|push(?:es)?) )*"
+const AMONG_WORDS =
+    /(?<![\p{L}\p{N}])[0-9(]*[lurdLURD][lurdLURD0-9() \t,;.'"`*-]*(?![\p{L}\p{N}])/gu;
+const IS_HEAD = new RegExp(
+    "solution|lurd\\s*[:=;#([\\d]|\\bmoves(?:\\s*#?\\d+)?(?:\\s*[:=]|\\s+is\\b)\\s*[lurd]"
+    + "|answer\\s*[:=]|\\bsoln?\\b|l(?:\u00f6|oe)sung|soluci|solu[c\u00e7]|soluzione|oplossing"
+    + "|l\u00f6sning|\u0440\u0435\u0448\u0435\u043d\u0438|\u7b54\u6848|\u89e3", "i");
+const IS_PLAIN_HEAD = new RegExp(
+    "^\\W*(?:(?:best|shortest|optimal|first|second|my|moves?|push(?:es)?) )*"
     + "(?:solution(?![A-Za-z])|lurd(?=\\s*[:=]))\\s*(?:$|[:=/([#\\-\\d\\]})])", "i");
 const IS_SAVED = /^\W*(?:snap\s?shot|saved?(?:\s?game)?|session|reverse|undo|history)(?![a-z])/i;
-const IS_REMARK = /solution\s+(?:comment|date|author|time)s?\s*[:=]/i, IS_TITLE = /^\W*title\s*[:=]/i;
-const ARROWS = { "\u2190": "l", "\u2191": "u", "\u2192": "r", "\u2193": "d" }, IS_ODD = /[\u2190-\u2193\uff01-\uff5e]/;
-// other names of the four steps: the keys of a number pad, the points of the compass, and the keys of many games
+const IS_REMARK = /solution\s+(?:comment|date|author|time)s?\s*[:=]/i,
+    IS_TITLE = /^\W*title\s*[:=]/i;
+const ARROWS = { "\u2190": "l", "\u2191": "u", "\u2192": "r", "\u2193": "d" },
+    IS_ODD = /[\u2190-\u2193\uff01-\uff5e]/;
+// other names of the four steps: the keys of a number pad, the points of the compass, and the keys
+// of many games
 const ALPHABETS = [
-    { words: "the keys of a number pad", letters: { 8: "u", 2: "d", 4: "l", 6: "r" }, are: /^[2468][2468\s,;.-]*$/ },
-    { words: "points of the compass", letters: { n: "u", s: "d", w: "l", e: "r" }, are: /^[nsew][nsew\s,;.-]*$/i },
-    { words: "the keys W, A, S and D", letters: { w: "u", s: "d", a: "l", d: "r" }, are: /^[wasd][wasd\s,;.-]*$/i },
+    { words: "the keys of a number pad", letters: { 8: "u", 2: "d", 4: "l", 6: "r" },
+        are: /^[2468][2468\s,;.-]*$/ },
+    { words: "points of the compass", letters: { n: "u", s: "d", w: "l", e: "r" },
+        are: /^[nsew][nsew\s,;.-]*$/i },
+    { words: "the keys W, A, S and D", letters: { w: "u", s: "d", a: "l", d: "r" },
+        are: /^[wasd][wasd\s,;.-]*$/i },
 ];
 
 // The letters of a line without what may be between them, or beside them as numbers and brackets.
 function packed(text) {
-    const whole = text.replace(/^\W*LURD\W+(?=\w)/i, "").replace(LOOSE, " ").replace(/\([\s\d]*$/, "").replace(BETWEEN, "");
-    return expanded(whole, MOST_PLAYED) ?? (/[()]/.test(whole) ? whole.replace(/[()]/g, "") : whole);
+    const whole = text.replace(/^\W*LURD\W+(?=\w)/i, "").replace(LOOSE, " ").replace(/\([\s\d]*$/,
+        "").replace(BETWEEN, "");
+    return expanded(whole, MOST_PLAYED)
+        ?? (/[()]/.test(whole) ? whole.replace(/[()]/g, "") : whole);
 }
 
 // The steps of a line in another alphabet, or null: { piece, words }.
 function stepsIn(text) {
     const found = ALPHABETS.find(({ are }) => are.test(text));
-    return found ? { words: found.words, piece: [...text.toLowerCase()].map(it => found.letters[it] ?? "").join("") } : null;
+    return found ? { words: found.words,
+        piece: [...text.toLowerCase()].map(it => found.letters[it] ?? "").join("") } : null;
 }
 
 // a line without tags, but with what their attributes say, and without a number in front
 const bareLine = line => line.length > LONGEST_LINE ? line
-    : narrow(untagged(line.replace(/<[^<>]*>/g, tag => `${tag} ${(tag.match(/"[^"]*"/g) ?? []).join(" ")} `)))
-        .replace(/[\u2190-\u2193]/g, it => ARROWS[it]).replace(/^[>;\s|]*(?:[[(]?\d+[.):\]]\s+)?/, "");
+    : narrow(untagged(line.replace(/<[^<>]*>/g,
+        tag => `${tag} ${(tag.match(/"[^"]*"/g) ?? []).join(" ")} `)))
+        .replace(/[\u2190-\u2193]/g, it => ARROWS[it]).replace(/^[>;\s|]*(?:[[(]?\d+[.):\]]\s+)?/,
+            "");
 
-// The groups of letters in some lines. Each is { part, number, pieces, front, heading, isHeaded, isSaved, isWords, odd }: its first line; its
-// letters line by line, with `isNew` after a blank line; the letters at the end of the words above; the line of its heading; and whether it
-// is below a heading, in a saved game, or among other words. `odd` says which unusual letters it has. A heading without letters is a group
-// without any.
+// The groups of letters in some lines. Each is { part, number, pieces, front, heading, isHeaded,
+// isSaved, isWords, odd }: its first line; its letters line by line, with `isNew` after a blank
+// line; the letters at the end of the words above; the line of its heading; and whether it is below
+// a heading, in a saved game, or among other words. `odd` says which unusual letters it has. A
+// heading without letters is a group without any.
 class Groups {
     found = [];
     open = null;
@@ -55,45 +73,62 @@ class Groups {
             return;
         }
         const bare = bareLine(line), odd = IS_ODD.test(line) ? "arrows or wide characters" : "";
-        const other = LETTERS_ALONE.test(bare) ? { piece: packed(bare), words: odd } : stepsIn(bare.trim());
+        const other = LETTERS_ALONE.test(bare) ? { piece: packed(bare), words: odd }
+            : stepsIn(bare.trim());
         // short words of other alphabets are words, unless they are where a solution is expected
-        const areSteps = other && (other.words === odd || other.piece.length >= LONG || this.head && !this.head.isUsed || this.open?.odd === other.words);
+        const areSteps = other && (other.words === odd || other.piece.length >= LONG || this.head
+            && !this.head.isUsed || this.open?.odd === other.words);
         if (areSteps) this.addLetters(number, other);
         else this.addWords(number, bare, odd);
         this.blanks = 0;
     }
     addLetters(number, { piece, words: odd }) {
-        if (this.open && (this.open.pieces.length >= MOST_PIECES || this.open.odd !== odd)) this.open = null;
+        if (this.open && (this.open.pieces.length >= MOST_PIECES || this.open.odd !== odd))
+            this.open = null;
         if (!this.open) {
             const { head, front } = this;
-            this.open = { part: this.part, number, pieces: [], front, heading: head?.line, isSaved: Boolean(head?.isSaved), odd,
-                isHeaded: Boolean(head && !head.isSaved && (!head.isUsed || front?.number === head.number)) };
+            this.open = { part: this.part, number, pieces: [], front, heading: head?.line,
+                isSaved: Boolean(head?.isSaved), odd,
+                isHeaded: Boolean(head && !head.isSaved
+                    && (!head.isUsed || front?.number === head.number)) };
             this.found.push(this.open);
             this.front = null;
             if (head) this.head = { ...head, isUsed: true };
         }
-        this.open.pieces.push({ number, piece, line: this.line, isNew: this.blanks > 0 && this.open.pieces.length > 0 });
+        this.open.pieces.push({ number, piece, line: this.line,
+            isNew: this.blanks > 0 && this.open.pieces.length > 0 });
     }
     addWords(number, line, odd) {
-        const isRemark = IS_REMARK.test(line), isHead = IS_HEAD.test(line) && !isRemark, isSaved = IS_SAVED.test(line);
+        const isRemark = IS_REMARK.test(line), isHead = IS_HEAD.test(line) && !isRemark,
+            isSaved = IS_SAVED.test(line);
         const other = isHead ? stepsIn(/[^:=]*$/.exec(line)[0].trim()) : null;
-        const some = line.length > LONGEST_LINE ? [] : [...line.replace(/\blurd\b(?=\s*[:=]|\W*\w)/i, " ").matchAll(AMONG_WORDS)]
+        const some = line.length > LONGEST_LINE ? []
+            : [...line.replace(/\blurd\b(?=\s*[:=]|\W*\w)/i, " ").matchAll(AMONG_WORDS)]
             .map(it => packed(it[0])).filter(it => /[lurd]/i.test(it));
         this.open = null;
-        if (isHead || isSaved || this.head?.isUsed || !isRemark && !/^[\w -]{1,30}[:=]/.test(line)) {
+        if (isHead || isSaved || this.head?.isUsed || !isRemark
+            && !/^[\w -]{1,30}[:=]/.test(line)) {
             this.endHead();
-            this.head = isHead || isSaved ? { number, line: this.line, isSaved, isUsed: some.length > 0 || other !== null,
+            this.head = isHead || isSaved
+                ? { number, line: this.line, isSaved, isUsed: some.length > 0 || other !== null,
                 isPlain: IS_PLAIN_HEAD.test(line) && !isRemark } : null;
         }
-        const isFront = some.length && line.replace(/[\s,.'"`*\\-]+$/, "").endsWith(some.at(-1).slice(-1));
-        this.front = isFront ? { number, piece: some.at(-1), line: this.line, isFront, isHead } : null;
-        const group = { part: this.part, number, front: null, isHeaded: isHead && /[:=]/.test(line), isSaved: Boolean(this.head?.isSaved), isWords: true,
+        const isFront = some.length
+            && line.replace(/[\s,.'"`*\\-]+$/, "").endsWith(some.at(-1).slice(-1));
+        this.front = isFront ? { number, piece: some.at(-1), line: this.line, isFront, isHead }
+            : null;
+        const group = { part: this.part, number, front: null, isHeaded: isHead && /[:=]/.test(line),
+            isSaved: Boolean(this.head?.isSaved), isWords: true,
             isTitle: IS_TITLE.test(line) };
-        for (const piece of new Set(some)) this.found.push({ ...group, pieces: [{ number, piece, line: this.line }], odd });
-        if (other) this.found.push({ ...group, pieces: [{ number, piece: other.piece, line: this.line }], odd: other.words });
+        for (const piece of new Set(some))
+            this.found.push({ ...group, pieces: [{ number, piece, line: this.line }], odd });
+        if (other) this.found.push({ ...group,
+            pieces: [{ number, piece: other.piece, line: this.line }], odd: other.words });
     }
     endHead() {
-        if (this.head?.isPlain && !this.head.isUsed) this.found.push({ number: this.head.number, pieces: [], isHeaded: true, part: this.part });
+        if (this.head?.isPlain && !this.head.isUsed)
+            this.found.push({ number: this.head.number, pieces: [], isHeaded: true,
+            part: this.part });
     }
     end() {
         this.endHead();
@@ -108,8 +143,10 @@ function groupsIn(lines) {
     return groups.end();
 }
 
-// What isn't read in a level text that is read as it is, since answers were given with it: whether a line is of a solution, or a row in another form.
-const isOfSolution = line => IS_PLAIN_HEAD.test(line) || LETTERS_ALONE.test(line) && (line.length > LONGEST_LINE || packed(line).length >= LONG);
+// What isn't read in a level text that is read as it is, since answers were given with it: whether
+// a line is of a solution, or a row in another form.
+const isOfSolution = line => IS_PLAIN_HEAD.test(line) || LETTERS_ALONE.test(line)
+    && (line.length > LONGEST_LINE || packed(line).length >= LONG);
 const isOtherRow = line => !isRow(line) && rowIn(line) !== null;
 
 // The first of each run of such lines.
@@ -134,13 +171,15 @@ let steps = 0;
 function boardToTry(rows) {
     const isLarge = rows.length > MOST_SIDE || rows.some(({ length }) => length > MOST_SIDE);
     const board = new Board(isLarge ? [] : rows), { length } = board.players;
-    const fault = isLarge ? "the level is too large" : length === 1 ? "" : `the level has ${many(length, "player")}`;
+    const fault = isLarge ? "the level is too large" : length === 1 ? ""
+        : `the level has ${many(length, "player")}`;
     return Object.assign(board, { fault, start: board.state() });
 }
 
-// Plays letters, given as bytes, on a board as far as they can be played, whatever their case. The board
-// is left as it was. Returns how many were played, how many boxes aren't on goals then, and why the next
-// letter can't be played. The lists get the pushes, and after how many letters all boxes are on goals.
+// Plays letters, given as bytes, on a board as far as they can be played, whatever their case. The
+// board is left as it was. Returns how many were played, how many boxes aren't on goals then, and
+// why the next letter can't be played. The lists get the pushes, and after how many letters all
+// boxes are on goals.
 function tryOn(board, letters, pushes, ends) {
     board.play(letters, letters.length, false, pushes, ends);
     const { at, off, why } = board;
@@ -158,8 +197,9 @@ function solves(board, letters) {
     return at === letters.length && !off;
 }
 
-// Plays letters on a board. Returns why they don't solve it, or "", the number of moves and of pushes,
-// the letters each in the case that its step has, and after how many of them all boxes are on goals.
+// Plays letters on a board. Returns why they don't solve it, or "", the number of moves and of
+// pushes, the letters each in the case that its step has, and after how many of them all boxes are
+// on goals.
 function played(board, text) {
     const letters = expanded(text, MOST_PLAYED), pushes = [], ends = [];
     const none = board.fault || (letters === null || letters.length > MOST_PLAYED
@@ -170,10 +210,12 @@ function played(board, text) {
     let why = off ? `it leaves ${off === 1 ? "a box" : `${off} boxes`} off the goals` : "";
     if (at < letters.length) why = `letter ${at + 1}, ${letters[at]}: ${stop}`;
     for (let i = 0; i < pushes.length; i += 3) made[pushes[i]] = made[pushes[i]].toUpperCase();
-    return { why, ends, moves: at, pushes: pushes.length / 3, letters: made.join("") + letters.slice(at) };
+    return { why, ends, moves: at, pushes: pushes.length / 3,
+        letters: made.join("") + letters.slice(at) };
 }
 
-// The solution that the first pieces are: those up to a blank line, or as few as solve. Its count is 0 if they are none.
+// The solution that the first pieces are: those up to a blank line, or as few as solve. Its count
+// is 0 if they are none.
 function firstSolution(pieces, board) {
     const whole = played(board, joined(pieces)), ends = new Set(whole.ends);
     if (!whole.why) return { solution: whole, count: pieces.length };
@@ -196,17 +238,21 @@ const NOT_TRIED = { letters: "", ends: [], why: "not tried, after too many other
 function solutionsIn({ pieces, front }, board) {
     const found = [], failed = [];
     // the end of other words than a heading counts only if nothing else solves
-    let left = front && (front.isHead || steps >= MOST_STEPS || !firstSolution(pieces, board).count) ? [front, ...pieces] : pieces;
+    let left = front && (front.isHead || steps >= MOST_STEPS || !firstSolution(pieces, board).count)
+        ? [front, ...pieces] : pieces;
     for (let tries = 0; left.length; tries++) {
         const isTried = tries < MOST_TRIES && steps < MOST_STEPS, [{ number, isFront }] = left;
-        const { solution, count } = isTried ? firstSolution(left, board) : { solution: NOT_TRIED, count: 0 };
+        const { solution, count } = isTried ? firstSolution(left, board)
+            : { solution: NOT_TRIED, count: 0 };
         if (count) {
-            found.push({ solution, number, isFront, lines: left.slice(0, count).map(({ line }) => line) });
+            found.push({ solution, number, isFront,
+                lines: left.slice(0, count).map(({ line }) => line) });
             left = left.slice(count);
         } else if (isFront) {
             left = left.slice(1);
         } else {
-            const next = left.findIndex(({ isNew }, i) => i && isNew), rest = next < 0 ? left.length : next;
+            const next = left.findIndex(({ isNew }, i) => i && isNew),
+                rest = next < 0 ? left.length : next;
             failed.push({ solution, number, pieces: left.slice(0, rest) });
             left = left.slice(rest);
         }

@@ -4,7 +4,8 @@
 const LINK = /^#(\d*)(?::([\w-]+))?=([\w-]+)$/, LONGEST_LINK = 100000;
 
 async function piped(bytes, stream) {
-    return new Uint8Array(await new Response(new Blob([bytes]).stream().pipeThrough(stream)).arrayBuffer());
+    return new Uint8Array(await new Response(
+        new Blob([bytes]).stream().pipeThrough(stream)).arrayBuffer());
 }
 
 async function packed(text) {
@@ -19,7 +20,8 @@ async function unpacked(words) {
 
 // a link that opens two texts; "" if it would be too long for a browser
 async function linkOf(levels, answers, address = "#") {
-    const link = `${location.href.replace(/#.*/s, "")}${address}=${await packed(`${levels}\n${answers}`)}`;
+    const page = location.href.replace(/#.*/s, ""), words = await packed(`${levels}\n${answers}`);
+    const link = `${page}${address}=${words}`;
     return link.length > LONGEST_LINK ? "" : link;
 }
 

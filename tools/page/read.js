@@ -1,14 +1,19 @@
-// Reads what players keep: levels in many forms of rows, and the letters of their solutions wherever they stand. It makes plain rows, and
-// tries letters by playing them: on the level above, on the one below, and on every level without a solution. Nothing here decides what
-// counts. The program audits what is made here, and what is drawn is judged once more.
+// Reads what players keep: levels in many forms of rows, and the letters of their solutions
+// wherever they stand. It makes plain rows, and tries letters by playing them: on the level above,
+// on the one below, and on every level without a solution. Nothing here decides what counts. The
+// program audits what is made here, and what is drawn is judged once more.
 
-const placeOf = (parts, part, number) => [parts.length > 1 || !number ? part.name : "", number ? `line ${number}` : ""].join(" ").trim();
+const placeOf = (parts, part, number) =>
+    [parts.length > 1 || !number ? part.name : "", number ? `line ${number}` : ""].join(" ").trim();
 
-// The two texts that parts are made into. `said` is what was read with a change, or not at all: { place, words, isNote }.
+// The two texts that parts are made into. `said` is what was read with a change, or not at all: {
+// place, words, isNote }.
 class Reading {
     constructor(parts, spansOf, tell) {
-        // of each line of the made level text, what it is made of: { part, number }, and { line } if it is no row
-        Object.assign(this, { parts, tell, lines: [], from: [], beside: [], said: [], isChanged: false });
+        // of each line of the made level text, what it is made of: { part, number }, and { line }
+        // if it is no row
+        Object.assign(this, { parts, tell, lines: [], from: [], beside: [], said: [],
+            isChanged: false });
         for (const [p, part] of parts.entries()) {
             tell(`Looking for rows in ${part.name}`);
             findRows(part);
@@ -24,7 +29,8 @@ class Reading {
         this.chosen = this.levels.map(() => []);
         this.isSolved = new Uint8Array(this.levels.length);
         steps = 0;
-        this.places = this.levels.map(({ line, at, end }) => ({ first: line - 1, end: line - 1 + linesOf(this.text.slice(at, end)).length }));
+        this.places = this.levels.map(({ line, at, end }) =>
+            ({ first: line - 1, end: line - 1 + linesOf(this.text.slice(at, end)).length }));
     }
     say(part, number, words, isNote = false) {
         this.said.push({ place: placeOf(this.parts, part, number), words, isNote });
@@ -37,7 +43,8 @@ class Reading {
         const it = { part, number };
         if (isLeftOut) this.isChanged = true;
         if (isLeftOut) return;
-        if (starts && this.lines.length && isRow(this.lines.at(-1))) this.put("", it), this.isChanged = true;
+        if (starts && this.lines.length && isRow(this.lines.at(-1)))
+            this.put("", it), this.isChanged = true;
         const named = row ? null : TITLE_LINE.exec(line);
         const made = row?.rows ?? [named ? `Title: ${named[2]}` : isRow(line) ? `; ${line}` : line];
         // the line that opens a list of rows is no title
@@ -49,13 +56,16 @@ class Reading {
             this.beside.push({ ...it, line: row.rest, words: row.words });
             this.put(isRow(row.rest) ? `; ${row.rest}` : row.rest, this.beside.at(-1));
         }
-        if (row?.kind === "beside") part.faults.push({ number, words: "what is beside the row was left out", isNote: true });
+        if (row?.kind === "beside")
+            part.faults.push({ number, words: "what is beside the row was left out",
+            isNote: true });
     }
     partOf(i) {
         return this.from[this.places[i].first].part;
     }
     boardAt(i) {
-        return this.boards[i] ??= boardToTry(this.lines.slice(this.places[i].first, this.places[i].end));
+        return this.boards[i] ??= boardToTry(
+            this.lines.slice(this.places[i].first, this.places[i].end));
     }
     add(i, ...some) {
         this.chosen[i].push(...some);
@@ -74,9 +84,11 @@ class Reading {
         const loose = [], { places, from, levels } = this;
         for (let i = -1; i < levels.length; i++) {
             this.tell(`Trying the letters of level ${i + 1} of ${levels.length}`);
-            const gap = from.slice(i < 0 ? 0 : places[i].end, places[i + 1]?.first).filter(it => it?.line !== undefined);
+            const gap = from.slice(i < 0 ? 0 : places[i].end,
+                places[i + 1]?.first).filter(it => it?.line !== undefined);
             const left = [], heads = [];
-            for (const group of groupsIn(gap)) for (const it of this.tryGroup(i, group, left, heads)) left.push(it);
+            for (const group of groupsIn(gap))
+                for (const it of this.tryGroup(i, group, left, heads)) left.push(it);
             for (const { part, number } of this.chosen[i]?.length === 0 ? heads : []) {
                 this.say(part, number, "a heading of a solution without letters that are read");
             }
@@ -87,16 +99,21 @@ class Reading {
     // Tries a group of letters on the level above it. Returns those that don't solve it.
     tryGroup(i, group, left, heads) {
         const { isHeaded, isSaved, isWords, isTitle, pieces, number, part, odd, heading } = group;
-        const none = { found: [], failed: [{ number, pieces, solution: { letters: "", why: "no level is above" } }] };
+        const none = { found: [],
+            failed: [{ number, pieces, solution: { letters: "", why: "no level is above" } }] };
         const { found, failed } = i < 0 ? none : solutionsIn(group, this.boardAt(i));
         if (i >= 0) this.add(i, ...found.map(it => ({ ...it, part, isSaved })));
         while (found[0]?.isFront && left.at(-1)?.number === group.front.number) left.pop();
-        this.use([heading, ...found.flatMap(({ lines }) => lines)].filter(it => it && found.length));
+        this.use([heading, ...found.flatMap(({ lines }) => lines)].filter(it => it
+            && found.length));
         if (!pieces.length) heads.push(group);
         if (found.length && odd) this.say(part, number, `${odd} were read as letters`, true);
-        if (found.length && isTitle) this.say(part, number, `the title has letters that solve level ${i + 1}, and was taken as its solution too`, true);
+        if (found.length && isTitle)
+            this.say(part, number, `the title has letters that solve level ${i + 1}, and `
+                + "was taken as its solution too", true);
         const most = (isWords ? 1.5 : 1) * LONG;
-        return failed.filter(it => it.pieces.length).map(it => ({ ...it, part, level: i, isWords, odd,
+        return failed.filter(it => it.pieces.length).map(it =>
+            ({ ...it, part, level: i, isWords, odd,
             isSure: !isSaved && (isHeaded || joined(it.pieces).length >= most) }));
     }
     // Tries all letters below a level as one solution, which remarks may part.
@@ -109,16 +126,20 @@ class Reading {
         this.use(alone.flatMap(({ pieces }) => pieces.map(({ line }) => line)));
         return true;
     }
-    // Tries letters, whole and line by line, on the level below and on all that have no solution. If they solve none and are meant for the
-    // level above, it gets them, and the report says what is wrong with them.
+    // Tries letters, whole and line by line, on the level below and on all that have no solution.
+    // If they solve none and are meant for the level above, it gets them, and the report says what
+    // is wrong with them.
     tryElsewhere(it) {
-        const whole = { number: it.number, piece: joined(it.pieces) }, above = this.chosen[it.level];
+        const whole = { number: it.number, piece: joined(it.pieces) },
+            above = this.chosen[it.level];
         let isPlaced = false;
         for (const some of it.pieces.length > 1 ? [whole, ...it.pieces] : [whole]) {
             if (it.isWords && !it.isSure && some.piece.length < 3) continue;
             for (const i of this.solvedBy(some.piece, it.level, some === whole)) {
-                this.add(i, { solution: played(this.boardAt(i), some.piece), number: some.number, part: it.part });
-                if (it.part === this.partOf(Math.max(0, it.level))) this.say(it.part, some.number, `letters that solve level ${i + 1}`, true);
+                this.add(i, { solution: played(this.boardAt(i), some.piece), number: some.number,
+                    part: it.part });
+                if (it.part === this.partOf(Math.max(0, it.level)))
+                    this.say(it.part, some.number, `letters that solve level ${i + 1}`, true);
                 isPlaced = true;
             }
             if (isPlaced) this.use((some === whole ? it.pieces : [some]).map(({ line }) => line));
@@ -126,13 +147,17 @@ class Reading {
         }
         if (!it.isSure || isPlaced) return;
         if (above && !above.length && it.solution.letters) above.push(it);
-        this.say(it.part, it.number, `letters that solve no level${steps < MOST_STEPS ? "" : " of those tried"}: ${it.solution.why}`);
+        this.say(it.part, it.number,
+            `letters that solve no level${steps < MOST_STEPS ? "" : " of those tried"}: `
+            + it.solution.why);
     }
-    // The levels without a solution that a piece solves: the one below first, and the one above only if it wasn't tried yet.
+    // The levels without a solution that a piece solves: the one below first, and the one above
+    // only if it wasn't tried yet.
     solvedBy(piece, above, isTried) {
         const letters = expanded(piece, MOST_PLAYED), found = [];
         if (letters === null || letters.length > MOST_PLAYED || steps >= MOST_STEPS) return found;
-        const bytes = bytesOf(letters), isNew = i => i < this.levels.length && !this.isSolved[i] && solves(this.boardAt(i), bytes);
+        const bytes = bytesOf(letters), isNew = i => i < this.levels.length && !this.isSolved[i]
+            && solves(this.boardAt(i), bytes);
         if (isNew(above + 1)) found.push(above + 1);
         for (const i of this.unsolved()) {
             if (i === above + 1 || i === above && isTried) continue;
@@ -143,7 +168,8 @@ class Reading {
     }
     // the levels without a solution
     unsolved() {
-        if (!this.open || this.open.some(i => this.isSolved[i])) this.open = (this.open ?? [...this.levels.keys()]).filter(i => !this.isSolved[i]);
+        if (!this.open || this.open.some(i => this.isSolved[i]))
+            this.open = (this.open ?? [...this.levels.keys()]).filter(i => !this.isSolved[i]);
         return this.open;
     }
 
@@ -154,54 +180,69 @@ class Reading {
         const records = [];
         this.taken = 0;
         for (const [i, some] of this.chosen.entries()) {
-            const solving = some.filter(({ solution }) => !solution.why), own = solving.filter(({ isSaved }) => !isSaved);
-            const best = (own.length ? own : solving).reduce((a, b) => isShorter(b.solution, a.solution) ? b : a, solving[0]) ?? some[0];
+            const solving = some.filter(({ solution }) => !solution.why),
+                own = solving.filter(({ isSaved }) => !isSaved);
+            const best = (own.length ? own : solving).reduce((a, b) =>
+                isShorter(b.solution, a.solution) ? b : a, solving[0]) ?? some[0];
             if (!best) continue;
-            const others = [...new Map(own.map(it => [it.solution.letters, it])).values()].filter(it => it.solution.letters !== best.solution.letters);
-            records.push(`level ${i + 1}`, "solution", ...best.solution.letters.match(/.{1,70}/gs), "end");
+            const others = [...new Map(own.map(it => [it.solution.letters, it])).values()].filter(
+                it => it.solution.letters !== best.solution.letters);
+            records.push(`level ${i + 1}`, "solution", ...best.solution.letters.match(/.{1,70}/gs),
+                "end");
             this.taken += solving.length > 0;
-            if (others.length) this.say(best.part, best.number, `the best solution of level ${i + 1}, ${best.solution.moves} moves, is taken; left out: `
+            if (others.length) this.say(best.part, best.number,
+                `the best solution of level ${i + 1}, ${best.solution.moves} moves, is taken; left `
+                + "out: "
                 + few(others.map(it => `line ${it.number}, ${it.solution.moves} moves`)), true);
         }
         return ["sokoban-answers 1", ...records, ""].join("\n");
     }
-    // Says in which lines words beside rows were no title, no letters that solve the level, and no names of a program.
+    // Says in which lines words beside rows were no title, no letters that solve the level, and no
+    // names of a program.
     sayBeside() {
         const numbers = new Map(this.parts.map(part => [part, []]));
         for (const { part, number, words, isUsed } of this.beside) {
-            if (/[\p{L}#]/u.test(isUsed ? words.replace(AMONG_WORDS, "") : words)) numbers.get(part).push(number);
+            if (/[\p{L}#]/u.test(isUsed ? words.replace(AMONG_WORDS, "") : words))
+                numbers.get(part).push(number);
         }
         for (const [part, some] of numbers) {
             const place = `${this.parts.length > 1 ? `${part.name} ` : ""}${fewOf("line", some)}`;
-            if (some.length) this.said.push({ place, words: "what is beside the rows is read as text", isNote: true });
+            if (some.length) this.said.push(
+                { place, words: "what is beside the rows is read as text", isNote: true });
         }
     }
     // Whether the bytes of the only part are the level text as they are.
     isSame() {
         const [{ isAlone, encoding, text }] = this.parts;
-        return this.parts.length === 1 && isAlone && !this.isChanged && /^(?:|windows-1252)$/.test(encoding) && !isXml(text)
+        return this.parts.length === 1 && isAlone && !this.isChanged
+            && /^(?:|windows-1252)$/.test(encoding) && !isXml(text)
             && !/\r(?!\n)|[\v\f\x85\u2028\u2029\ufeff]/.test(text);
     }
     result() {
         for (const i of this.levels.keys()) {
-            const { boxes, off } = this.boardAt(i), { part, number } = this.from[this.places[i].first];
-            if (boxes.length && !off) this.say(part, number, `level ${i + 1} is solved as it stands`, true);
+            const { boxes, off } = this.boardAt(i),
+                { part, number } = this.from[this.places[i].first];
+            if (boxes.length && !off)
+                this.say(part, number, `level ${i + 1} is solved as it stands`, true);
         }
         this.sayBeside();
         const answers = this.answers(), isSame = this.isSame(), isOne = this.parts.length === 1;
-        if (this.isUsed) this.levels = levelsIn(this.text, this.spans, number => this.from[number - 1]?.isUsed);
+        if (this.isUsed) this.levels =
+            levelsIn(this.text, this.spans, number => this.from[number - 1]?.isUsed);
         for (const [i, level] of this.levels.entries()) {
             const { number, part } = this.from[this.places[i].first];
             Object.assign(level, { line: number, file: isOne ? undefined : part.name });
         }
-        return { text: this.text, levels: this.levels, answers, isSame, taken: this.taken, said: this.said };
+        return { text: this.text, levels: this.levels, answers, isSame, taken: this.taken,
+            said: this.said };
     }
 }
 
 const isShorter = (a, b) => (a.moves - b.moves || a.pushes - b.pushes) < 0;
 
-// Reads parts: the made level text with its levels as levelsIn gives them, but for the first line in the file and the file's name; the made
-// answers; and what is to be said. If the bytes of the only part need no change, `isSame` is true. `spansOf` is the program's.
+// Reads parts: the made level text with its levels as levelsIn gives them, but for the first line
+// in the file and the file's name; the made answers; and what is to be said. If the bytes of the
+// only part need no change, `isSame` is true. `spansOf` is the program's.
 function readParts(parts, spansOf, tell = () => {}) {
     const reading = new Reading(parts, spansOf, tell);
     for (const it of reading.tryBelow()) reading.tryElsewhere(it);

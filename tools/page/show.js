@@ -6,10 +6,11 @@ const kept = {};
 let viewer = null, of = 0;
 
 const totalIn = report => report.slice(report.lastIndexOf("\n", report.length - 2) + 1).trimEnd();
-const STATES = { solved: "solved", unsolvable: "proved unsolvable", refused: "refused", missing: "without an answer" };
+const STATES = { solved: "solved", unsolvable: "proved unsolvable", refused: "refused",
+    missing: "without an answer" };
 
-// The numbers of a last line as they are read: "3 levels: 1 solved, 2 refused". Each has its colour,
-// and zeros are left out.
+// The numbers of a last line as they are read: "3 levels: 1 solved, 2 refused". Each has its
+// colour, and zeros are left out.
 function totalWords({ total, ...counts }) {
     const parts = Object.entries(STATES).filter(([status]) => counts[status])
         .map(([status, words]) => html("span", { class: status }, `${counts[status]} ${words}`));
@@ -34,7 +35,8 @@ function tellAll(said) {
 
 // Shows a result. If its levels are those that are shown, the open one stays open.
 function show(result, areSame) {
-    const { names, totals, notes, report, status, took, data } = Object.assign(kept, { table: null }, result);
+    const { names, totals, notes, report, status, took, data } =
+        Object.assign(kept, { table: null }, result);
     globalThis.shownData = data;
     $("total").replaceChildren(...inputs.pairs.length ? [`${names[0]}: `] : [],
         ...totalWords(countsIn(totalIn(report))));
@@ -55,9 +57,11 @@ function draw(address) {
     viewer?.close();
     of = Math.max(of + 1, Date.now());
     history.replaceState({ of }, "", location.href.replace(/#.*/s, "") + address);
-    viewer = mount($("view"), shownData, { judge: judged, deadSquares, linkOf: linkToLevel, explain, of,
+    viewer = mount($("view"), shownData,
+        { judge: judged, deadSquares, linkOf: linkToLevel, explain, of,
         heading: false, title: "sokoaudit",
-        unanswered: "There is no answer for this level. 'Prove unsolvable levels' tries to prove that it has none; "
+        unanswered: "There is no answer for this level. 'Prove unsolvable levels' tries to prove "
+            + "that it has none; "
             + "'sokotool find' looks for one." });
 }
 
@@ -88,13 +92,15 @@ async function deadSquares(rows) {
 // a link that opens a level of the result as it is shown
 function linkToLevel(level, record, at) {
     const head = /^[^\n\r]*/.exec(textOf(kept.answers.subarray(0, 64)))[0];
-    return linkOf(textOfLevel(level), answersOf(record, head), at === undefined ? "#1" : `#1:${at}`);
+    return linkOf(textOfLevel(level), answersOf(record, head),
+        at === undefined ? "#1" : `#1:${at}`);
 }
 
 // copies a link that opens all levels of the result
 async function copyLink(button) {
     const isShort = kept.levels.length + kept.answers.length < 10 * MOST_KEPT;
-    const [levels, answers] = [kept.levels, kept.answers].map(bytes => new TextDecoder().decode(bytes));
+    const [levels, answers] =
+        [kept.levels, kept.answers].map(bytes => new TextDecoder().decode(bytes));
     const link = isShort ? await linkOf(levels, answers) : "";
     if (link) await copy(link, button);
     else button.textContent = "too long for a link: save the page";
@@ -106,7 +112,8 @@ async function showTable() {
         ? inputs.pairs.flatMap(({ result }) => result?.data ? [result] : []) : [kept];
     if (!place.open || kept.table) return;
     const rows = kept.table = await inSlices(tableRows(results));
-    const button = html("button", { id: "save-csv", onclick: () => save("csv", new Blob([csvOf(rows)])) }, "Save as CSV");
+    const button = html("button",
+        { id: "save-csv", onclick: () => save("csv", new Blob([csvOf(rows)])) }, "Save as CSV");
     place.replaceChildren(place.querySelector("summary"), button, ...tableOf(rows, row => {
         if (row.result !== kept && row.result.data !== kept.data) show(row.result, false);
         viewer.go(row.number);
@@ -126,7 +133,8 @@ function save(what, blob, name = kept.names[0]) {
 // Saves the page of the result: the viewer around its data, with the program that judges.
 async function savePage() {
     const scriptOf = (id, type = "") => `<script id="${id}"${type}>${$(id).textContent}<\/script>`;
-    const plain = " type=\"text/plain\"", more = ["wasm", "texts", "thread"].map(id => scriptOf(id, plain));
+    const plain = " type=\"text/plain\"",
+        more = ["wasm", "texts", "thread"].map(id => scriptOf(id, plain));
     const [above, between, below] = JSON.parse($("saved").textContent);
     const scripts = [scriptOf("game"), scriptOf("viewer"), ...more, scriptOf("threads")].join("\n");
     const parts = [above, `${between}${scripts}\n${below}`], result = textsOf(kept);

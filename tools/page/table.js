@@ -1,8 +1,9 @@
 // A table of levels: of one result, or of several files. Its heads sort it, and it is saved as CSV.
 
-const COLUMNS = ["file", "level", "title", "width", "height", "boxes", "moves", "pushes", "status", "reason"];
+const COLUMNS = ["file", "level", "title", "width", "height", "boxes", "moves", "pushes", "status",
+    "reason"];
 // how many rows are shown, and how many levels are read between two pauses
-const MOST_ROWS_SHOWN = 500, READ_AT_ONCE = 200;
+const MOST_ROWS_SHOWN = 200, READ_AT_ONCE = 100;
 
 // The rows of the table for the levels of some results. Pauses often.
 function* tableRows(results) {
@@ -12,7 +13,8 @@ function* tableRows(results) {
         for (const [i, { number, title, rows: board, file }] of data.levels.entries()) {
             const { status, words } = data.verdicts[number], isSolved = status === "solved";
             const boxes = board.reduce((sum, row) => sum + row.split(/[$*]/).length - 1, 0);
-            rows.push({ result, number, cells: [file ? `${names[0]} ${file}` : names[0], number, title,
+            rows.push({ result, number,
+                cells: [file ? `${names[0]} ${file}` : names[0], number, title,
                 Math.max(...board.map(row => row.length)), board.length, boxes,
                 isSolved ? Number(words[1]) : "", isSolved ? Number(words[3]) : "", status,
                 isSolved || status === "missing" ? "" : words.join(" ")] });
@@ -40,11 +42,15 @@ const csvOf = rows => [COLUMNS, ...rows.map(({ cells }) => cells)]
 function tableOf(rows, open) {
     const body = html("tbody"), more = html("p", { class: "more" });
     const fill = () => {
-        body.replaceChildren(...rows.slice(0, MOST_ROWS_SHOWN).map(row => html("tr", { class: row.cells[8] },
-            ...row.cells.map((value, i) => html("td", typeof value === "number" ? { class: "number" } : {},
-                i === 1 ? html("button", { onclick: () => open(row) }, String(value)) : String(value))))));
+        body.replaceChildren(...rows.slice(0,
+            MOST_ROWS_SHOWN).map(row => html("tr", { class: row.cells[8] },
+            ...row.cells.map((value, i) =>
+                html("td", typeof value === "number" ? { class: "number" } : {},
+                i === 1 ? html("button", { onclick: () => open(row) }, String(value))
+                    : String(value))))));
         more.textContent = rows.length > MOST_ROWS_SHOWN
-            ? `The first ${MOST_ROWS_SHOWN} of ${rows.length} are shown. The CSV file has all.` : "";
+            ? `The first ${MOST_ROWS_SHOWN} of ${rows.length} are shown. The CSV file has all.`
+                : "";
     };
     const heads = COLUMNS.map((name, i) => html("th", { scope: "col" }, html("button", { onclick() {
         const head = heads[i], isUp = head.ariaSort !== "ascending";
@@ -54,6 +60,7 @@ function tableOf(rows, open) {
         fill();
     } }, name)));
     fill();
-    return [html("div", { class: "wide", tabindex: 0, role: "group", "aria-label": "Table of levels" },
+    return [html("div", { class: "wide", tabindex: 0, role: "group",
+        "aria-label": "Table of levels" },
         html("table", {}, html("thead", {}, html("tr", {}, ...heads)), body)), more];
 }

@@ -1,6 +1,7 @@
-// Reads the two texts for the page: titles, and lines to draw. Where the levels and the records are, the program says. Nothing here decides
-// what counts: that is the report, and a level that is opened is judged once more from what is drawn. A text is a string with one character
-// for each byte, and a span of it is { at, end }.
+// Reads the two texts for the page: titles, and lines to draw. Where the levels and the records
+// are, the program says. Nothing here decides what counts: that is the report, and a level that is
+// opened is judged once more from what is drawn. A text is a string with one character for each
+// byte, and a span of it is { at, end }.
 
 const MOST_BYTES = 33554432, MOST_SIDE = 255, MOST_TITLE = 1000, MOST_CACHED = 100000;
 
@@ -12,7 +13,8 @@ const inLines = row => new RegExp(`(?:^(?:${MARK})?|\\n)(?:${row})(?:\\r?\\n|$)`
 const HAS_ROW = inLines(ROW);
 const isRow = line => IS_ROW.test(line);
 // how answers begin, alone and within a text
-const HEADER = new RegExp(`^(?:${MARK})?sokoban-answers`), INNER_HEADER = /\nsokoban-answers [12]\r?\n/;
+const HEADER = new RegExp(`^(?:${MARK})?sokoban-answers`),
+    INNER_HEADER = /\nsokoban-answers [12]\r?\n/;
 
 function textOf(bytes) {
     const parts = [];
@@ -32,8 +34,8 @@ const isBlank = line => !/[^ \t\n\r\v\f]/.test(line);
 const isBlankByte = byte => byte === 32 || byte >= 9 && byte <= 13;
 
 // calls a function with each line of a text, its number, where it begins and the next one, and 1. A
-// CR before an LF belongs to the end of the line. If blank lines are joined, those in a row are given
-// as one, with their count, because a text may have millions
+// CR before an LF belongs to the end of the line. If blank lines are joined, those in a row are
+// given as one, with their count, because a text may have millions
 function eachLine(text, does, at = 0, areBlanksJoined = false) {
     for (let number = 1, count = 1; at < text.length; number += count) {
         const found = text.indexOf("\n", at);
@@ -54,10 +56,13 @@ function eachLine(text, does, at = 0, areBlanksJoined = false) {
 const few = numbers => numbers.slice(0, 12).join(", ") + (numbers.length > 12 ? ", .." : "");
 const fewOf = (one, numbers) => `${one}${numbers.length > 1 ? "s" : ""} ${few(numbers)}`;
 
-// The names of files that `sokotool check` wrote beside a collection and its answers. Its memory shows that it did.
+// The names of files that `sokotool check` wrote beside a collection and its answers. Its memory
+// shows that it did.
 function copiesIn(names) {
-    const kept = names.flatMap(it => /^(.*\.)memory$/.exec(it)?.[1] ?? []).filter(it => names.includes(`${it}xsb`));
-    return names.filter(it => kept.some(base => it.startsWith(base) && !/^(?:xsb|answers)$/.test(it.slice(base.length))));
+    const kept = names.flatMap(it => /^(.*\.)memory$/.exec(it)?.[1]
+        ?? []).filter(it => names.includes(`${it}xsb`));
+    return names.filter(it =>
+        kept.some(base => it.startsWith(base) && !/^(?:xsb|answers)$/.test(it.slice(base.length))));
 }
 
 function linesOf(text) {
@@ -69,18 +74,21 @@ function linesOf(text) {
 // ---- titles, by the rules of sokotool's levels.py
 
 const utf8 = words => textOf(new TextEncoder().encode(words));
-const SPACE = "[ \\t\\n\\r\\v\\f]", COLON = "[ \\t]*(?::|\\xef\\xbc\\x9a)", EQUALS = "[ \\t]*(?:=|:|\\xef\\xbc\\x9a)";
+const SPACE = "[ \\t\\n\\r\\v\\f]", COLON = "[ \\t]*(?::|\\xef\\xbc\\x9a)",
+    EQUALS = "[ \\t]*(?:=|:|\\xef\\xbc\\x9a)";
 const NAMES_OF_TITLES = utf8("titel|titre|titolo|t\u00edtulo|titulo|tytu\u0142|name|nom|nome|level|"
     + "(?:\u043d|\u041d)\u0430\u0437\u0432\u0430\u043d\u0438\u0435|\u6807\u9898|\u6a19\u984c|"
     + "\u30bf\u30a4\u30c8\u30eb");
 const keyed = keys => new RegExp(`^(?:[-*>]|${SPACE})*(?:${keys})${EQUALS}[ \\t]*`);
 const TITLE = keyed("title"), NAME = keyed(NAMES_OF_TITLES);
 const KEY = new RegExp(`^(?:[-*>;#]|${SPACE})*[A-Za-z\\x80-\\xff-]+${COLON}`);
-const TAGS = /^(?:<\/?[A-Za-z][^<>]*>|\[\/?[A-Za-z]+(?:=[^\]]*)?\]|```.*|~~~.*|[^A-Za-z0-9\x80-\xff])*$/s;
+const TAGS =
+    /^(?:<\/?[A-Za-z][^<>]*>|\[\/?[A-Za-z]+(?:=[^\]]*)?\]|```.*|~~~.*|[^A-Za-z0-9\x80-\xff])*$/s;
 const MARKS = /<\/?[A-Za-z][^<>]*>|^#+[ \t]+/g;
 const AUTHOR = /^(?:by|author)\b/i;
 const ONLY_LETTERS = /^[lurdLURD0-9() \t]*$/, ONLY_DIGITS = /^[0-9 \t]*$/;
-const SOLUTION = new RegExp(`^\\W*(?:[A-Za-z'\\x80-\\xff]+${SPACE}+){0,2}solution\\b(?:[^:=]*[:=]|\\W*[0-9(])`, "i");
+const SOLUTION = new RegExp(
+    `^\\W*(?:[A-Za-z'\\x80-\\xff]+${SPACE}+){0,2}solution\\b(?:[^:=]*[:=]|\\W*[0-9(])`, "i");
 // The flag i would take \xe3 for \xc3 in the bytes of UTF-8.
 const lowered = line => line.replace(/[A-Z]+/g, letters => letters.toLowerCase());
 const stripped = line => line.replace(/^[ \t\n\r\v\f]+|[ \t\n\r\v\f]+$/g, "");
@@ -167,12 +175,15 @@ const FILE = "; File: ";
 function sayingOf(line) {
     const isShort = line.length < MOST_TITLE, low = lowered(isShort ? line : "");
     const title = after(TITLE, line, low), name = title === null ? after(NAME, line, low) : null;
-    const isPlain = isShort && title === null && name === null, above = isPlain ? titleIn(line) : "";
-    return { title, name, above, isBlank: isBlank(line), isShort: isPlain && !above && !isBlank(line) && ONLY_LETTERS.test(line) };
+    const isPlain = isShort && title === null && name === null,
+        above = isPlain ? titleIn(line) : "";
+    return { title, name, above, isBlank: isBlank(line),
+        isShort: isPlain && !above && !isBlank(line) && ONLY_LETTERS.test(line) };
 }
 
-// The levels at these spans of a text: number, first line, title and span. Some lines, given by their numbers, are no titles without a key.
-// The text of each file that was read into this one counts by itself.
+// The levels at these spans of a text: number, first line, title and span. Some lines, given by
+// their numbers, are no titles without a key. The text of each file that was read into this one
+// counts by itself.
 function levelsIn(text, spans, isNoTitle = () => false) {
     const levels = [], sayings = new Map();
     let file = { levels: [], gaps: [new Gap(true)] };
@@ -194,7 +205,8 @@ function levelsIn(text, spans, isNoTitle = () => false) {
                 nameLevels(file);
                 file = { levels: [], gaps: [new Gap(false)] };
             }
-            if (title !== null || name !== null || !isNoTitle(number)) file.gaps.at(-1).add(line, count, saying);
+            if (title !== null || name !== null || !isNoTitle(number))
+                file.gaps.at(-1).add(line, count, saying);
         }
     }, start, true);
     nameLevels(file);
@@ -204,7 +216,8 @@ function levelsIn(text, spans, isNoTitle = () => false) {
 // Gives the levels of a file their titles, of the gaps above, between and below them.
 function nameLevels({ levels, gaps }) {
     const titles = gaps.map(gap => gap.keyed), last = titles.at(-1);
-    const areAbove = titles[0] && !last && (levels.length === 1 || titles.slice(1, -1).some(it => it));
+    const areAbove = titles[0] && !last
+        && (levels.length === 1 || titles.slice(1, -1).some(it => it));
     levels.forEach((level, i) => level.title = titles[areAbove ? i : i + 1] || gaps[i].plain);
 }
 
@@ -222,8 +235,8 @@ function rowsIn(bytes, { at, end }) {
 
 // ---- both texts in one
 
-// Parts a text into its levels, and its answers, or null. Answers begin with a header and end before
-// the levels that follow their last record. The last ones count.
+// Parts a text into its levels, and its answers, or null. Answers begin with a header and end
+// before the levels that follow their last record. The last ones count.
 function parted(text) {
     const levels = [], find = new RegExp(INNER_HEADER, "g");
     let answers = null, at = 0;
@@ -235,8 +248,10 @@ function parted(text) {
             begin = inner.index + 1;
         }
         find.lastIndex = begin;
-        const next = find.exec(text), block = text.slice(begin, next ? next.index + 1 : text.length);
-        const row = HAS_ROW.exec(block), end = row ? block.lastIndexOf("\nend\n", row.index + 1) : -1;
+        const next = find.exec(text),
+            block = text.slice(begin, next ? next.index + 1 : text.length);
+        const row = HAS_ROW.exec(block),
+            end = row ? block.lastIndexOf("\nend\n", row.index + 1) : -1;
         answers = end < 0 ? block : block.slice(0, end + 5);
         levels.push(text.slice(at, begin));
         at = begin + answers.length;
@@ -251,13 +266,15 @@ function parted(text) {
 // the lines of a body, which begins with this line: pairs of a line's number and the line
 function bodyIn(text, first) {
     const body = [];
-    eachLine(text, (line, number) => line && line[0] !== ";" && body.push([first + number - 1, line]));
+    eachLine(text, (line, number) => line && line[0] !== ";"
+        && body.push([first + number - 1, line]));
     return body;
 }
 
-// An answers text with made records put into it for the levels that have none: each after the record of the level before, so that what stands
-// between the old ones stays. A made zone raises a header of version 1, which changes what old records mean. The records of both texts are
-// those that the program found.
+// An answers text with made records put into it for the levels that have none: each after the
+// record of the level before, so that what stands between the old ones stays. A made zone raises a
+// header of version 1, which changes what old records mean. The records of both texts are those
+// that the program found.
 function mergedAnswers(text, records, made, found) {
     const parts = [], added = [];
     const start = text.indexOf("\n") + 1 || text.length, levels = [...records.keys()];
@@ -274,7 +291,8 @@ function mergedAnswers(text, records, made, found) {
         from = to;
         added.push(level);
     }
-    return { text: added.length ? head + parts.join("") + text.slice(from) : text, added, isRaised };
+    return { text: added.length ? head + parts.join("") + text.slice(from) : text, added,
+        isRaised };
 }
 
 // ---- the data of the viewer's page
@@ -310,8 +328,8 @@ class LevelData {
     }
 }
 
-// A record as the viewer reads it: its kind, the bytes of its body, the number of their first line, and their lines, which are made when they
-// are asked for.
+// A record as the viewer reads it: its kind, the bytes of its body, the number of their first line,
+// and their lines, which are made when they are asked for.
 class RecordData {
     #bytes;
     #span;
@@ -336,7 +354,8 @@ class RecordData {
 }
 
 const SLICE = 500, LONGEST_PIECE = 1 << 16;
-// The lines of a record in slices, so that no message is long to read. A long line of letters is cut into several with the same number.
+// The lines of a record in slices, so that no message is long to read. A long line of letters is
+// cut into several with the same number.
 function slicesOfBody(body, kind) {
     const slices = [];
     let left = 0;
@@ -352,11 +371,13 @@ function slicesOfBody(body, kind) {
     return slices;
 }
 
-// A result in slices, so that no message is long to read: some levels, the records of some, and the verdicts on some.
+// A result in slices, so that no message is long to read: some levels, the records of some, and the
+// verdicts on some.
 function slicesOf({ found, records, report }) {
     const all = [...records], verdicts = Object.entries(verdictsIn(report)), slices = [];
     for (let at = 0; at < Math.max(1, found.length); at += SLICE) {
-        slices.push({ found: found.slice(at, at + SLICE), records: all.slice(at, at + SLICE), verdicts: verdicts.slice(at, at + SLICE) });
+        slices.push({ found: found.slice(at, at + SLICE), records: all.slice(at, at + SLICE),
+            verdicts: verdicts.slice(at, at + SLICE) });
     }
     return slices;
 }
@@ -366,7 +387,8 @@ function* dataOf({ names, slices, levels, answers }) {
     const data = { names, fault: "", verdicts: {}, levels: [], records: {}, sources: {} };
     for (const { found, records, verdicts } of slices) {
         for (const it of found) data.levels.push(new LevelData(it, levels));
-        for (const [level, record] of records) data.records[level] = new RecordData(record, answers);
+        for (const [level, record] of records)
+            data.records[level] = new RecordData(record, answers);
         for (const [level, verdict] of verdicts) data.verdicts[level] = verdict;
         yield;
     }

@@ -1,5 +1,6 @@
 "use strict";
-// The program's threads. One works for what the user asks for, and one judges what is drawn, so that a level opens while a long run goes on.
+// The program's threads. One works for what the user asks for, and one judges what is drawn, so
+// that a level opens while a long run goes on.
 
 class Thread {
     worker = null;
@@ -13,8 +14,10 @@ class Thread {
         return this.waiting.size > 0;
     }
     start() {
-        const parts = ["game", "texts", "thread"].map(id => document.getElementById(id).textContent);
-        const worker = this.worker = new Worker(URL.createObjectURL(new Blob(parts, { type: "text/javascript" })));
+        const parts = ["game", "texts",
+            "thread"].map(id => document.getElementById(id).textContent);
+        const worker = this.worker =
+            new Worker(URL.createObjectURL(new Blob(parts, { type: "text/javascript" })));
         worker.onmessage = ({ data: { id, stage, slice, ...said } }) => {
             // nothing waits for what an ended thread says
             const waits = this.waiting.get(id);
@@ -26,7 +29,8 @@ class Thread {
         worker.onerror = event => {
             event.preventDefault();
             if (worker !== this.worker) return;
-            for (const id of this.waiting.keys()) this.answer(id, { error: event.message || "it didn't start" });
+            for (const id of this.waiting.keys())
+                this.answer(id, { error: event.message || "it didn't start" });
         };
         return this.send("start", { wasm: document.getElementById("wasm").textContent });
     }
@@ -39,7 +43,8 @@ class Thread {
         this.worker.postMessage({ id, task, ...words }, moved);
         return new Promise(resolve => this.waiting.set(id, { resolve, slices: [] }));
     }
-    // Asks for a task, for which some buffers are handed over. The answer is { isStopped } if the thread was ended before.
+    // Asks for a task, for which some buffers are handed over. The answer is { isStopped } if the
+    // thread was ended before.
     async ask(task, words, moved) {
         if (!this.worker) this.started = this.start();
         const said = this.send(task, words, moved), begun = await this.started;
@@ -66,12 +71,13 @@ async function copied(bytes) {
     return copy;
 }
 
-// The program's verdict on rows and a record as they are drawn: { line, body }, the words of the report after the level's number, or "" if there
-// is no verdict, and the lines of the record.
+// The program's verdict on rows and a record as they are drawn: { line, body }, the words of the
+// report after the level's number, or "" if there is no verdict, and the lines of the record.
 async function judged(rows, record) {
     // the page draws what it has first, since a record may be long
     await pause();
-    const { kind = "solution", bytes: all, line: first } = record ?? {}, bytes = all && await copied(all);
+    const { kind = "solution", bytes: all, line: first } = record ?? {},
+        bytes = all && await copied(all);
     const said = bytes ? await judge.ask("judged", { rows, kind, bytes, first }, [bytes.buffer])
         : await judge.ask("judged", { rows, kind, body: record?.body ?? [] });
     if (said.error) judge.stop();

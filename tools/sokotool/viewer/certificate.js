@@ -46,7 +46,8 @@ class PatternsView {
             button("next", "next pattern", () => this.step(1)),
             toStart), this.note, this.moves, html("p", { class: "key" }, LEGEND));
         const { board: { players, boxes } } = this;
-        this.startWork.run(this.certificate.covering(players[0] ?? -1, new Set(boxes)), start => start < 0
+        this.startWork.run(this.certificate.covering(players[0] ?? -1, new Set(boxes)),
+            start => start < 0
             || toStart.append(button("start position", undefined, () => this.show(start + 1))));
     }
     // draws a pattern, counted from 1, and the pushes out of it once they are found
@@ -104,7 +105,8 @@ class PatternsView {
     }
     show(to) {
         this.go(to);
-        this.viewer.settle(this.now, `Pattern ${this.now} of ${this.patterns.length}. ${this.note.textContent}`);
+        this.viewer.settle(this.now,
+            `Pattern ${this.now} of ${this.patterns.length}. ${this.note.textContent}`);
     }
     step(by) {
         this.show(this.now + by);

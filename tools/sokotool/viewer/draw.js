@@ -113,7 +113,8 @@ function outline({ width, height, stride, cells }) {
 const middle = (board, place) => [board.column(place) - .5, board.row(place) - .5];
 
 // what is drawn in a cell, from its middle: a ring, a box with its cross, a tick, a cross
-const disc = r => (x, y) => `M${x - r} ${y}a${r} ${r} 0 1 1 ${2 * r} 0a${r} ${r} 0 1 1 ${-2 * r} 0z`;
+const disc = r => (x, y) =>
+    `M${x - r} ${y}a${r} ${r} 0 1 1 ${2 * r} 0a${r} ${r} 0 1 1 ${-2 * r} 0z`;
 const square = (x, y) => `M${x} ${y}m-.34-.34h.68v.68h-.68z`;
 const crossed = (x, y) => `${square(x, y)}m.15.15l.38.38m0-.38l-.38.38`;
 const ticked = (x, y) => `M${x} ${y}m-.18 0l.14.15l.22-.28`;

@@ -34,8 +34,8 @@ const textOfLevel = ({ title, rows }) => `${rows.join("\n")}\n${title && `Title:
 const rowsToCopy = level => toCopy("the level, to copy", "rows of the level",
     () => textOfLevel(level), { wrap: "off", rows: Math.min(level.rows.length + 1, 20) });
 
-// What a viewer's judge says of a level as it is drawn: whether the verdict is the one of the report,
-// and words on that. Without a judge there are no words.
+// What a viewer's judge says of a level as it is drawn: whether the verdict is the one of the
+// report, and words on that. Without a judge there are no words.
 async function judgementOn({ hooks, data }, level) {
     const { rows, verdict: { status, words } } = level, record = data.records[level.number];
     const line = [status, ...words].join(" "), before = level.judged;
@@ -46,8 +46,8 @@ async function judgementOn({ hooks, data }, level) {
         || status === "missing" && !/^(?:refused board|fault)/.test(said.line);
     const parts = record ? `rows and ${record.kind === "solution" ? "letters" : "lines"}` : "rows";
     if (said.line && !isSame) {
-        return { fault: `Nothing is drawn: these ${parts} were judged by themselves, and the verdict`
-            + ` is '${said.line}'. Please report this.` };
+        return { fault: `Nothing is drawn: these ${parts} were judged by themselves, and the `
+            + `verdict is '${said.line}'. Please report this.` };
     }
     if (record) record.body = said.body;
     return level.judged = { rows, body: record?.body, isSame, words: said.line
@@ -71,7 +71,8 @@ class LevelPage {
     }
     get keys() {
         const { answer, viewer: { hooks } } = this;
-        return { ...answer.keys, ...hooks.deadSquares && this.isLegal && { d: () => this.toggle() } };
+        return { ...answer.keys,
+            ...hooks.deadSquares && this.isLegal && { d: () => this.toggle() } };
     }
     get isLegal() {
         return this.verdict.words[0] !== "board";
@@ -114,8 +115,8 @@ class LevelPage {
     links() {
         const { viewer, level, viewer: { hooks } } = this, { number } = level;
         const link = (to, words, name) => viewer.levels[to - 1] ? html("a",
-            { class: "button", href: `#${to}`, "aria-label": `${name} level, ${to}` }, ...words) : "";
-        const button = (words, act) => html("button", { onclick: event => act(event.target) }, words);
+            { class: "button", href: `#${to}`, "aria-label": `${name} level, ${to}` }, ...words)
+                : "";
         return html("nav", { "aria-label": "Levels" },
             html("a", { class: "button", href: "#" }, "all levels"),
             link(number - 1, ["\u2190", html("span", {}, " previous")], "previous"),
@@ -123,11 +124,20 @@ class LevelPage {
             hooks.deadSquares && this.isLegal ? this.deadButton = html("button", {
                 class: "show-dead", title: "key: d", "aria-pressed": String(Boolean(level.dead)),
                 onclick: () => this.toggle() }, "dead squares") : "",
-            hooks.linkOf ? button("copy link", async it =>
-                copy(await hooks.linkOf(level, this.record, this.answer.at), it)) : "",
-            button("copy level", it => copy(textOfLevel(level), it)),
             html("button", { class: "help", "aria-label": "keys",
                 onclick: () => viewer.showKeys() }, "?"));
+    }
+    // what hands the level on
+    copies() {
+        const { level, viewer: { hooks } } = this;
+        const button = (words, made) => html("button", { onclick: async ({ target }) => {
+            const text = await made();
+            if (text) copy(text, target);
+            else target.textContent = "too long for a link";
+        } }, words);
+        return html("p", { class: "controls" }, ...hooks.linkOf ? [button("Copy link",
+            () => hooks.linkOf(level, this.record, this.answer.at))] : [],
+        button("Copy level", () => textOfLevel(level)));
     }
     // draws the level, with words on how it was judged
     build({ words, isSame }) {
@@ -137,11 +147,12 @@ class LevelPage {
         this.picture = new Picture(this.board);
         this.pane.append(this.picture.element);
         const why = isSame && hooks.explain
-            ? [" ", html("button", { class: "why-proved", onclick: hooks.explain }, "What is proved?")]
+            ? [" ", html("button", { class: "why-proved", onclick: hooks.explain },
+                "What is proved?")]
             : [];
         element.replaceChildren(...this.head(), this.refusedLine(),
             ...words ? [html("p", { class: "judged" }, words, ...why)] : [],
-            html("div", { class: "two" }, this.pane, this.side), rowsToCopy(level));
+            html("div", { class: "two" }, this.pane, this.side), this.copies(), rowsToCopy(level));
         this.answer = this.answerOf();
         this.listen();
     }
@@ -166,8 +177,8 @@ class LevelPage {
         if (this.position) this.show(this.position);
         viewer.say(words);
     }
-    // A finger that is drawn aside leads to the next level or the one before. A tap or a click right
-    // or left of the player leads a letter on or back.
+    // A finger that is drawn aside leads to the next level or the one before. A tap or a click
+    // right or left of the player leads a letter on or back.
     listen() {
         const { pane, viewer, level } = this;
         let from = null;
@@ -182,7 +193,8 @@ class LevelPage {
             const dx = event.clientX - begun.clientX, dy = event.clientY - begun.clientY;
             if (event.pointerType !== "mouse" && Math.abs(dx) > SWIPE
                 && Math.abs(dx) > 2 * Math.abs(dy)) {
-                if (viewer.levels[level.number - 1 - Math.sign(dx)]) viewer.go(level.number - Math.sign(dx));
+                if (viewer.levels[level.number - 1 - Math.sign(dx)])
+                    viewer.go(level.number - Math.sign(dx));
             } else if (Math.hypot(dx, dy) < TAP && !event.target.closest(".arrow")) {
                 this.answer.tap?.(event.clientX);
             }
@@ -203,9 +215,11 @@ class LevelPage {
     answerOf() {
         const { record, verdict: { status, words } } = this;
         if (status === "refused" && words[0] === "board") {
-            return this.still(`The level is refused, so no answer is checked. ${this.sizeOf(words[1])}`);
+            return this.still("The level is refused, so no answer is checked. "
+                + this.sizeOf(words[1]));
         }
-        if (!record) return this.still(this.viewer.hooks.unanswered ?? "There is no answer for this level.");
+        if (!record) return this.still(this.viewer.hooks.unanswered
+            ?? "There is no answer for this level.");
         if (record.kind === "solution") return new SolutionView(this);
         const first = record.body.length ? certificateLine(record.body[0]) : {};
         if (first.zone) return zoneView(this, first);

@@ -7,7 +7,8 @@ const NO_VERDICT = { line: "not in the report", status: "missing", words: [] };
 // words as they are compared: in small letters, and an accent in one spelling
 const plain = words => words.normalize("NFKC").toLowerCase();
 // what a level is found by
-const wordsOf = level => level.words ??= plain(`${level.number} ${level.title} ${level.verdict.line}`);
+const wordsOf = level =>
+    level.words ??= plain(`${level.number} ${level.title} ${level.verdict.line}`);
 // a sentence on why a level or its answer is refused, or ""
 const whyOf = ({ verdict: { status, words } }) => status === "refused" ? refusalWords(words) : "";
 const boardOf = level => level.board ??= new Board(level.rows);
@@ -46,7 +47,8 @@ class Overview {
     previews = [];
     constructor(viewer) {
         const { levels } = viewer, isSmall = canPreview(levels);
-        Object.assign(this, { viewer, levels, found: levels, isSmall, card: isSmall ? LARGE_CARD : CARD });
+        Object.assign(this, { viewer, levels, found: levels, isSmall,
+            card: isSmall ? LARGE_CARD : CARD });
         this.nothing = html("p", { class: "nothing" }, "Nothing found.");
         this.element = html("section", { class: isSmall ? "overview large" : "overview",
             "aria-label": "Levels" }, this.nothing);
@@ -76,9 +78,11 @@ class Overview {
 
     // the number of columns, and the width and height of a card with its gap
     grid() {
-        const { card: { width: least, height, gap } } = this, width = this.element.clientWidth + gap;
+        const { card: { width: least, height, gap } } = this,
+            width = this.element.clientWidth + gap;
         const columns = Math.max(1, Math.floor(width / (least + gap)));
-        return { columns, width: this.isSmall ? Math.min(width / columns, 1.5 * least) : width / columns,
+        return { columns, width: this.isSmall ? Math.min(width / columns, 1.5 * least)
+            : width / columns,
             height: height + gap };
     }
     // the places of the cards in view and around the chosen one, in order
@@ -106,7 +110,8 @@ class Overview {
         if (all) undrawn.clear();
         places.reduceRight((next, i) => {
             const level = found[i], isNew = !level.card;
-            const card = level.card ??= makeCard(level, () => this.choose(level), this.preview(level));
+            const card = level.card ??= makeCard(level, () => this.choose(level),
+                this.preview(level));
             if (isNew) element.insertBefore(card, next);
             card.style.width = `${width - this.card.gap}px`;
             card.style.left = `${i % columns * width}px`;

@@ -29,7 +29,8 @@ class Preview {
     }
     // draws the level, once it is judged if there is a judge
     async begin() {
-        const { viewer, level, record, element } = this, { verdict } = level, board = boardOf(level);
+        const { viewer, level, record, element } = this, { verdict } = level,
+            board = boardOf(level);
         const judgement = viewer.hooks.judge ? await judgementOn(viewer, level) : {};
         if (this.isStopped || judgement.fault) return;
         this.picture = new Picture(board);
@@ -42,10 +43,12 @@ class Preview {
     // plays a solution from the start, or shows where it is refused
     play() {
         const { level: { rows, verdict }, record } = this;
-        if (record.body.reduce((sum, [, line]) => sum + line.length, 0) > MOST_PREVIEWED_LETTERS) return;
+        if (record.body.reduce((sum, [, line]) => sum + line.length, 0) > MOST_PREVIEWED_LETTERS)
+            return;
         const replay = this.replay = new Replay(rows, done(lettersOf(record.body)));
         const isStill = matchMedia("(prefers-reduced-motion: reduce)").matches;
-        if (verdict.status === "solved" && !isStill) this.timer = setTimeout(() => this.tick(), 4 * STEP);
+        if (verdict.status === "solved" && !isStill)
+            this.timer = setTimeout(() => this.tick(), 4 * STEP);
         if (verdict.status !== "refused") return;
         done(replay.seek(verdict.words[0] === "move" ? refusedAt(verdict) : replay.letters.length));
         this.picture.show(positionOf(replay, refusedAt(verdict)));
@@ -62,9 +65,11 @@ class Preview {
         if (first.zone) return zonePosition(board, zoneOf(board, first), null);
         const patterns = done(patternsIn(board, body)), start = new Set(board.boxes);
         const list = new Certificate(board, patterns), number = status === "unsolvable"
-            ? done(list.covering(board.player, start)) : patterns.findIndex(({ line }) => line === Number(words[1]));
+            ? done(list.covering(board.player, start))
+                : patterns.findIndex(({ line }) => line === Number(words[1]));
         const pattern = patterns[Math.max(0, number)];
-        if (!pattern || [...pattern.boxes].some(box => box < 0)) return { boxes: board.boxes, players: board.players };
+        if (!pattern || [...pattern.boxes].some(box => box < 0))
+            return { boxes: board.boxes, players: board.players };
         return { boxes: [...pattern.boxes], shade: pattern.region(), where: "",
             others: othersOf(board, pattern.boxes) };
     }

@@ -21,8 +21,7 @@ class SolutionView {
         const isOpen = !this.to && this.verdict.words[0] === "unsolved";
         const at = this.to === "end" || isOpen ? this.end
             : this.to ? Number(this.to) || 0 : Math.max(0, this.refusedAt);
-        this.render();
-        this.work.run(this.replay.seek(at), () => this.render());
+        if (!this.work.run(this.replay.seek(at), () => this.render())) this.render();
     }
     get at() {
         return this.replay?.at;
@@ -43,7 +42,8 @@ class SolutionView {
             button("previous", "previous letter", "arrow left", () => this.step(-1)), this.run,
             button("next", "next letter", "arrow right", () => this.step(1)),
             button("end", "end", "End", () => this.seek(this.end)),
-            html("label", {}, "speed ", this.speed)), this.note, this.letters, wholeOf(this.record.body));
+            html("label", {}, "speed ", this.speed)), this.note, this.letters,
+                wholeOf(this.record.body));
     }
     get keys() {
         if (!this.replay) return {};
@@ -150,7 +150,8 @@ function positionOf(replay, refused) {
 function wholeOf(body) {
     let length = 0;
     // a long line is cut into several with the same number
-    const some = body.filter(([, line]) => (length += line.length + 1) - line.length <= MOST_TO_COPY)
+    const some = body.filter(([, line]) =>
+        (length += line.length + 1) - line.length <= MOST_TO_COPY)
         .map(([number, line], i) => i && body[i - 1][0] !== number ? `\n${line}` : line);
     const words = length > MOST_TO_COPY ? "the first letters, to copy" : "all letters, to copy";
     return toCopy(words, "all letters", () => some.join("").slice(0, MOST_TO_COPY));

@@ -128,7 +128,8 @@ class Viewer {
     }
     get title() {
         const { level, data: { names }, hooks } = this;
-        return level ? `Level ${level.number} - ${names[0]}` : hooks.title ?? `${names[0]} - sokoaudit report`;
+        return level ? `Level ${level.number} - ${names[0]}` : hooks.title
+            ?? `${names[0]} - sokoaudit report`;
     }
     // goes to a level, or to the overview for 0
     go(number) {
@@ -159,7 +160,8 @@ class Viewer {
         this.help.showModal();
     }
     press(event) {
-        if (event.ctrlKey || event.metaKey || event.altKey || this.help.open || isTaken(event)) return;
+        if (event.ctrlKey || event.metaKey || event.altKey || this.help.open || isTaken(event))
+            return;
         const { target, key } = event, { level, page, overview } = this;
         const isText = target.matches?.("input:not([type=range]), textarea");
         const keys = {

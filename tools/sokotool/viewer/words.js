@@ -6,7 +6,8 @@ function sentencesOn(key) {
 }
 
 // the sentences on the words of a report line after 'refused', or ""
-const refusalWords = ([what, ...more]) => sentencesOn([what, ...more.filter(it => /^[a-z]{2,}$/.test(it))].join(" "));
+const refusalWords = ([what, ...more]) =>
+    sentencesOn([what, ...more.filter(it => /^[a-z]{2,}$/.test(it))].join(" "));
 
 // the sentences on a fault, or ""
 const faultWords = fault => sentencesOn(fault.replace(/ line \d+/, ""));
