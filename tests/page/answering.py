@@ -88,7 +88,7 @@ def large_texts(check: Comparison, tab: Tab) -> None:
     played = f"{INSIDE}.querySelector('[data-name=moves] b')?.textContent === '{MOST - 80}'"
     answers(check, tab, "33 million letters", give(
         tab, *files(b"#######\n#@ $ .#\n#######\n", letters), until=played))
-    press = (f"{INSIDE}.body.dispatchEvent(new KeyboardEvent("
+    press = ("document.body.dispatchEvent(new KeyboardEvent("
              "'keydown', { key: '%s', bubbles: true }))")
     answers(check, tab, "playing 33 million letters", show(
         tab, f"{press % 'Home'}; {press % 'End'}", played))
