@@ -55,7 +55,8 @@ def first_look(check: Comparison, tab: Tab) -> None:
             "[...$('total').children].map(it => getComputedStyle(it).color)"))))
         check.same("three pictures", True, tab.until(f"{PREVIEW}.length === 3"))
         solved = f"{PREVIEW}[0].getAttribute('aria-label')"
-        plays = tab.until(f"{solved}.includes('boxes on goals 2,3 6,4')", 6)
+        plays = tab.until(f"{solved}.includes('boxes on goals 2,3 6,4')",
+                          5 if motion == "reduce" else 60)
         check.same(f"the solution plays, motion: {motion}", motion != "reduce", plays)
         check.same("the certificate is of the box in the corner", "box 2,6; other box 4,3", tab.ask(
             f"{PREVIEW}[1].getAttribute('aria-label')"))

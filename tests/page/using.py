@@ -679,6 +679,7 @@ def stale(check: Comparison, tab: Tab) -> None:
     tab.ask("$('levels').dispatchEvent(new Event('input')); 0")
     is_pale = "$('result').classList.contains('stale')"
     check.same("an edited text leaves its result pale", True, tab.ask(is_pale))
+    check.same("and says so", "The result is of the text before your change.", tab.text("why"))
     tab.ask("make().then(() => 0)")
     check.same("so do certificates for the former text", True, tab.ask(is_pale))
     tab.ask("globalThis.ran = audit(); $('levels').dispatchEvent(new Event('input')); "

@@ -259,7 +259,7 @@ function tellTotals(areRunning = false) {
 
 // says that the result is of a former text
 function spoil() {
-    if (!$("result").hidden) $("why").textContent = "What is shown is of the text before.";
+    if (!$("result").hidden) $("why").textContent = "The result is of the text before your change.";
     $("result").classList.add("stale");
 }
 

@@ -60,9 +60,8 @@ function draw(address) {
     viewer = mount($("view"), shownData,
         { judge: judged, deadSquares, linkOf: linkToLevel, explain, of,
         heading: false, title: "sokoaudit",
-        unanswered: "There is no answer for this level. 'Prove unsolvable levels' tries to prove "
-            + "that it has none; "
-            + "'sokotool find' looks for one." });
+        unanswered: "There is no answer for this level. 'Prove unsolvable levels' looks for a "
+            + "proof that it has no solution; 'sokotool find' searches for either." });
 }
 
 // takes away what is shown of an earlier run

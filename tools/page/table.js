@@ -53,7 +53,7 @@ function tableOf(rows, open) {
                 : "";
     };
     const heads = COLUMNS.map((name, i) => html("th", { scope: "col" }, html("button", { onclick() {
-        const head = heads[i], isUp = head.ariaSort !== "ascending";
+        const head = heads[i], isUp = head.getAttribute("aria-sort") !== "ascending";
         for (const it of heads) it.removeAttribute("aria-sort");
         head.setAttribute("aria-sort", isUp ? "ascending" : "descending");
         rows.sort((one, other) => (isUp ? 1 : -1) * compared(one.cells[i], other.cells[i]));

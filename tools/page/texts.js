@@ -316,9 +316,6 @@ class LevelData {
         this.#bytes = bytes;
         this.#span = { at, end };
     }
-    copy() {
-        return new LevelData({ ...this, ...this.#span }, this.#bytes);
-    }
     get rows() {
         return this.#rows ??= rowsIn(this.#bytes, this.#span);
     }

@@ -25,7 +25,6 @@ class Board {
     // why the next letter can't be played, or ""
     why = "";
     constructor(rows) {
-        this.rows = rows;
         this.height = rows.length;
         this.width = rows.reduce((most, row) => Math.max(most, row.length), 0);
         this.stride = this.width + 2;
