@@ -1,12 +1,11 @@
 -- Blocks of characters as bits.
 -- To compare all lanes with a character gives one bit per lane, and an `or` of such bits tests for several characters. A table of 16 lanes
--- is read at the low four bits of each byte. The bits of a row's bytes, moved by one place in its first part, are the bits of its columns,
--- which count from 1.
-use Rattle.std.proofs.Common.{◌≡◌, ◌%◌, eqb, replicate, bit_and, map, w8, Fits, ℕ, ◌+◌, ◌-◌}
-use Rattle.std.proofs.Common.{◌*◌, ◌<◌, ◌≤◌, max, min, Bool, true, false, cond, ◌||◌, ◌==◌, List, length, take}
-use Rattle.std.proofs.Common.{get_or, refl, sym, ◌∙◌, ap, inl, inr, arith, get_or-take, length-take-le}
-use Rattle.std.proofs.lemmas.Bool.{agree_below, agree_below_at, cases_lt}
-use Rattle.std.proofs.lemmas.List.{get_or_default, get_or_past, length-map, get_or-map, ext_get_or}
+-- is read at the low four bits of each byte.
+use Rattle.std.proofs.Common.{◌≡◌, ◌%◌, eqb, replicate, bit_and, map, w8, Fits, ℕ}
+use Rattle.std.proofs.Common.{◌<◌, ◌≤◌, Bool, true, false, cond, ◌||◌, ◌==◌, List, length}
+use Rattle.std.proofs.Common.{get_or, refl, sym, ◌∙◌, ap, arith}
+use Rattle.std.proofs.lemmas.Bool.{agree_below, agree_below_at}
+use Rattle.std.proofs.lemmas.List.{get_or_past, length-map, get_or-map, ext_get_or}
 use Rattle.std.proofs.lemmas.Nat.{and_le_r}
 use Rattle.std.specs.Prelude.{◌^◌, nat_eq, bit_or}
 use Rattle.std.specs.Simd.Lanes.{mask_l, top, Each1}
@@ -16,8 +15,6 @@ use Rattle.std.proofs.lemmas.Simd.{length-zip2, zip2_splat, swz_l, SwzOk, SwzOk-
 use lib.Lanes.{zip2}
 use Rattle.cellset.specs.Bits.{bit}
 use Rattle.cellset.proofs.Bits.{bit-or}
-use Rattle.board.specs.Characters.{space}
-use Rattle.board.specs.Sketch.{IsWordOf, IsMaskOf}
 
 one_is : (b : Bool) → nat_eq (cond b 1 0) 1 ≡ b
 one_is true = refl
@@ -53,6 +50,15 @@ of_kind lane is_kind n block lanes most fits are agree k small =
     ∙ get_or-map (top 7) (map lane block) k 0 false (omega (arith, length-map block lane)) ∙ ap (top 7) (get_or-map lane block k 0 0 within)
     ∙ agree_below_at (λ b. top 7 (lane b)) is_kind 256 (get_or block k 0) agree (Each1-get_or (Fits w8) block k 0 within fits.1).fits
 
+-- past the lanes there is no bit
+pub past_lanes : (lane : ℕ → ℕ) (n : ℕ) (block lanes : List ℕ) → n ≤ 64 → length block ≡ n → lanes ≡ map lane block → (k : ℕ) → n ≤ k
+    → bit (mask_l (map (top 7) lanes) % 2 ^ 64) k ≡ false
+past_lanes lane n block lanes most long are k past =
+    let tops = map (top 7) (map lane block) in
+    let few : length tops ≤ 64 = omega (arith, length-map block lane, length-map (map lane block) (top 7)) in
+    ap (λ l. bit (mask_l (map (top 7) l) % 2 ^ 64) k) are ∙ ap (λ n. bit n k) (mask_l-mod tops 64 few) ∙ bit_of_lanes tops k
+    ∙ get_or_past tops k false (omega (arith, length-map block lane, length-map (map lane block) (top 7)))
+
 -- ---- a table of 16 lanes
 -- Places by the low four bits of bytes lie in the table.
 pub low_places : (v : List ℕ) → length v ≡ 16 → SwzOk w8 16 16 0 (zip2 bit_and v (replicate 16 15))
@@ -71,17 +77,3 @@ looked_up table v long =
     let within : i < length v = omega (arith, length-swz_l w8 16 table 0 (map low v), length-map v low) in
     let is = get_or-map low v i 0 0 within in
     grind (arith, get_or-swz_l_below, length-map, and_le_r, get_or-map))
-
--- ---- the columns of a row
--- the bits of a row's bytes, each at the place of its column, are the word of that part of the row
-pub columns_word : (is_kind : ℕ → Bool) → is_kind space ≡ false → (text : List ℕ) (len part from count bits word : ℕ)
-    → from ≡ max (64 * part) 1 - 1 → count ≡ len - from → from ≤ len → len ≤ length text → IsMaskOf is_kind (λ k. get_or text (from + k) 0) (min count 64) bits
-    → ((k : ℕ) → k < 1 - part → bit word k ≡ false) → ((k : ℕ) → k < count → k + (1 - part) < 64 → bit word (k + (1 - part)) ≡ bit bits k)
-    → ((k : ℕ) → count ≤ k → k + (1 - part) < 64 → bit word (k + (1 - part)) ≡ false) → IsWordOf is_kind (take len text) part word
-columns_word is_kind no_floor text len part from count bits word from_is count_is within long is lead inside past k small = elim (cases_lt k (1 - part)) [
-  | inl before ↦ grind arith
-  | inr at ↦
-      let j = k - (1 - part) in
-      let place : j + (1 - part) ≡ k = omega arith in
-      grind (arith, cases_lt, get_or_default, get_or_past, get_or-take, length-take-le)
-]

@@ -14,7 +14,7 @@ use Rattle.std.specs.FinSet as set
 use Rattle.std.specs.FinSet.{contains, contains-insert, contains-empty, contains-union, len-insert, len-empty}
 use Rattle.cellset.specs.Shape.{Extent}
 use Rattle.cellset.specs.Cell.{cell_at, cell_cmp}
-use Rattle.cellset.specs.CellSet.{Cells, Has, Lacks}
+use Rattle.cellset.specs.CellSet.{Cells, CellsOn, Has, Lacks}
 use Rattle.cellset.specs.RowBits.{row_cell, IsRowOn, cells_of_row}
 use Rattle.cellset.specs.declared.cell.Cell.{Cell}
 use Rattle.cellset.proofs.Members.{cells_total, same_cells, same, same_itself, same_or_other}
@@ -23,7 +23,7 @@ use Rattle.cellset.proofs.Truth.{left_true, right_true, or_cases}
 use Rattle.board.specs.Characters.{space}
 use Rattle.board.specs.Rows.{nth, character_at}
 use Rattle.board.specs.Legal.{count_of_kind}
-use Rattle.board.specs.Sketch.{ShowsKind, IsDrawn, IsSketchOf, IsWordOf}
+use Rattle.board.specs.Sketch.{HasRows, ShowsKind, IsDrawn, IsSketchOf, IsWordOf}
 use Rattle.board.specs.declared.sketch.Sketch.{Sketch}
 
 -- ---- places counted from 1
@@ -203,3 +203,19 @@ module _ {S : Type 0} (members : S → Cells) where
   pub sketch_none : (s : Sketch S) → members s.walls ≡ set.empty → members s.goals ≡ set.empty → members s.boxes ≡ set.empty → members s.room ≡ set.empty
       → IsSketchOf [] members s
   sketch_none s walls goals boxes players = search (drawn_none)
+
+-- a row's part is added to the sets, and its walls are taken from the floor
+pub rows_more : {S : Type 0} (extent : S → Extent) (members : S → Cells) (s : Sketch S) (none row : Cells) (walls goals boxes room : S) (floor : CellsOn)
+    → HasRows extent members s none → extent walls ≡ extent s.walls → extent goals ≡ extent s.goals → extent boxes ≡ extent s.boxes → extent room ≡ extent s.room
+    → members walls ≡ set.union (members s.walls) row → floor.extent ≡ s.floor.extent → ((q : Cell) → Has floor.members q ↔ (Has s.floor.members q × Lacks row q))
+    → HasRows extent members (record { shape = s.shape; walls = walls; goals = goals; boxes = boxes; room = room; floor = floor; region = s.region }) none
+rows_more extent members s none row walls goals boxes room floor was wall goal box player added same less = record {
+  wall = wall ∙ was.wall;
+  goal = goal ∙ was.goal;
+  box = box ∙ was.box;
+  player = player ∙ was.player;
+  floor_extent = same ∙ was.floor_extent;
+  floor = λ q. rw added (floor_less _ _ q (was.floor q) (less q));
+  region_extent = was.region_extent;
+  region = was.region;
+}

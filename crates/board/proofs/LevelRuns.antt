@@ -1,35 +1,30 @@
 -- The levels of a text, run by run.
--- The board lines that a text begins with are taken one by one: their bytes are cut off the text, and their number and the length of the
--- longest are kept. If a text is cut after the run that it begins with, its levels are that run, unless it has no line, and then the levels
+-- The board lines that a text begins with are taken one by one, and their number and the length of the longest are kept. If a text is cut after the run that it begins with, its levels are that run, unless it has no line, and then the levels
 -- of what follows the cut: the run is as long as it can be, because a line of text ends it or nothing follows. Each list of lines has a list
 -- of levels, by recursion from its end: a board line opens a run or goes on with the run that follows it. There is only one such list: the
 -- first run begins at the first board line and ends at the first line of text after that.
-use Rattle.std.proofs.Common.{◌≡◌, ℕ, zero, suc, ◌+◌, ◌-◌, ◌<◌, ◌≤◌, ◌==◌, true, false, List, [], ◌∷◌, ◌++◌, length, max, take, refl, sym, ◌∙◌, ap, subst, ⊎_elim, arith, length-append, append_assoc}
-use Rattle.std.specs.Prelude.{All, map}
+use Rattle.std.proofs.Common.{◌≡◌, ℕ, ◌+◌, ◌<◌, ◌≤◌, ◌==◌, true, List, [], ◌∷◌, ◌++◌, length, max, take, refl, sym, ◌∙◌, ap, subst, ⊎_elim, arith, length-append, append_assoc}
+use Rattle.std.specs.Prelude.{All}
 use Rattle.std.proofs.Math.Seq.{take-append_seam}
 use Rattle.std.proofs.lemmas.Bool.{cases_Bool, false≢true, eqb-true}
-use Rattle.std.proofs.lemmas.List.{append-nil, map-append, nil_from_length}
+use Rattle.std.proofs.lemmas.List.{nil_from_length}
 use Rattle.std.proofs.lemmas.List.Elements.{All-nil, All-cons, All-head, All-tail, All-append, All-push}
-use Rattle.bstr.specs.Text.{lines_of, without_terminator}
-use Rattle.lines.specs.Lines.{IsFirstLine, IsLineCut, lines_in}
-use Rattle.lines.proofs.Cuts.{cut_lines_in, cut_more, cut_none, first_alone, first_lines, first_shorter, first_some, lines_in-nil, more_lines, some_lines}
+use Rattle.lines.specs.Lines.{IsFirstLine, lines_in}
+use Rattle.lines.proofs.Cuts.{first_lines, first_shorter, lines_in-nil}
 use Rattle.board.specs.Levels.{is_board_line, IsBoardLine, IsText, IsRun, EndsRun, AreLevelsOf}
 use Rattle.board.specs.Rows.{width_of}
 use Rattle.board.specs.Cut.{IsCut}
 
 -- ---- the run that a text begins with
 
--- The text is cut after board lines, and these have this width and this height.
+-- The text begins with board lines, and these have this width and this height.
 pub record IsRunSoFar (text rest : List ℕ) (width height : ℕ) : Type 0 where
-  pub run : List ℕ
-  pub cut : IsLineCut text run rest
-  pub board : All IsBoardLine (lines_in run)
-  pub width_is : width ≡ width_of (lines_in run)
-  pub height_is : height ≡ length (lines_in run)
-  pub few : height ≤ length run
-
-pub run_none : (text : List ℕ) → IsRunSoFar text text 0 0
-run_none text = grind (arith, cut_none, lines_in-nil)
+  pub rows : List (List ℕ)
+  pub whole : lines_in text ≡ rows ++ lines_in rest
+  pub board : All IsBoardLine rows
+  pub width_is : width ≡ width_of rows
+  pub height_is : height ≡ length rows
+  pub few : height + length rest ≤ length text
 
 width_push : (rows : List (List ℕ)) (row : List ℕ) → width_of (rows ++ row ∷ []) ≡ max (length row) (width_of rows)
 width_push [] row = refl
@@ -39,45 +34,31 @@ width_push (r ∷ rows) row = grind (arith, width_push rows row)
 pub run_more : (text rest row after : List ℕ) (width height : ℕ) → IsRunSoFar text rest width height → IsFirstLine rest row after → IsBoardLine row
     → IsRunSoFar text after (max (length row) width) (height + 1)
 run_more text rest row after width height so_far first is =
-    let run = so_far.run in
-    let rows : lines_in (run ++ first.ended) ≡ lines_in run ++ row ∷ [] =
-    ap (map without_terminator) (more_lines text run rest first.ended after so_far.cut first.cut)
-    ∙ map-append without_terminator (lines_of run) (lines_of first.ended) ∙ ap (λ l. lines_in run ++ l) (first_alone rest row after first) in
+    let rows = so_far.rows in
     record {
-      run = run ++ first.ended;
-      cut = cut_more text run rest first.ended after so_far.cut first.cut;
-      board = rw rows (All-push IsBoardLine (lines_in run) row so_far.board is);
-      width_is = ap (max (length row)) so_far.width_is ∙ sym (width_push (lines_in run) row) ∙ ap width_of (sym rows);
-      height_is = ap (λ n. n + 1) so_far.height_is ∙ sym (length-append (lines_in run) (row ∷ [])) ∙ ap length (sym rows);
-      few = omega (arith, first_some rest row after first, length-append run first.ended);
+      rows = rows ++ row ∷ [];
+      whole = so_far.whole ∙ ap (λ l. rows ++ l) (first_lines rest row after first) ∙ sym (append_assoc rows (row ∷ []) (lines_in after));
+      board = All-push IsBoardLine rows row so_far.board is;
+      width_is = ap (max (length row)) so_far.width_is ∙ sym (width_push rows row);
+      height_is = ap (λ n. n + 1) so_far.height_is ∙ sym (length-append rows (row ∷ []));
+      few = omega (arith, so_far.few, first_shorter rest row after first);
     }
 
 module _ (text rest : List ℕ) (width height : ℕ) (so_far : IsRunSoFar text rest width height) where
-  pub run_within : length rest ≤ length text
-  run_within = omega (arith, ap length so_far.cut.parts, length-append so_far.run rest)
-
-  pub run_is : so_far.run ≡ take (length text - length rest) text
-  run_is =
-      let size : length text - length rest ≡ length so_far.run = omega (arith, ap length so_far.cut.parts, length-append so_far.run rest) in
-      sym (ap (λ n. take n text) size ∙ ap (take (length so_far.run)) so_far.cut.parts ∙ take-append_seam so_far.run rest)
+  pub rows_are : take height (lines_in text) ≡ so_far.rows
+  rows_are = ap (λ n. take n (lines_in text)) so_far.height_is ∙ ap (take (length so_far.rows)) so_far.whole ∙ take-append_seam so_far.rows (lines_in rest)
 
   -- If a line of text comes next, the text is cut after the run.
-  pub cut_at_text : (row after : List ℕ) → IsFirstLine rest row after → IsText row → IsCut text so_far.run after
+  pub cut_at_text : (row after : List ℕ) → IsFirstLine rest row after → IsText row → IsCut text height after
   cut_at_text row after first is = record {
     between = row ∷ [];
-    whole = cut_lines_in text so_far.run rest so_far.cut ∙ ap (λ l. lines_in so_far.run ++ l) (first_lines rest row after first);
-    board = so_far.board;
+    whole = rw rows_are (so_far.whole ∙ ap (λ l. so_far.rows ++ l) (first_lines rest row after first));
+    long = ap length rows_are ∙ sym so_far.height_is;
+    board = rw rows_are so_far.board;
     text_between = All-cons IsText row [] is (All-nil IsText);
     ends = λ none. absurd (omega arith);
-    shorter = λ _. omega (arith, run_within, first_shorter rest row after first);
+    shorter = λ _. omega (arith, so_far.few, first_shorter rest row after first);
   }
-
-  -- If nothing is left of the text, the run is the whole text.
-  pub run_whole : length rest ≡ 0 → so_far.run ≡ text
-  run_whole none = grind (arith, nil_from_length, append-nil)
-
-  pub cut_at_end : length rest ≡ 0 → IsCut text so_far.run rest
-  cut_at_end none = grind (arith, cut_lines_in)
 
 -- ---- the levels of what is cut
 -- lines of text in front of other lines don't change their levels
@@ -110,24 +91,24 @@ ends_run (line ∷ between) after text none = All-head IsText line between text
 nothing_after : (between : List (List ℕ)) (after : List ℕ) → (length between ≡ 0 → length after ≡ 0) → length between ≡ 0 → length (lines_in after) ≡ 0
 nothing_after between after ends none = grind (arith, nil_from_length, lines_in-nil)
 
-pub is_run : (bs run after : List ℕ) → IsCut bs run after → 0 < length run → IsRun (lines_in run)
-is_run bs run after cut some = search (some_lines)
+pub is_run : (bs : List ℕ) (height : ℕ) (after : List ℕ) → IsCut bs height after → 0 < height → IsRun (take height (lines_in bs))
+is_run bs height after cut some = record { some = omega (arith, cut.long); board = cut.board }
 
 -- a run that has a line is the first level
-pub levels_with_run : (bs run after : List ℕ) (levels : List (List (List ℕ))) → IsCut bs run after → 0 < length run → AreLevelsOf levels (lines_in after)
-    → AreLevelsOf (lines_in run ∷ levels) (lines_in bs)
-levels_with_run bs run after levels cut some are =
-    subst (AreLevelsOf (lines_in run ∷ levels)) (sym cut.whole)
-    (after_run (lines_in run) (cut.between ++ lines_in after) levels (is_run bs run after cut some)
+pub levels_with_run : (bs : List ℕ) (height : ℕ) (after : List ℕ) (levels : List (List (List ℕ))) → IsCut bs height after → 0 < height
+    → AreLevelsOf levels (lines_in after) → AreLevelsOf (take height (lines_in bs) ∷ levels) (lines_in bs)
+levels_with_run bs height after levels cut some are =
+    subst (AreLevelsOf (take height (lines_in bs) ∷ levels)) (sym cut.whole)
+    (after_run (take height (lines_in bs)) (cut.between ++ lines_in after) levels (is_run bs height after cut some)
     (ends_run cut.between (lines_in after) cut.text_between (nothing_after cut.between after cut.ends))
     (after_text cut.between (lines_in after) levels cut.text_between are))
 
 -- an empty run is no level
-pub levels_without_run : (bs run after : List ℕ) (levels : List (List (List ℕ))) → IsCut bs run after → length run ≡ 0 → AreLevelsOf levels (lines_in after)
-    → AreLevelsOf levels (lines_in bs)
-levels_without_run bs run after levels cut none are =
-    let no_run : lines_in run ≡ [] = ap lines_in (nil_from_length run none) ∙ lines_in-nil in
-    grind (arith, no_run, after_text)
+pub levels_without_run : (bs : List ℕ) (height : ℕ) (after : List ℕ) (levels : List (List (List ℕ))) → IsCut bs height after → height ≡ 0
+    → AreLevelsOf levels (lines_in after) → AreLevelsOf levels (lines_in bs)
+levels_without_run bs height after levels cut none are =
+    subst (AreLevelsOf levels) (sym (cut.whole ∙ ap (λ n. take n (lines_in bs) ++ (cut.between ++ lines_in after)) none))
+    (after_text cut.between (lines_in after) levels cut.text_between are)
 
 -- ---- each list of lines has its levels
 one_run : (line : List ℕ) → IsBoardLine line → IsRun (line ∷ [])
@@ -218,9 +199,5 @@ one_list (rows ∷ levels) (rows' ∷ others) lines (after, first, rest) (after'
     grind (arith, one_list levels others after rest (rw same.1 rest'))
 
 -- ---- the steps of the loop over a text
-pub some_bytes : (n : ℕ) → (n == 0) ≡ false → 0 < n
-some_bytes zero e = absurd (false≢true (sym e))
-some_bytes (suc n) e = omega arith
-
 pub no_bytes : (n : ℕ) → (n == 0) ≡ true → n ≡ 0
 no_bytes n e = eqb-true n 0 e

@@ -6,4 +6,5 @@ pub mod OneBoard
 pub mod Blocks
 pub mod FirstRows
 pub mod SkippedText
-pub mod BoardLines
+pub mod RowBytes
+pub mod Fronts

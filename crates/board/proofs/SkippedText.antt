@@ -36,12 +36,13 @@ passed_all text others =
     }
 
 -- A text that is cut after a run is cut after more lines of text too.
-pub cut_further : (text run after rest : List ℕ) → IsCut text run after → IsPassed after rest → IsCut text run rest
-cut_further text run after rest cut p = record {
+pub cut_further : (text : List ℕ) (height : ℕ) (after rest : List ℕ) → IsCut text height after → IsPassed after rest → IsCut text height rest
+cut_further text height after rest cut p = record {
   between = cut.between ++ p.between;
-  whole = grind (arith, append_assoc);
+  whole = cut.whole ∙ ap (λ l. take height (lines_in text) ++ l) (ap (λ l. cut.between ++ l) p.whole ∙ sym (append_assoc cut.between p.between (lines_in rest)));
+  long = cut.long;
   board = cut.board;
   text_between = All-append IsText cut.between p.between cut.text_between p.text_between;
   ends = λ none. let fewer = p.no_longer in let all = cut.ends (omega (arith, length-append cut.between p.between)) in omega arith;
-  shorter = λ some. omega arith;
+  shorter = λ some. omega (arith, p.no_longer, cut.shorter some);
 }

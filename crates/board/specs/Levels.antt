@@ -1,7 +1,8 @@
 -- The levels of a text: its longest runs of board lines.
-use Rattle.std.specs.Prelude.{◌≡◌, ℕ, ◌<◌, Bool, true, false, ◌&&◌, List, [], ◌∷◌, ◌++◌, length, All}
+use Rattle.std.specs.Prelude.{◌≡◌, ℕ, ◌<◌, ◌≤◌, Bool, true, false, ◌&&◌, List, [], ◌∷◌, ◌++◌, length, take, All}
 use Rattle.std.specs.List.{list_any, list_all}
 use Rattle.board.specs.Characters.{is_wall, is_board_character}
+use Rattle.board.specs.Lines.{byte_at}
 
 -- the most levels that a collection may have
 abbrev pub most_levels : ℕ
@@ -10,6 +11,13 @@ most_levels = 10000
 -- a board line has a wall, and board characters alone
 abbrev pub is_board_line : List ℕ → Bool
 is_board_line line = list_any is_wall line && list_all is_board_character line
+
+-- a text begins with n board characters and not with more, and the test says whether a wall is among them
+pub record IsFront (text : List ℕ) (n : ℕ) (has_wall : Bool) : Type 0 where
+  pub within : n ≤ length text
+  pub board : list_all is_board_character (take n text) ≡ true
+  pub ends : is_board_character (byte_at text n) ≡ false
+  pub wall : has_wall ≡ list_any is_wall (take n text)
 
 -- the line can be a row of a level
 abbrev pub IsBoardLine : List ℕ → Type 0

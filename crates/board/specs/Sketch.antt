@@ -1,5 +1,5 @@
 -- The sets of a board while its rows are read.
-use Rattle.std.specs.Prelude.{◌≡◌, ◌↔◌, ℕ, ◌+◌, ◌*◌, ◌<◌, Bool, List, length}
+use Rattle.std.specs.Prelude.{◌≡◌, ◌≢◌, ◌↔◌, ℕ, ◌+◌, ◌*◌, ◌<◌, ◌≤◌, Bool, false, List, length}
 use Rattle.std.specs.FinSet.{contains, len}
 use Rattle.cellset.specs.Shape.{Extent}
 use Rattle.cellset.specs.Cell.{IsOn}
@@ -27,23 +27,20 @@ pub record IsDrawn (is_kind : ℕ → Bool) (rows : List (List ℕ)) (cells : Ce
 abbrev pub IsWordOf : (ℕ → Bool) → List ℕ → ℕ → ℕ → Type 0
 IsWordOf is_kind line part word = (k : ℕ) → k < 64 → bit word k ≡ is_kind (nth line (64 * part + k) space)
 
--- which columns of a part of a row are of each kind
-pub record AreColumnsOf (line : List ℕ) (part : ℕ) (kinds : Kinds) : Type 0 where
-  pub wall : IsWordOf is_wall line part kinds.walls
-  pub goal : IsWordOf is_goal line part kinds.goals
-  pub box : IsWordOf is_box line part kinds.boxes
-  pub player : IsWordOf is_player line part kinds.players
+-- the first n bits of the word say which of n bytes are of the kind, and no other bit is set
+pub record IsMaskOf (is_kind : ℕ → Bool) (byte : ℕ → ℕ) (n word : ℕ) : Type 0 where
+  pub inside : (k : ℕ) → k < n → bit word k ≡ is_kind (byte k)
+  pub outside : (k : ℕ) → n ≤ k → k < 64 → bit word k ≡ false
 
--- the first n bits of the word say which of n bytes are of the kind
-abbrev pub IsMaskOf : (ℕ → Bool) → (ℕ → ℕ) → ℕ → ℕ → Type 0
-IsMaskOf is_kind byte n word = (k : ℕ) → k < n → bit word k ≡ is_kind (byte k)
-
--- which of n bytes are of each kind
+-- which bytes are of each kind: up to the first line feed, or n of them
 pub record AreKindsOf (byte : ℕ → ℕ) (n : ℕ) (kinds : Kinds) : Type 0 where
-  pub wall : IsMaskOf is_wall byte n kinds.walls
-  pub goal : IsMaskOf is_goal byte n kinds.goals
-  pub box : IsMaskOf is_box byte n kinds.boxes
-  pub player : IsMaskOf is_player byte n kinds.players
+  pub within : kinds.count ≤ n
+  pub before : (k : ℕ) → k < kinds.count → byte k ≢ 10
+  pub feed : kinds.count < n → byte kinds.count ≡ 10
+  pub wall : IsMaskOf is_wall byte kinds.count kinds.walls
+  pub goal : IsMaskOf is_goal byte kinds.count kinds.goals
+  pub box : IsMaskOf is_box byte kinds.count kinds.boxes
+  pub player : IsMaskOf is_player byte kinds.count kinds.players
 
 -- the four sets of a sketch show the rows so far
 pub record IsSketchOf {S : Type 0} (rows : List (List ℕ)) (members : S → Cells) (s : Sketch S) : Type 0 where

@@ -1,16 +1,19 @@
 //! The levels of a collection.
-ghost use Rattle.std.specs.Prelude.{◌≡◌, ◌≤◌, ◌<◌, ℕ, List, length, vec_len, IfOk, IfErr};
-ghost use Rattle.board.specs.Lines.{lines_in, without_mark};
-ghost use Rattle.board.specs.Levels.{most_levels, is_board_line, AreLevelsOf};
+ghost use Rattle.std.specs.Prelude.{◌≡◌, ◌+◌, ◌≤◌, ◌<◌, ℕ, List, false, length, take, vec_len, IfOk, IfErr, IfSome, IfNone};
+ghost use Rattle.cellset.specs.Bits.{bit};
+ghost use Rattle.lines.specs.Lines.{IsFirstLine};
+ghost use Rattle.board.specs.Lines.{first_row, lines_in, without_mark};
+ghost use Rattle.board.specs.Levels.{most_levels, AreLevelsOf, IsBoardLine, IsFront, IsText};
 ghost use Rattle.board.specs.Cut.{IsCut};
 ghost use Rattle.board.specs.Rows.{width_of};
 
-use crate::characters::{characters_in, is_board_character, walls_in};
+use crate::characters::{characters_in, walls_in};
 use crate::passing::past_text;
+use crate::row::{block_at, past_end};
+use cellset::first_bits;
 use lines::first_line;
 use std::alloc::Global;
 use std::marker::Model;
-use std::simd::prelude::*;
 use thiserror::Error;
 
 /// The largest number of levels that a collection may have.
@@ -19,24 +22,25 @@ pub const MAX_LEVELS: usize = 10_000;
 /// A level as the text draws it.
 #[derive(Debug, Drop)]
 pub struct LevelText<'a> {
+    // The text of the collection from the level on.
     pub(crate) text: &'a [u8],
     pub(crate) width: usize,
     pub(crate) height: usize,
 }
 
 impl<'a> Model for LevelText<'a> {
-    ghost use Rattle.std.specs.Prelude.{◌≡◌, ℕ, List, length};
+    ghost use Rattle.std.specs.Prelude.{◌≡◌, ℕ, List, length, take};
     ghost use Rattle.board.specs.Lines.{lines_in};
     ghost use Rattle.board.specs.Levels.{IsRun};
     ghost use Rattle.board.specs.Rows.{width_of};
 
     ghost Value = { List (List ℕ) };
 
-    ghost view = { λ level. lines_in level.text.now };
+    ghost view = { λ level. take level.height (lines_in level.text.now) };
 
-    ghost invariant = { λ level. IsRun (lines_in level.text.now)
-        × (level.width ≡ width_of (lines_in level.text.now))
-        × (level.height ≡ length (lines_in level.text.now)) };
+    ghost invariant = { λ level. IsRun (take level.height (lines_in level.text.now))
+        × (level.width ≡ width_of (take level.height (lines_in level.text.now)))
+        × (level.height ≡ length (take level.height (lines_in level.text.now))) };
 }
 
 /// Why a text has no list of levels.
@@ -60,13 +64,13 @@ pub fn levels(alloc: Global, text: &[u8]) -> Result<Vec<LevelText<'_>>, LevelsFa
     let mut found = Vec::new(alloc);
     let mut rest = after_mark(text);
     while !rest.is_empty() {
-        let (run, (width, height), after) = cut_after_run(rest);
-        if !run.is_empty() {
+        let ((width, height), after) = pass_run(rest);
+        if height > 0 {
             if found.len() == MAX_LEVELS {
                 return Err(LevelsFault::TooMany);
             }
             let level = LevelText {
-                text: run,
+                text: rest,
                 width,
                 height,
             };
@@ -89,58 +93,72 @@ fn after_mark(text: &[u8]) -> &[u8]
     text
 }
 
-// Cuts off the board lines that a text begins with. Returns them, the length of the longest and their number, and what comes
-// after the lines of text that follow them.
-fn cut_after_run(text: &[u8]) -> (&[u8], (usize, usize), &[u8])
-    ensures cut { IsCut text.now result.0.now result.2.now }
-    ensures width { result.1.0 ≡ width_of (lines_in result.0.now) }
-    ensures height { result.1.1 ≡ length (lines_in result.0.now) }
+// Passes the board lines that a text begins with. Returns the length of the longest and their number, and what comes after the lines of
+// text that follow them.
+fn pass_run(text: &[u8]) -> ((usize, usize), &[u8])
+    ensures cut { IsCut text.now result.0.1 result.1.now }
+    ensures width { result.0.0 ≡ width_of (take result.0.1 (lines_in text.now)) }
 {
     let mut rest = text;
     let mut width = 0;
     let mut height = 0;
     while !rest.is_empty() {
-        let (row, after) = first_line(rest);
-        if !is_board_line(row) {
-            let (run, _) = text.split_at(text.len() - rest.len());
-            return (run, (width, height), past_text(after));
-        }
-        width = row.len().max(width);
+        let Some((len, after)) = board_line(rest) else {
+            return ((width, height), past_text(first_line(rest).1));
+        };
+        width = len.max(width);
         height += 1;
         rest = after;
     }
-    (text, (width, height), rest)
+    ((width, height), rest)
 }
 
-// Returns whether a line has a wall, and board characters alone. Tests 16 bytes at a time: byte by byte, an audit of 10,000 small
-// levels takes 3 % more instructions. Lines of less than 16 bytes gain nothing.
-fn is_board_line(line: &[u8]) -> bool
-    ensures { result ≡ is_board_line line.now }
+// Returns the length of the first line of a text, if it is a board line, and what comes after the line.
+#[inline(always)]
+fn board_line(text: &[u8]) -> Option<(usize, &[u8])>
+    requires { 0 < length text.now }
+    ensures some { IfSome result (λ row. (row.0 ≡ length (first_row text.now)) × IsFirstLine text.now (first_row text.now) row.1.now
+        × IsBoardLine (first_row text.now)) }
+    ensures none { IfNone result (IsText (first_row text.now)) }
+{
+    let (len, has_wall) = front(text);
+    let end = past_end(text, len);
+    if !has_wall || end == len && end < text.len() {
+        return None;
+    }
+    Some((len, text.split_at(end).1))
+}
+
+// Returns the number of board characters that a text begins with, and whether one of them is a wall. Tests 32 bytes at a time.
+#[inline(always)]
+fn front(text: &[u8]) -> (usize, bool)
+    ensures { IsFront text.now result.0 result.1 }
 {
     let mut has_wall = false;
-    if line.len() < 16 {
-        for byte in line {
-            if !is_board_character(*byte) {
-                return false;
-            }
-            if *byte == b'#' {
-                has_wall = true;
-            }
-        }
-        return has_wall;
-    }
-    let mut at = 0;
-    'lanes: while at < line.len() {
-        // The last block may overlap the one before it.
-        let from = at.min(line.len() - 16);
-        let block = u8x16::from_slice(&line[from..]);
-        if !characters_in(block) & 0xFFFF != 0 {
-            return false;
-        }
-        if walls_in(block) & 0xFFFF != 0 {
+    let mut len = 0;
+    'blocks: while len < text.len() {
+        let low = block_at(text, len);
+        let high = block_at(text, (len + 16).min(text.len()));
+        let others = !both_halves(characters_in(low), characters_in(high));
+        let count = others.trailing_zeros() as usize;
+        if first_bits(both_halves(walls_in(low), walls_in(high)), count) != 0 {
             has_wall = true;
         }
-        at = from + 16;
+        len += count;
+        if count < 32 {
+            return (len, has_wall);
+        }
     }
-    has_wall
+    (len, has_wall)
+}
+
+// Joins the words of two blocks of 16 bytes to one.
+#[inline(always)]
+fn both_halves(low: u64, high: u64) -> u64
+    requires { (k : ℕ) → 16 ≤ k → (bit low k ≡ false) × (bit high k ≡ false) }
+    ensures low { (k : ℕ) → k < 16 → bit result k ≡ bit low k }
+    ensures high { (k : ℕ) → k < 16 → bit result (16 + k) ≡ bit high k }
+    ensures past { (k : ℕ) → 32 ≤ k → bit result k ≡ false }
+{
+    low | high << 16
 }

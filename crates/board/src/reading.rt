@@ -6,7 +6,6 @@ ghost use Rattle.cellset.specs.CellSet.{only};
 ghost use Rattle.cellset.specs.Shape.{HasSides};
 ghost use Rattle.board.specs.Board.{IsWellFormed};
 ghost use Rattle.board.specs.Legal.{IsBoardOf, IsRefusal};
-ghost use Rattle.board.specs.Lines.{lines_in};
 ghost use Rattle.board.specs.Sketch.{HasRows, IsLegalUnlessOpen, IsSketchOf, extent_of, level_in};
 ghost use Rattle.board.specs.Words.{board_words};
 
@@ -85,25 +84,25 @@ pub fn read_next_board<S: CellSet>(
         return Err(BoardFault::Size);
     };
     let mut sketch = blank(alloc, shape, last)?;
-    let player = fill(&mut sketch, text.text)?;
+    let player = fill(&mut sketch, text)?;
     if sketch.region.is_at_edge() {
         return Err(BoardFault::Open);
     }
     Ok(Board { player, sketch })
 }
 
-// Draws the rows of a text on a sketch that has no cells, and finds the room. Returns the player's cell, or the first fault but `Open`.
-fn fill<S: CellSet>(sketch: &mut Sketch<S>, text: &[u8]) -> Result<Cell, BoardFault>
-    requires shape { sketch.old.shape ≡ extent_of (lines_in text.now) }
+// Draws the rows of a level on a sketch that has no cells, and finds the room. Returns the player's cell, or the first fault but `Open`.
+fn fill<S: CellSet>(sketch: &mut Sketch<S>, text: &LevelText<'_>) -> Result<Cell, BoardFault>
+    requires shape { sketch.old.shape ≡ extent_of text.now }
     requires sides { HasSides sketch.old.shape.width sketch.old.shape.height }
     requires rows { HasRows S.extent S.members sketch.old set.empty }
     requires blank { IsSketchOf [] S.members sketch.old }
-    ensures legal { IfOk result (λ player. IsLegalUnlessOpen (lines_in text.now) (level_in S.members sketch.new player)) }
+    ensures legal { IfOk result (λ player. IsLegalUnlessOpen text.now (level_in S.members sketch.new player)) }
     ensures formed { IfOk result (λ player. IsWellFormed (level_in S.members sketch.new player)) }
     ensures rows { OnOk result (HasRows S.extent S.members sketch.new (S.members sketch.new.room)) }
-    ensures err { IfErr result (IsRefusal (lines_in text.now)) }
+    ensures err { IfErr result (IsRefusal text.now) }
 {
-    draw(sketch, text);
+    draw(sketch, text.text);
     let Some(player) = only_member(&sketch.room) else {
         return Err(BoardFault::Player);
     };

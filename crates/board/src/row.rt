@@ -1,92 +1,90 @@
-//! Which columns of a row are of each kind, 64 at a time.
+//! Which bytes of a row are of each kind, up to 64 at a time.
 //!
-//! At most 32 columns are read in a block of 32 bytes. In blocks of 64 alone, 10,000 small levels take 5 % more instructions to audit or
-//! to make answers for. Wider rows gain nothing.
-ghost use Rattle.std.specs.Prelude.{◌≡◌, ◌+◌, ◌-◌, ◌*◌, ◌<◌, ◌≤◌, ℕ, false, min, length, take, slice_index};
-ghost use Rattle.cellset.specs.Bits.{bit};
-ghost use Rattle.board.specs.Sketch.{AreKindsOf, AreColumnsOf};
+//! The line feed that ends a row is found in the block that gives the kinds, so a row is read once. Blocks have 32 bytes: in blocks of 64,
+//! small levels take more instructions. Wider rows gain nothing.
+ghost use Rattle.std.specs.Prelude.{◌≡◌, ◌+◌, ◌<◌, ◌≤◌, ℕ, length, slice_index};
+ghost use Rattle.board.specs.Lines.{byte_at, past_end};
+ghost use Rattle.board.specs.Sketch.{AreKindsOf};
 
-use crate::characters::{boxes_in, goals_in, players_in, walls_in};
+use crate::characters::{boxes_in, equal_to, goals_in, players_in, walls_in};
 use cellset::first_bits;
 use std::simd::prelude::*;
 
-/// Which bytes of a block, or which of 64 columns of a row, are of each kind. Each kind has a word with a bit for each of them.
+/// Which bytes of a row are of each kind, from an offset on: a word with a bit for each byte.
 #[derive(Clone, Copy)]
 pub(crate) struct Kinds {
     pub(crate) walls: u64,
     pub(crate) goals: u64,
     pub(crate) boxes: u64,
     pub(crate) players: u64,
+    // The number of bytes before the line feed. The bits end there.
+    pub(crate) count: usize,
 }
 
-/// Returns the columns of a part of a row, which is the first `len` bytes of a text. Bit `k` is column `64 * part + k`.
-#[inline]
-pub(crate) fn columns_of(text: &[u8], len: usize, part: usize) -> Kinds
-    requires within { len ≤ length text.now }
-    requires part { 64 * part ≤ len }
-    ensures { AreColumnsOf (take len text.now) part result }
+/// Returns the kinds of up to 64 bytes of a row from an offset on.
+#[inline(always)]
+pub(crate) fn kinds_from(text: &[u8], from: usize) -> Kinds
+    requires { from ≤ length text.now }
+    ensures { AreKindsOf (λ k. byte_at text.now (from + k)) 64 result }
 {
-    // Columns count from 1: byte 0 is column 1.
-    let from = (64 * part).max(1) - 1;
-    let count = len - from;
-    let kinds = kinds_from(text, from, count);
+    let low = kinds_in(block_at(text, from));
+    if low.count < 32 {
+        return low;
+    }
+    let high = kinds_in(block_at(text, from + 32));
     Kinds {
-        walls: column_bits(kinds.walls, count, part),
-        goals: column_bits(kinds.goals, count, part),
-        boxes: column_bits(kinds.boxes, count, part),
-        players: column_bits(kinds.players, count, part),
+        walls: low.walls | high.walls << 32,
+        goals: low.goals | high.goals << 32,
+        boxes: low.boxes | high.boxes << 32,
+        players: low.players | high.players << 32,
+        count: 32 + high.count,
     }
 }
 
-// Returns the first `count` bits of a word, each moved to its column: bit 0 of part 0 is no column.
-#[inline]
-fn column_bits(bits: u64, count: usize, part: usize) -> u64
-    ensures lead { (k : ℕ) → k < 1 - part → bit result k ≡ false }
-    ensures inside { (k : ℕ) → k < count → k + (1 - part) < 64 → bit result (k + (1 - part)) ≡ bit bits k }
-    ensures past { (k : ℕ) → count ≤ k → k + (1 - part) < 64 → bit result (k + (1 - part)) ≡ false }
+// Returns the kinds of the bytes of a block that come before its first line feed.
+#[inline(always)]
+fn kinds_in(block: u8x32) -> Kinds
+    ensures { AreKindsOf (slice_index block) 32 result }
 {
-    let kept = first_bits(bits, count);
-    if part == 0 { kept << 1 } else { kept }
-}
-
-// Returns which of `count` bytes from an offset on are of each kind, up to the 64th.
-#[inline]
-fn kinds_from(text: &[u8], from: usize, count: usize) -> Kinds
-    requires { from + count ≤ length text.now }
-    ensures { AreKindsOf (λ k. slice_index text.now (from + k)) (min count 64) result }
-{
-    if count > 32 {
-        return kinds_in(block_at::<64>(text, from));
-    }
-    kinds_in(block_at::<32>(text, from))
-}
-
-// Returns which bytes of a block are of each kind.
-#[inline]
-fn kinds_in<const N: usize>(block: Simd<u8, N>) -> Kinds
-    requires { N ≤ 64 }
-    ensures { AreKindsOf (slice_index block.entry) N result }
-{
+    // The bit after those of the block ends the count.
+    let feeds = equal_to(block, b'\n') | 1 << 32;
+    let count = feeds.trailing_zeros() as usize;
     Kinds {
-        walls: walls_in(block),
-        goals: goals_in(block),
-        boxes: boxes_in(block),
-        players: players_in(block),
+        walls: first_bits(walls_in(block), count),
+        goals: first_bits(goals_in(block), count),
+        boxes: first_bits(boxes_in(block), count),
+        players: first_bits(players_in(block), count),
+        count,
     }
 }
 
-// Returns the block of bytes from an offset on, with zeros past the end of the text.
-#[inline]
-fn block_at<const N: usize>(text: &[u8], at: usize) -> Simd<u8, N>
+/// Returns the block of bytes from an offset on, with line feeds past the end of the text.
+#[inline(always)]
+pub(crate) fn block_at<const N: usize>(text: &[u8], at: usize) -> Simd<u8, N>
     requires { at ≤ length text.now }
-    ensures { (k : ℕ) → k < N → at + k < length text.now → slice_index result k ≡ slice_index text.now (at + k) }
+    ensures { (k : ℕ) → k < N → slice_index result k ≡ byte_at text.now (at + k) }
 {
     if text.len() - at >= N {
         return Simd::from_slice(&text[at..]);
     }
-    let mut block = [0; N];
+    let mut block = [b'\n'; N];
     for i in at..text.len() {
         block[i - at] = text[i];
     }
     Simd::from_array(block)
+}
+
+/// Returns the offset after the line end at an offset, or the offset itself if no line end is there.
+#[inline(always)]
+pub(crate) fn past_end(text: &[u8], at: usize) -> usize
+    requires { at ≤ length text.now }
+    ensures { result ≡ past_end text.now at }
+{
+    if text.len() > at && text[at] == b'\n' {
+        return at + 1;
+    }
+    if text.len() - at > 1 && text[at] == b'\r' && text[at + 1] == b'\n' {
+        return at + 2;
+    }
+    at
 }

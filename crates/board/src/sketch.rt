@@ -2,16 +2,16 @@
 //!
 //! They take the memory of the last board. With new memory for each board, 10,000 levels of 5 by 4 take 20 % more instructions to audit and
 //! 18 % more to make answers for. A single level gains nothing.
-ghost use Rattle.std.specs.Prelude.{◌≡◌, ◌+◌, ◌≤◌, ℕ, List, [], ◌∷◌, ◌++◌, length, take, IfOk, OnOk, All};
+ghost use Rattle.std.specs.Prelude.{◌≡◌, ◌+◌, ◌<◌, ◌≤◌, ℕ, List, [], ◌∷◌, ◌++◌, drop, length, take, IfOk, OnOk, All};
 ghost use Rattle.std.specs.FinSet as set;
 ghost use Rattle.cellset.specs.Shape.{HasSides};
-ghost use Rattle.board.specs.Lines.{lines_in};
+ghost use Rattle.board.specs.Lines.{first_row, lines_in};
+ghost use Rattle.lines.specs.Lines.{IsFirstLine};
 ghost use Rattle.board.specs.Sketch.{HasRows, IsSketchOf};
 
 use crate::board::Board;
-use crate::row::columns_of;
+use crate::row::{kinds_from, past_end};
 use cellset::{CellSet, Shape};
-use lines::first_line;
 use reach::Rows;
 use std::alloc::{AllocError, Global};
 
@@ -29,24 +29,21 @@ pub(crate) struct Sketch<S: CellSet> {
     pub(crate) region: Rows,
 }
 
-/// Adds the cells of each kind in the rows of a text to a sketch that has none, on a shape that holds them.
+/// Adds the cells of each kind in the rows that a text begins with to a sketch that has none. The shape says how many rows there are.
 pub(crate) fn draw<S: CellSet>(sketch: &mut Sketch<S>, text: &[u8])
     requires sides { HasSides sketch.old.shape.width sketch.old.shape.height }
     requires rows { HasRows S.extent S.members sketch.old set.empty }
     requires blank { IsSketchOf [] S.members sketch.old }
-    requires high { length (lines_in text.now) ≤ sketch.old.shape.height }
-    requires wide { All (λ row. length row ≤ sketch.old.shape.width) (lines_in text.now) }
+    requires high { sketch.old.shape.height ≤ length (lines_in text.now) }
+    requires wide { All (λ row. length row ≤ sketch.old.shape.width) (take sketch.old.shape.height (lines_in text.now)) }
     ensures shape { sketch.new.shape ≡ sketch.old.shape }
     ensures rows { HasRows S.extent S.members sketch.new set.empty }
-    ensures drawn { IsSketchOf (lines_in text.now) S.members sketch.new }
+    ensures drawn { IsSketchOf (take sketch.old.shape.height (lines_in text.now)) S.members sketch.new }
 {
     let mut rest = text;
-    let mut row = 0;
-    'rows: while !rest.is_empty() {
-        let (line, after) = first_line(rest);
-        row += 1;
-        draw_row(sketch, row, rest, line.len());
-        rest = after;
+    for row in 0..sketch.shape.height() {
+        let next = draw_row(sketch, row + 1, rest);
+        rest = rest.split_at(next).1;
     }
 }
 
@@ -99,26 +96,37 @@ fn renew<S: CellSet>(alloc: Global, shape: Shape, sketch: &mut Sketch<S>) -> Res
     Ok(())
 }
 
-// Adds the cells of a row, which is the first `len` bytes of a text. Rows count from 1.
-fn draw_row<S: CellSet>(sketch: &mut Sketch<S>, row: u8, text: &[u8], len: usize)
+// Adds the cells of the row that a text begins with, and returns the offset of the next. Rows count from 1.
+#[inline(always)]
+fn draw_row<S: CellSet>(sketch: &mut Sketch<S>, row: u8, text: &[u8]) -> usize
     requires rows { HasRows S.extent S.members sketch.old set.empty }
     requires sides { HasSides sketch.old.shape.width sketch.old.shape.height }
     requires high { (1 ≤ row) × (row ≤ sketch.old.shape.height) }
-    requires within { len ≤ length text.now }
-    requires wide { len ≤ sketch.old.shape.width }
+    requires some { 0 < length text.now }
+    requires wide { length (first_row text.now) ≤ sketch.old.shape.width }
+    ensures next { IsFirstLine text.now (first_row text.now) (drop result text.now) }
+    ensures within { result ≤ length text.now }
     ensures shape { sketch.new.shape ≡ sketch.old.shape }
     ensures rows { HasRows S.extent S.members sketch.new set.empty }
     ensures drawn { (done : List (List ℕ)) → length done + 1 ≡ row
         → IsSketchOf done S.members sketch.old
-        → IsSketchOf (done ++ take len text.now ∷ []) S.members sketch.new }
+        → IsSketchOf (done ++ first_row text.now ∷ []) S.members sketch.new }
 {
-    for part in 0..len / 64 + 1 {
-        let columns = columns_of(text, len, part);
-        let part = part as u8;
-        sketch.walls.insert_row(row, part, columns.walls);
-        sketch.floor.remove_row(row, part, columns.walls);
-        sketch.goals.insert_row(row, part, columns.goals);
-        sketch.boxes.insert_row(row, part, columns.boxes);
-        sketch.room.insert_row(row, part, columns.players);
+    let mut from = 0;
+    for part in 0..sketch.shape.width() / 64 + 1 {
+        let kinds = kinds_from(text, from);
+        // Columns count from 1: bit 0 of part 0 is no column.
+        let lead = 1u8.saturating_sub(part);
+        let walls = kinds.walls << lead;
+        sketch.walls.insert_row(row, part, walls);
+        sketch.floor.remove_row(row, part, walls);
+        sketch.goals.insert_row(row, part, kinds.goals << lead);
+        sketch.boxes.insert_row(row, part, kinds.boxes << lead);
+        sketch.room.insert_row(row, part, kinds.players << lead);
+        if kinds.count < 64 {
+            return (from + kinds.count + 1).min(text.len());
+        }
+        from += 64 - lead as usize;
     }
+    past_end(text, from)
 }

@@ -2,51 +2,41 @@
 -- So it says nothing yet of the rest, and a turn only has to move one run from the rest to the levels found, or to drop an empty run
 -- (`LevelRuns.antt`). At the end the rest has no lines and no levels. If one level too many is met, take any levels of the rest, which
 -- exist: then the text has a list of levels that is too long.
-use Rattle.std.proofs.Common.{not, [], ◌∷◌, ◌++◌, cond, sym, ◌∙◌, ap, arith, append_assoc, length-append}
+use Rattle.std.proofs.Common.{not, [], ◌∷◌, ◌++◌, take, cond, sym, ◌∙◌, ap, arith, append_assoc, length-append}
 use Rattle.std.proofs.lemmas.List.{append-nil, nil_from_length}
 use Rattle.std.proofs.lemmas.List.Elements.{All-nil}
 use Rattle.board.specs.Lines.{lines_in}
 use Rattle.board.specs.Levels.{IsText}
 use Rattle.lines.proofs.Cuts.{lines_in-nil}
-use Rattle.board.proofs.LevelRuns.{levels_with_run, levels_without_run, is_run, some_levels, some_bytes, no_bytes}
+use Rattle.board.proofs.LevelRuns.{levels_with_run, levels_without_run, some_levels, no_bytes}
 use Rattle.board.proofs.collection.levels.Goals as goal
-
-pub invariant_of-level : goal.invariant_of-level
-invariant_of-level c = (
-  is_run _ _ _ c.cut_after_run-width.ensures.cut (some_bytes _ (sym c.is_empty-in-loop-rest.ensures ∙ c.if-not-is_empty.true)),
-  c.cut_after_run-width.ensures.width,
-  c.cut_after_run-width.ensures.height,
-)
 
 pub loop-rest-preserved-else-is_err : goal.loop-rest-preserved-else-is_err
 loop-rest-preserved-else-is_err c =
-    let run = c.cut_after_run-width.result.0.now in
-    let some = some_bytes _ (sym c.is_empty-in-loop-rest.ensures ∙ c.if-not-is_empty.true) in
+    let rows = take c.pass_run-width.result.0.1 (lines_in c.loop-rest.rest.now) in
     let pushed = c.is_err.ensures.negation ∙ ap not c.if-is_err.false in
-    let items = c.push.ensures.items ∙ ap (λ b. cond b (c.loop-rest.found.items ++ lines_in run ∷ []) c.loop-rest.found.items) pushed in
+    let items = c.push.ensures.items ∙ ap (λ b. cond b (c.loop-rest.found.items ++ rows ∷ []) c.loop-rest.found.items) pushed in
     record {
       few = omega arith;
-      so_far = λ more are. rw (items, append_assoc) (c.loop-rest.invariant.so_far (lines_in run ∷ more)
-          (levels_with_run _ _ _ more c.cut_after_run-width.ensures.cut some are));
+      so_far = λ more are. rw (items, append_assoc) (c.loop-rest.invariant.so_far (rows ∷ more)
+          (levels_with_run _ _ _ more c.pass_run-width.ensures.cut c.if-height-gt0.true are));
     }
 
 pub loop-rest-preserved : goal.loop-rest-preserved
 loop-rest-preserved c = record {
   few = c.loop-rest.invariant.few;
-  so_far = λ more are. c.loop-rest.invariant.so_far more (levels_without_run _ _ _ more c.cut_after_run-width.ensures.cut
-      (no_bytes _ (sym c.is_empty-in-loop-rest.ensures ∙ c.if-not-is_empty.false)) are);
+  so_far = λ more are. c.loop-rest.invariant.so_far more (levels_without_run _ _ _ more c.pass_run-width.ensures.cut (omega arith) are);
 }
 
 pub returns-then-len-eq-MAX_LEVELS-clause-too_many : goal.returns-then-len-eq-MAX_LEVELS-clause-too_many
 returns-then-len-eq-MAX_LEVELS-clause-too_many c = λ _.
-    let run = c.cut_after_run-width.result.0.now in
-    let some = some_bytes _ (sym c.is_empty-in-loop-rest.ensures ∙ c.if-not-is_empty.true) in
-    let rest = some_levels (lines_in c.cut_after_run-width.result.2.now) in
+    let rows = take c.pass_run-width.result.0.1 (lines_in c.loop-rest.rest.now) in
+    let rest = some_levels (lines_in c.pass_run-width.result.1.now) in
     let found = c.loop-rest.found.items in
-    let all = found ++ (lines_in run ∷ rest.0) in (
+    let all = found ++ (rows ∷ rest.0) in (
       all,
-      c.loop-rest.invariant.so_far (lines_in run ∷ rest.0) (levels_with_run _ _ _ rest.0 c.cut_after_run-width.ensures.cut some rest.1),
-      omega (arith, length-append found (lines_in run ∷ rest.0), c.len.ensures, c.if-len-eq-MAX_LEVELS.true),
+      c.loop-rest.invariant.so_far (rows ∷ rest.0) (levels_with_run _ _ _ rest.0 c.pass_run-width.ensures.cut c.if-height-gt0.true rest.1),
+      omega (arith, length-append found (rows ∷ rest.0), c.len.ensures, c.if-len-eq-MAX_LEVELS.true),
     )
 
 pub returns-clause-ok : goal.returns-clause-ok

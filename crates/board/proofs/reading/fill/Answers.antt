@@ -1,13 +1,14 @@
 -- A sketch has one cell for each character of a kind, so the tests of sizes are tests of the rows. The one member of the set of players is
 -- the player, and what walks over the floor reach from its cell is the room. `PassesTests` of `Verdict.antt` says this of the sets. Then
 -- the level of these parts is legal unless its room is open (`legal_of`). The room is kept in the set of players, once that is cleared.
-use Rattle.std.proofs.Common.{◌≡◌, ◌∙◌, inr, arith}
+use Rattle.std.proofs.Common.{◌≡◌, ℕ, List, length, take, sym, ◌∙◌, ap, inr, arith}
+use Rattle.std.proofs.lemmas.List.{length-take}
 use Rattle.std.specs.FinSet as set
 use Rattle.cellset.specs.CellSet.{Cells}
 use Rattle.cellset.proofs.Members.{has_empty, same_members}
 use Rattle.cellset.proofs.Truth.{either}
 use Rattle.reach.proofs.Sets.{stored_is}
-use Rattle.board.specs.Lines.{lines_in}
+use Rattle.cellset.specs.Shape.{Extent}
 use Rattle.board.proofs.Parts.{all_within_width}
 use Rattle.board.proofs.Verdict.{PassesTests, formed_of, legal_of}
 use Rattle.board.proofs.reading.fill.Given as given
@@ -17,14 +18,24 @@ use Rattle.board.proofs.reading.fill.Goals as goal
 room_of : (s t u : Cells) → s ≡ set.empty → u ≡ set.union s t → t ≡ u
 room_of s t u empty union = grind (arith, stored_is, same_members)
 
+-- The rows of the level are those that the text begins with.
+same_rows : (lines rows : List (List ℕ)) (n height : ℕ) → take n lines ≡ rows → n ≡ length (take n lines) → height ≡ length rows → take height lines ≡ rows
+same_rows lines rows n height view long is = ap (λ k. take k lines) (is ∙ ap length (sym view) ∙ sym long) ∙ view
+
+pub draw-requires-clause-high : goal.draw-requires-clause-high
+draw-requires-clause-high g c = grind (arith, length-take)
+
 pub draw-requires-clause-wide : goal.draw-requires-clause-wide
-draw-requires-clause-wide g c = grind (arith, all_within_width)
+draw-requires-clause-wide g c =
+    let is = ap (λ (e : Extent). e.height) c.requires.shape in
+    rw (same_rows _ _ _ _ c.text.view_is c.text.invariant.2 is) (rw (sym (ap (λ (e : Extent). e.width) c.requires.shape)) at (all_within_width c.args.text.now))
 
 passed : (g : given.Over) (c : goal.After-store g) → let members = g.S.CellSet.members in let sketch = c.draw.new.sketch in
-    PassesTests (lines_in c.args.text.now) sketch.shape (members sketch.walls) (members sketch.goals) (members sketch.boxes) (members sketch.room)
+    PassesTests c.args.text.now sketch.shape (members sketch.walls) (members sketch.goals) (members sketch.boxes) (members sketch.room)
     (members c.store.new.into) c.in-Some.player
 passed g c =
-    let drawn = c.draw.ensures.drawn in
+    let is = ap (λ (e : Extent). e.height) c.requires.shape in
+    let drawn = rw (same_rows _ _ _ _ c.text.view_is c.text.invariant.2 is) at c.draw.ensures.drawn in
     let rows = c.draw.ensures.rows in
     let same = room_of _ _ _ c.clear.ensures.members c.store.ensures.members in
     record {

@@ -13,7 +13,7 @@ pub returns-in_err-player-clause-err : goal.returns-in_err-player-clause-err
 returns-in_err-player-clause-err g c =
     let why = c.in_err-player.field-0.0 in
     let p = err_from_is_err_and c.from_residual-in_err-player.result c.from_residual-in_err-player.ensures.1 in
-    rw (p.1, p.2) (inr (rw c.text.view_is at c.in_err-player.ensures.err))
+    rw (p.1, p.2) (inr c.in_err-player.ensures.err)
 
 pub returns-then-is_at_edge-clause-err : goal.returns-then-is_at_edge-clause-err
 returns-then-is_at_edge-clause-err g c =
@@ -23,7 +23,7 @@ returns-then-is_at_edge-clause-err g c =
     let (at, has, edge) = c.if-is_at_edge.ensures in
     let in_room = rw (c.deref.ensures, found.region) at has in
     let on_edge = rw (c.deref.ensures, found.region_extent) at edge in
-    inr (rw (← c.text.view_is) (legal.size, legal.player, legal.box, legal.goals, (level, legal.parts, (at, in_room, on_edge))))
+    inr (legal.size, legal.player, legal.box, legal.goals, (level, legal.parts, (at, in_room, on_edge)))
 
 pub returns-clause-ok : goal.returns-clause-ok
 returns-clause-ok g c =
@@ -32,4 +32,4 @@ returns-clause-ok g c =
     let level = level_in g.S.CellSet.members c.fill.new.sketch c.in_ok-player.player in
     let closed = λ (o : IsOpen level).
     c.if-is_at_edge.ensures o.0 (rw (← found.region, ← c.deref.ensures) at o.1) (rw (← found.region_extent, ← c.deref.ensures) at o.2) in
-    rw (← c.text.view_is) (record { size = legal.size; player = legal.player; box = legal.box; goals = legal.goals; parts = legal.parts; closed = closed })
+    record { size = legal.size; player = legal.player; box = legal.box; goals = legal.goals; parts = legal.parts; closed = closed }

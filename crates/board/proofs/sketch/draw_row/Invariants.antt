@@ -1,6 +1,7 @@
-use Rattle.std.proofs.Common.{◌≡◌, take}
+use Rattle.std.proofs.Common.{◌≡◌, ℕ, ◌≢◌, ◌+◌, ◌-◌, ◌*◌, ◌<◌, ◌≤◌, length}
 use Rattle.board.specs.Characters.{is_wall, is_player, is_box, is_goal}
 use Rattle.std.specs.FinSet as set
+use Rattle.board.specs.Lines.{byte_at, first_row}
 use Rattle.board.specs.Sketch.{HasRows}
 use Rattle.board.proofs.Drawing.{IsRowDrawn}
 use Rattle.board.proofs.sketch.draw_row.Given as goal
@@ -9,10 +10,13 @@ abbrev pub invariant-loop-part : goal.invariant-loop-part
 invariant-loop-part g l =
     let members = g.S.CellSet.members in
     record {
+      from : l.from + 1 ≡ 64 * l.part + (1 - l.part);
+      within : l.from ≤ length l.text;
+      before : (k : ℕ) → k < l.from → byte_at l.text k ≢ 10;
       shape : l.sketch.shape ≡ l.fn.sketch.shape;
       rows : HasRows g.S.CellSet.extent members l.sketch set.empty;
-      wall : IsRowDrawn is_wall (take l.len l.text) l.row l.part (members l.fn.sketch.walls) (members l.sketch.walls);
-      goal : IsRowDrawn is_goal (take l.len l.text) l.row l.part (members l.fn.sketch.goals) (members l.sketch.goals);
-      box : IsRowDrawn is_box (take l.len l.text) l.row l.part (members l.fn.sketch.boxes) (members l.sketch.boxes);
-      player : IsRowDrawn is_player (take l.len l.text) l.row l.part (members l.fn.sketch.room) (members l.sketch.room);
+      wall : IsRowDrawn is_wall (first_row l.text) l.row l.part (members l.fn.sketch.walls) (members l.sketch.walls);
+      goal : IsRowDrawn is_goal (first_row l.text) l.row l.part (members l.fn.sketch.goals) (members l.sketch.goals);
+      box : IsRowDrawn is_box (first_row l.text) l.row l.part (members l.fn.sketch.boxes) (members l.sketch.boxes);
+      player : IsRowDrawn is_player (first_row l.text) l.row l.part (members l.fn.sketch.room) (members l.sketch.room);
     }
