@@ -10,7 +10,7 @@ use Rattle.std.proofs.lemmas.Nat.{pow_pos}
 use Rattle.std.proofs.lemmas.Nat.Bits.{and_pow, bit_at-lt, bit_at_cat_low}
 use Rattle.cellset.specs.Bits.{bit}
 use Rattle.cellset.proofs.Shifts.{bit_down}
-use Rattle.play.specs.declared.field.TheConstants.{FREE, WALL}
+use Rattle.play.specs.declared.mailbox.TheConstants.{FREE, WALL}
 use lib.Lanes.{top}
 
 -- a number and its remainder by 65,536 have the same low 16 bits

@@ -6,7 +6,7 @@ pub mod OffGoals
 pub mod LetterTables
 pub mod Places
 pub mod Lanes
-pub mod Fields
+pub mod Mailboxes
 pub mod Replays
 pub mod OneLetter
 pub mod Texts

@@ -8,7 +8,7 @@ use Rattle.cellset.specs.Cell.{neighbor, IsOn}
 use Rattle.cellset.specs.declared.cell.Cell.{Cell}
 use Rattle.cellset.specs.declared.dir.Dir.{Dir}
 use Rattle.cellset.specs.declared.dir.Dir.TheVariants.{L, U, R, D}
-use Rattle.play.specs.Field.{place_of, stride, IsNear}
+use Rattle.play.specs.Mailbox.{place_of, stride, IsNear}
 
 module _ (shape : Extent) where
   pub near_on : {c : Cell} → IsOn shape c → IsNear shape c

@@ -1,5 +1,5 @@
 -- What a replay knows after each letter. The letters so far spell one play, so all that matters for the rest is the
--- state to which it led, which the field shows, and the counters. A letter that is a legal step of its case makes the
+-- state to which it led, which the mailbox shows, and the counters. A letter that is a legal step of its case makes the
 -- play one step longer, and the counters follow: a walk moves no box, and a push counts under the number that its box
 -- keeps.
 -- After a letter that isn't legal no longer text spells anything, because each of its plays would pass through this
@@ -25,10 +25,10 @@ use Rattle.play.specs.Spelling.{letters, small, capital, SpellsStep, SpellsPlay}
 use Rattle.play.specs.Counts.{Counts, stepped, pushed_numbers, changes}
 use Rattle.play.specs.Solution.{Solves}
 use Rattle.play.specs.FirstFault.{Names, IsCause, FailsAt, EndsUnsolved, IsFirstSolutionFault, off_goals}
-use Rattle.play.specs.Field.{place_of, IsFieldOf}
+use Rattle.play.specs.Mailbox.{place_of, IsMailboxOf}
 use Rattle.play.specs.Progress.{AreNumbered, IsLast, Progress, HasRoom, CountsPush, IsUnderWay, Continues, IsPlayed, FailsBy, FailsOn}
 use Rattle.play.specs.declared.run.Run.{Run}
-use Rattle.play.specs.declared.field.TheConstants.{FREE, BOX}
+use Rattle.play.specs.declared.mailbox.TheConstants.{FREE, BOX}
 use Rattle.play.specs.declared.fault.MoveWhy.{MoveWhy}
 use Rattle.play.specs.declared.fault.MoveWhy.TheVariants.{Letter, Wall, Blocked, Case}
 use Rattle.play.specs.declared.fault.ReplayFault.{ReplayFault}
@@ -40,13 +40,13 @@ use Rattle.play.proofs.ReadingLists.{in_order, in_order_is, numbered_in_order}
 use Rattle.play.proofs.Numbers.{differs, changes_push, changes_few, number_none, number_some, stepped_none, stepped_there, numbered_push}
 use Rattle.play.proofs.OffGoals.{len_moved, off_none}
 use Rattle.play.proofs.Places.{near_on, place_one, place_some}
-use Rattle.play.proofs.Fields.{field_pushed, neighbor_other}
+use Rattle.play.proofs.Mailboxes.{mailbox_pushed, neighbor_other}
 
 -- ---- the start
-pub progress_start : (level : Level) (field : List ℕ) (player : Cell) (run : Run) → IsWellFormed level → IsFieldOf level level.boxes field
+pub progress_start : (level : Level) (mailbox : List ℕ) (player : Cell) (run : Run) → IsWellFormed level → IsMailboxOf level level.boxes mailbox
     → player ≡ level.player → run ≡ record { player = place_of player; last = 0; tally = record { moves = 0; pushes = 0; changes = 0 } }
-    → Progress level [] field run
-progress_start level field player run formed shown here is = subst (Progress level [] field) (sym (is ∙ ap (λ c. begun c) here)) record {
+    → Progress level [] mailbox run
+progress_start level mailbox player run formed shown here is = subst (Progress level [] mailbox) (sym (is ∙ ap (λ c. begun c) here)) record {
   directions = [];
   state = start level;
   numbers = [];
@@ -105,11 +105,11 @@ module _ (level : Level) where
       let same_count = is_change sides m k numbered (on c (numbered.each m c at_m)) (on ahead (numbered.each k ahead at_k)) at_m at_k in
       grind (arith, differs, changes_push)
 
-module _ (level : Level) (done field : List ℕ) (run : Run) (before : Progress level done field run) where
+module _ (level : Level) (done mailbox : List ℕ) (run : Run) (before : Progress level done mailbox run) where
   -- ---- a walk
   pub progress_walk : {b : ℕ} (d : Dir) → IsFloor level (neighbor before.state.player d) → Lacks before.state.boxes (neighbor before.state.player d)
       → b ≡ small d
-      → Progress level (done ++ b ∷ []) field (record {
+      → Progress level (done ++ b ∷ []) mailbox (record {
         player = place_of (neighbor before.state.player d);
         last = run.last;
         tally = record run.tally { moves = run.tally.moves + 1 };
@@ -149,7 +149,7 @@ module _ (level : Level) (done field : List ℕ) (run : Run) (before : Progress 
   pub progress_push : {b : ℕ} (d : Dir) {new : Run} → Has before.state.boxes (neighbor before.state.player d)
       → IsFloor level (neighbor (neighbor before.state.player d) d) → Lacks before.state.boxes (neighbor (neighbor before.state.player d) d) → b ≡ capital d
       → CountsPush run (place_of (neighbor before.state.player d)) (place_of (neighbor (neighbor before.state.player d) d)) new
-      → Progress level (done ++ b ∷ []) (set (set field (place_of (neighbor before.state.player d)) FREE)
+      → Progress level (done ++ b ∷ []) (set (set mailbox (place_of (neighbor before.state.player d)) FREE)
       (place_of (neighbor (neighbor before.state.player d) d)) BOX) new
   progress_push d box there free letter counted = record {
     directions = before.directions ++ d ∷ [];
@@ -161,7 +161,7 @@ module _ (level : Level) (done field : List ℕ) (run : Run) (before : Progress 
     in_order = before.in_order;
     pushed = λ rest. grind (arith, one_longer, one_pushed, append_assoc);
     numbered = numbered_push ahead d before.numbered box free;
-    shown = field_pushed level before.stands.sides before.shown here there;
+    shown = mailbox_pushed level before.stands.sides before.shown here there;
     stands = grind (arith, has_insert, has_remove, lacks_where, here, apart);
     player = counted.player;
     last = inr (before.numbers, k, beyond, refl, stepped_there before.boxes d k at, counted.last);
@@ -220,9 +220,9 @@ module _ (level : Level) where
   cause_stuck s b Case d t (e, u, inr (push, x)) (inl (other, y)) = grind (arith, not_both, names_one)
   cause_stuck s b Case d t (e, u, inr (push, x)) (inr (other, y)) = small_not_capital e d x y
 
-  pub fails_at : (done field : List ℕ) (run : Run) (before : Progress level done field run) (b : ℕ) (after : List ℕ) (why : MoveWhy)
+  pub fails_at : (done mailbox : List ℕ) (run : Run) (before : Progress level done mailbox run) (b : ℕ) (after : List ℕ) (why : MoveWhy)
       → IsCause level before.state b why → FailsAt level (done ++ b ∷ after) (run.tally.moves + 1) why
-  fails_at done field run before b after why cause = record {
+  fails_at done mailbox run before b after why cause = record {
     before = done;
     letter = b;
     after = after;
@@ -246,17 +246,17 @@ module _ (level : Level) where
           next_stuck parts.between parts.rest t alike.1 parts.then
 
   -- ---- the end
-  pushed_all : (done field : List ℕ) (run : Run) (before : Progress level done field run)
+  pushed_all : (done mailbox : List ℕ) (run : Run) (before : Progress level done mailbox run)
       → pushed_numbers level.player before.first_boxes before.directions ≡ before.numbers
-  pushed_all done field run before = ap (pushed_numbers level.player before.first_boxes) (sym (append-nil before.directions))
+  pushed_all done mailbox run before = ap (pushed_numbers level.player before.first_boxes) (sym (append-nil before.directions))
       ∙ (before.pushed [] ∙ append-nil before.numbers)
 
-  counts_end : {done field : List ℕ} {run : Run} (before : Progress level done field run) → Counts level before.directions run.tally
+  counts_end : {done mailbox : List ℕ} {run : Run} (before : Progress level done mailbox run) → Counts level before.directions run.tally
   counts_end before = search (pushed_all)
 
-  pub solves_end : (text field : List ℕ) (run : Run) (before : Progress level (letters text) field run) (off : ℕ)
+  pub solves_end : (text mailbox : List ℕ) (run : Run) (before : Progress level (letters text) mailbox run) (off : ℕ)
       → off ≡ finset.len (off_goals level before.state) → off ≡ 0 → Solves level text run.tally
-  solves_end text field run before off count none = record {
+  solves_end text mailbox run before off count none = record {
     directions = before.directions;
     end = before.state;
     spelled = before.spelled;
@@ -265,9 +265,9 @@ module _ (level : Level) where
     counts = counts_end before;
   }
 
-  pub unsolved_end : (text field : List ℕ) (run : Run) (before : Progress level (letters text) field run) (off : ℕ)
+  pub unsolved_end : (text mailbox : List ℕ) (run : Run) (before : Progress level (letters text) mailbox run) (off : ℕ)
       → off ≡ finset.len (off_goals level before.state) → 0 < off → EndsUnsolved level (letters text) off
-  unsolved_end text field run before off count some = search
+  unsolved_end text mailbox run before off count some = search
 
 pub continues_then : {f g h : List ℕ} {a b c : Run} {bs cs : List ℕ} → Continues f a bs g b → Continues g b cs h c → Continues f a (bs ++ cs) h c
 continues_then {h} {c} {bs} {cs} first second level done before = grind (arith, append_assoc)
@@ -331,8 +331,8 @@ pub fault_next : {f g : List ℕ} {a b : Run} {text : List ℕ} {i : ℕ} (fault
 fault_next {f} {a} {text} {i} fault inside before fails = rw (letters_around text inside) (grind (arith, fault_before, fault_then))
 
 -- ---- a whole text
-pub fails_first : (level : Level) (field : List ℕ) (run : Run) (text : List ℕ) (fault : ReplayFault) → Progress level [] field run
-    → FailsOn field run (letters text) fault → IsFirstSolutionFault level text fault
-fails_first level field run text (Move n why) first fails = subst (λ xs. FailsAt level xs n why) (append-nil (letters text)) (fails level [] [] first)
-fails_first level field run text (Unsolved n) first fails = absurd fails
-fails_first level field run text Memory first fails = absurd fails
+pub fails_first : (level : Level) (mailbox : List ℕ) (run : Run) (text : List ℕ) (fault : ReplayFault) → Progress level [] mailbox run
+    → FailsOn mailbox run (letters text) fault → IsFirstSolutionFault level text fault
+fails_first level mailbox run text (Move n why) first fails = subst (λ xs. FailsAt level xs n why) (append-nil (letters text)) (fails level [] [] first)
+fails_first level mailbox run text (Unsolved n) first fails = absurd fails
+fails_first level mailbox run text Memory first fails = absurd fails

@@ -3,7 +3,7 @@ use Rattle.std.specs.Prelude.{◌≡◌, ◌⊎◌, ℕ, ◌+◌, true, false}
 use Rattle.cellset.specs.declared.dir.Dir.{Dir}
 use Rattle.play.specs.Spelling.{is_blank, small, capital}
 use Rattle.play.specs.FirstFault.{Names}
-use Rattle.play.specs.Field.{stride}
+use Rattle.play.specs.Mailbox.{stride}
 use Rattle.play.specs.declared.letters.Letter.{Letter}
 use Rattle.play.specs.declared.letters.TheConstants.{WALK, PUSH, FOREIGN, LETTER, NO_WALK}
 

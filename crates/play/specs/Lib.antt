@@ -4,7 +4,7 @@ pub mod Counts
 pub mod Solution
 pub mod FirstFault
 pub mod Words
-pub mod Field
+pub mod Mailbox
 pub mod Letter
 pub mod Progress
 pub use Rattle.cellset.specs.Shape

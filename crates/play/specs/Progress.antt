@@ -1,4 +1,4 @@
--- How far a replay has come: what its field and its counters say of the letters played so far.
+-- How far a replay has come: what its mailbox and its counters say of the letters played so far.
 use Rattle.std.specs.Prelude.{◌≡◌, ◌⊎◌, ℕ, ◌+◌, ◌%◌, ◌^◌, ◌≤◌, ◌<◌, ◌==◌, if◌then◌else◌, Some, List, [], ◌∷◌, ◌++◌, length, slice_get, slice_index, take}
 use Rattle.std.specs.FinSet as set
 use Rattle.cellset.specs.Shape.{HasSides}
@@ -8,12 +8,12 @@ use Rattle.cellset.specs.declared.dir.Dir.{Dir}
 use Rattle.board.specs.Game.{Level, State, IsFloor, start}
 use Rattle.play.specs.Spelling.{SpellsPlay, letters}
 use Rattle.play.specs.Counts.{IsInReadingOrder, pushed_numbers, changes}
-use Rattle.play.specs.Field.{place_of, IsFieldOf}
+use Rattle.play.specs.Mailbox.{place_of, IsMailboxOf}
 use Rattle.play.specs.FirstFault.{FailsAt}
 use Rattle.play.specs.declared.run.Run.{Run}
 use Rattle.play.specs.declared.letters.Letter.{Letter}
 use Rattle.play.specs.declared.letters.TheConstants.{WALK}
-use Rattle.play.specs.declared.field.TheConstants.{FREE}
+use Rattle.play.specs.declared.mailbox.TheConstants.{FREE}
 use Rattle.play.specs.declared.fault.MoveWhy.{MoveWhy}
 use Rattle.play.specs.declared.fault.ReplayFault.{ReplayFault}
 use Rattle.play.specs.declared.fault.ReplayFault.TheVariants.{Move}
@@ -37,8 +37,8 @@ pub record StandsOnFloor (level : Level) (s : State) : Type 0 where
   pub boxes : (c : Cell) → Has s.boxes c → IsFloor level c
   pub apart : Lacks s.boxes s.player
 
--- the letters done spell a play from the start, the field shows the state that it leads to, and the counts are its own
-pub record Progress (level : Level) (done : List ℕ) (field : List ℕ) (run : Run) : Type 0 where
+-- the letters done spell a play from the start, the mailbox shows the state that it leads to, and the counts are its own
+pub record Progress (level : Level) (done : List ℕ) (mailbox : List ℕ) (run : Run) : Type 0 where
   pub directions : List Dir
   pub state : State
   pub numbers : List ℕ
@@ -48,7 +48,7 @@ pub record Progress (level : Level) (done : List ℕ) (field : List ℕ) (run : 
   pub in_order : IsInReadingOrder first_boxes level.boxes
   pub pushed : (rest : List Dir) → pushed_numbers level.player first_boxes (directions ++ rest) ≡ numbers ++ pushed_numbers state.player boxes rest
   pub numbered : AreNumbered boxes state.boxes
-  pub shown : IsFieldOf level state.boxes field
+  pub shown : IsMailboxOf level state.boxes mailbox
   pub stands : StandsOnFloor level state
   pub player : run.player ≡ place_of state.player
   pub last : IsLast boxes numbers run.last
@@ -58,39 +58,39 @@ pub record Progress (level : Level) (done : List ℕ) (field : List ℕ) (run : 
   pub fewer : length numbers ≤ length directions
   pub as_many : set.len state.boxes ≡ set.len level.boxes
 
--- some letters of some level led to this field and these counts
+-- some letters of some level led to this mailbox and these counts
 abbrev pub IsUnderWay : List ℕ → Run → Type 0
-IsUnderWay field run = (level : Level) × (done : List ℕ) × Progress level done field run
+IsUnderWay mailbox run = (level : Level) × (done : List ℕ) × Progress level done mailbox run
 
--- whatever letters led to the first field and its counts, more letters lead on from there to the second field and its counts
+-- whatever letters led to the first mailbox and its counts, more letters lead on from there to the second mailbox and its counts
 abbrev pub Continues : List ℕ → Run → List ℕ → List ℕ → Run → Type 0
-Continues field run more field' run' = (level : Level) (done : List ℕ) → Progress level done field run → Progress level (done ++ more) field' run'
+Continues mailbox run more mailbox' run' = (level : Level) (done : List ℕ) → Progress level done mailbox run → Progress level (done ++ more) mailbox' run'
 
--- the first n bytes of the text lead from the first field and its counts to the second, in at most n moves
-pub record IsPlayed (field : List ℕ) (run : Run) (text : List ℕ) (n : ℕ) (field' : List ℕ) (run' : Run) : Type 0 where
+-- the first n bytes of the text lead from the first mailbox and its counts to the second, in at most n moves
+pub record IsPlayed (mailbox : List ℕ) (run : Run) (text : List ℕ) (n : ℕ) (mailbox' : List ℕ) (run' : Run) : Type 0 where
   pub within : n ≤ length text
   pub moves : run'.tally.moves ≤ run.tally.moves + n
-  pub continues : Continues field run (letters (take n text)) field' run'
+  pub continues : Continues mailbox run (letters (take n text)) mailbox' run'
 
--- whatever letters led to the field and this place of the player, these letters are walks that lead on to that place in the given
+-- whatever letters led to the mailbox and this place of the player, these letters are walks that lead on to that place in the given
 -- number of moves
 abbrev pub WalksOn : List ℕ → ℕ → List ℕ → ℕ → ℕ → Type 0
-WalksOn field player more player' moves =
+WalksOn mailbox player more player' moves =
     (run : Run) → run.player ≡ player
-    → Continues field run more field (record { player = player'; last = run.last; tally = record run.tally { moves = run.tally.moves + moves } })
+    → Continues mailbox run more mailbox (record { player = player'; last = run.last; tally = record run.tally { moves = run.tally.moves + moves } })
 
--- whatever letters led to the field and its counts, with these letters after them the text fails at letter n for this reason
+-- whatever letters led to the mailbox and its counts, with these letters after them the text fails at letter n for this reason
 abbrev pub FailsBy : List ℕ → Run → List ℕ → ℕ → MoveWhy → Type 0
-FailsBy field run more n why = (level : Level) (done after : List ℕ) → Progress level done field run → FailsAt level (done ++ (more ++ after)) n why
+FailsBy mailbox run more n why = (level : Level) (done after : List ℕ) → Progress level done mailbox run → FailsAt level (done ++ (more ++ after)) n why
 
--- whatever letters led to the field and its counts, with these letters after them the text has this fault
+-- whatever letters led to the mailbox and its counts, with these letters after them the text has this fault
 abbrev pub FailsOn : List ℕ → Run → List ℕ → ReplayFault → Type 0
-FailsOn field run more (Move n why) = FailsBy field run more n why
-FailsOn field run more _ = ⊥
+FailsOn mailbox run more (Move n why) = FailsBy mailbox run more n why
+FailsOn mailbox run more _ = ⊥
 
 -- the letter does not walk onto a free cell
 abbrev pub IsNoWalk : List ℕ → Run → Letter → Type 0
-IsNoWalk field run letter = letter.kind ≡ WALK → slice_index field ((run.player + letter.step) % 2 ^ 16) ≡ FREE → ⊥
+IsNoWalk mailbox run letter = letter.kind ≡ WALK → slice_index mailbox ((run.player + letter.step) % 2 ^ 16) ≡ FREE → ⊥
 
 -- the counts don't overflow at the next move
 pub record HasRoom (run : Run) : Type 0 where

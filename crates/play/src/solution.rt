@@ -2,7 +2,7 @@
 //!
 //! `replay` and `replay_lines` are for callers. The program uses `Replayer`, with the same contract, and so plays all solutions in one memory.
 ghost use Rattle.std.specs.Prelude.{◌≡◌, ◌≢◌, ◌⊎◌, ◌+◌, ◌≤◌, ◌<◌, ◌^◌, true, false, length, slice_index, sum_by, IfOk, IfErr, OnOk};
-ghost use Rattle.play.specs.Field.{HasMask};
+ghost use Rattle.play.specs.Mailbox.{HasMask};
 ghost use Rattle.play.specs.Spelling.{letters, joined};
 ghost use Rattle.play.specs.Solution.{Solves};
 ghost use Rattle.play.specs.FirstFault.{IsFirstSolutionFault};
@@ -11,7 +11,7 @@ ghost use Rattle.play.specs.declared.tally.Tally.{Tally as Counted};
 ghost use Rattle.play.specs.declared.fault.ReplayFault.{ReplayFault as Fault};
 
 use crate::fault::ReplayFault;
-use crate::field::{boxes_off_goals, draw_field};
+use crate::mailbox::{boxes_off_goals, draw_mailbox};
 use crate::run::{Run, begin, play_letter};
 use crate::tally::Tally;
 use crate::walks::{GROUP, walk_groups};
@@ -20,24 +20,24 @@ use cellset::CellSet;
 use std::alloc::Global;
 
 // Plays the letters of one line: walks in groups, and from a group that has anything else its walks and then its pushes one by one.
-fn play_line(field: &mut [u8], run: &mut Run, line: &[u8]) -> Result<(), ReplayFault>
-    requires under_way { IsUnderWay field.old run.old }
-    requires masked { HasMask field.old }
+fn play_line(mailbox: &mut [u8], run: &mut Run, line: &[u8]) -> Result<(), ReplayFault>
+    requires under_way { IsUnderWay mailbox.old run.old }
+    requires masked { HasMask mailbox.old }
     requires room { run.old.tally.moves + length line.now < 2 ^ 64 }
     ensures moves { OnOk result (run.new.tally.moves ≤ run.old.tally.moves + length line.now) }
-    ensures ok { OnOk result (Continues field.old run.old (letters line.now) field.new run.new) }
-    ensures err { IfErr result (FailsOn field.old run.old (letters line.now)) }
+    ensures ok { OnOk result (Continues mailbox.old run.old (letters line.now) mailbox.new run.new) }
+    ensures err { IfErr result (FailsOn mailbox.old run.old (letters line.now)) }
 {
     let mut at = 0;
     'groups: while at < line.len() {
-        at += walk_groups(field, run, &line[at..]);
+        at += walk_groups(mailbox, run, &line[at..]);
         let end = (at + GROUP).min(line.len());
         'small: while at < end && line[at] >= b'a' {
-            play_letter(field, run, line[at])?;
+            play_letter(mailbox, run, line[at])?;
             at += 1;
         }
         'others: while at < line.len() && line[at] < b'a' {
-            play_letter(field, run, line[at])?;
+            play_letter(mailbox, run, line[at])?;
             at += 1;
         }
     }
@@ -45,22 +45,22 @@ fn play_line(field: &mut [u8], run: &mut Run, line: &[u8]) -> Result<(), ReplayF
 }
 
 // Plays the letters of all lines.
-fn play_lines(field: &mut [u8], run: &mut Run, lines: &[&[u8]]) -> Result<(), ReplayFault>
-    requires under_way { IsUnderWay field.old run.old }
-    requires masked { HasMask field.old }
+fn play_lines(mailbox: &mut [u8], run: &mut Run, lines: &[&[u8]]) -> Result<(), ReplayFault>
+    requires under_way { IsUnderWay mailbox.old run.old }
+    requires masked { HasMask mailbox.old }
     requires room { run.old.tally.moves + length (joined lines.now) < 2 ^ 64 }
-    ensures ok { OnOk result (Continues field.old run.old (letters (joined lines.now)) field.new run.new) }
-    ensures err { IfErr result (FailsOn field.old run.old (letters (joined lines.now))) }
+    ensures ok { OnOk result (Continues mailbox.old run.old (letters (joined lines.now)) mailbox.new run.new) }
+    ensures err { IfErr result (FailsOn mailbox.old run.old (letters (joined lines.now))) }
 {
     for line in lines {
-        play_line(field, run, line)?;
+        play_line(mailbox, run, line)?;
     }
     Ok(())
 }
 
-// The outcome of the whole text, which is played in the memory of `field`.
+// The outcome of the whole text, which is played in the memory of `mailbox`.
 fn play_all<S: CellSet>(
-    field: &mut Vec<u8>,
+    mailbox: &mut Vec<u8>,
     board: &Board<S>,
     lines: &[&[u8]],
 ) -> Result<Tally, ReplayFault>
@@ -69,13 +69,13 @@ fn play_all<S: CellSet>(
     ensures exact { IfErr result (λ fault.
         fault ≢ ReplayFault.Memory → IsFirstSolutionFault board.now (joined lines.now) fault) }
 {
-    let Ok(()) = draw_field(field, board) else {
+    let Ok(()) = draw_mailbox(mailbox, board) else {
         return Err(ReplayFault::Memory);
     };
-    let field = field.as_mut_slice();
+    let mailbox = mailbox.as_mut_slice();
     let mut run = begin(board.player());
-    play_lines(field, &mut run, lines)?;
-    let boxes = boxes_off_goals(board, field);
+    play_lines(mailbox, &mut run, lines)?;
+    let boxes = boxes_off_goals(board, mailbox);
     if boxes > 0 {
         return Err(ReplayFault::Unsolved { boxes });
     }
@@ -85,14 +85,14 @@ fn play_all<S: CellSet>(
 /// Plays one solution after another, in memory that is kept.
 #[derive(Debug, Drop)]
 pub struct Replayer {
-    field: Vec<u8>,
+    mailbox: Vec<u8>,
 }
 
 impl Replayer {
     /// Makes a replayer, and allocates nothing.
     pub fn new(alloc: Global) -> Replayer {
         Replayer {
-            field: Vec::new(alloc),
+            mailbox: Vec::new(alloc),
         }
     }
 
@@ -115,7 +115,7 @@ impl Replayer {
         ensures first { (fault : Fault) → IsFirstSolutionFault board.now (joined lines.now) fault →
             (result ≡ Err fault) ⊎ (result ≡ Err ReplayFault.Memory) }
     {
-        play_all(&mut self.field, board, lines)
+        play_all(&mut self.mailbox, board, lines)
     }
 }
 

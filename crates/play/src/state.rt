@@ -1,6 +1,6 @@
 //! States, and one step of the game.
 //!
-//! `State` is for callers. The program plays on a field of bytes; the contract of `Replayer` speaks of the same steps.
+//! `State` is for callers. The program plays on a mailbox of bytes; the contract of `Replayer` speaks of the same steps.
 ghost use Rattle.std.specs.Prelude.{◌≡◌, ◌↔◌, IfOk, OnErr};
 ghost use Rattle.std.specs.Option.{SomeIff};
 ghost use Rattle.cellset.specs.Cell.{IsOn, neighbor};

@@ -4,15 +4,15 @@
 //! more. A group with a push gains nothing.
 //!
 //! The letters of a group are tested together. One sum holds the player's place in its low 16 bits and the number of letters in its
-//! high bits. A field has a power of two of bytes, so masking a place keeps it in the field. The place of a walk passes unchanged, because
-//! a step from a free cell leads into the field.
+//! high bits. A mailbox has a power of two of bytes, so masking a place keeps it in the mailbox. The place of a walk passes unchanged, because
+//! a step from a free cell leads into the mailbox.
 ghost use Rattle.std.specs.Prelude.{◌≡◌, ◌+◌, ◌≤◌, ◌<◌, ◌^◌, length, IfSome};
-ghost use Rattle.play.specs.Field.{HasMask};
+ghost use Rattle.play.specs.Mailbox.{HasMask};
 ghost use Rattle.play.specs.Spelling.{letters};
 ghost use Rattle.play.specs.Progress.{IsPlayed, WalksOn};
 
-use crate::field::FREE;
 use crate::letters::{LETTER, NO_WALK, added};
+use crate::mailbox::FREE;
 use crate::run::Run;
 
 // The number of letters that are tested together.
@@ -21,31 +21,31 @@ pub(crate) const GROUP: usize = 8;
 // Plays whole groups up to the first one that has anything but blanks and walks onto free cells. Returns the number of bytes
 // played.
 #[inline(never)]
-pub(crate) fn walk_groups(field: &[u8], run: &mut Run, text: &[u8]) -> usize
-    requires masked { HasMask field.now }
+pub(crate) fn walk_groups(mailbox: &[u8], run: &mut Run, text: &[u8]) -> usize
+    requires masked { HasMask mailbox.now }
     requires room { run.old.tally.moves + length text.now < 2 ^ 64 }
-    ensures { IsPlayed field.now run.old text.now result field.now run.new }
+    ensures { IsPlayed mailbox.now run.old text.now result mailbox.now run.new }
 {
     // A constant mask saves an instruction for each letter.
-    if field.len() == 65536 {
-        return walk_masked(field, 65535, run, text);
+    if mailbox.len() == 65536 {
+        return walk_masked(mailbox, 65535, run, text);
     }
-    walk_masked(field, (field.len() - 1) as u32, run, text)
+    walk_masked(mailbox, (mailbox.len() - 1) as u32, run, text)
 }
 
-// Plays whole groups with the mask of the field.
+// Plays whole groups with the mask of the mailbox.
 #[inline(always)]
-fn walk_masked(field: &[u8], mask: u32, run: &mut Run, text: &[u8]) -> usize
-    requires masked { HasMask field.now }
-    requires mask { mask + 1 ≡ length field.now }
+fn walk_masked(mailbox: &[u8], mask: u32, run: &mut Run, text: &[u8]) -> usize
+    requires masked { HasMask mailbox.now }
+    requires mask { mask + 1 ≡ length mailbox.now }
     requires room { run.old.tally.moves + length text.now < 2 ^ 64 }
-    ensures { IsPlayed field.now run.old text.now result field.now run.new }
+    ensures { IsPlayed mailbox.now run.old text.now result mailbox.now run.new }
 {
     let mut player = run.player;
     let mut moves = run.tally.moves;
     let mut at = 0;
     'groups: while text.len() - at >= GROUP {
-        let Some((next, steps)) = walk(field, mask, player, &text[at..at + GROUP]) else {
+        let Some((next, steps)) = walk(mailbox, mask, player, &text[at..at + GROUP]) else {
             break;
         };
         player = next;
@@ -59,18 +59,18 @@ fn walk_masked(field: &[u8], mask: u32, run: &mut Run, text: &[u8]) -> usize
 
 // Where the group leads and how many letters it has, if all of them walk onto free cells.
 #[inline(always)]
-fn walk(field: &[u8], mask: u32, player: u16, group: &[u8]) -> Option<(u16, u64)>
-    requires masked { HasMask field.now }
-    requires mask { mask + 1 ≡ length field.now }
+fn walk(mailbox: &[u8], mask: u32, player: u16, group: &[u8]) -> Option<(u16, u64)>
+    requires masked { HasMask mailbox.now }
+    requires mask { mask + 1 ≡ length mailbox.now }
     requires few { length group.now ≤ GROUP }
     ensures { IfSome result (λ walked.
-        (walked.1 ≤ length group.now) × WalksOn field.now player (letters group.now) walked.0 walked.1) }
+        (walked.1 ≤ length group.now) × WalksOn mailbox.now player (letters group.now) walked.0 walked.1) }
 {
     let mut sum = u32::from(player);
     let mut met = FREE;
     for byte in group {
         sum += added(*byte);
-        met |= field[(sum & mask) as usize];
+        met |= mailbox[(sum & mask) as usize];
     }
     if met == FREE && sum < NO_WALK {
         Some(((sum % 65536) as u16, u64::from(sum / LETTER)))

@@ -44,4 +44,4 @@ pub groups-preserved-else-line-at-lt97 : goal.groups-preserved-else-line-at-lt97
 groups-preserved-else-line-at-lt97 c = c.others.invariant.0
 
 pub walk_groups-at-requires-clause-masked : goal.walk_groups-at-requires-clause-masked
-walk_groups-at-requires-clause-masked c = rw c.groups.auto.field c.requires.masked
+walk_groups-at-requires-clause-masked c = rw c.groups.auto.mailbox c.requires.masked

@@ -1,4 +1,4 @@
--- The invariant says that the letters of the lines so far led from the first field to this one, in at most as many moves as these lines
+-- The invariant says that the letters of the lines so far led from the first mailbox to this one, in at most as many moves as these lines
 -- have bytes. A line that is played makes them more by its own letters (`Texts.antt`, `Replays.antt`). A line that fails makes all lines
 -- fail at the same letter, because the letters before it are a part of all letters. There is room for a move per byte of all lines, so
 -- there is room for the next line.
@@ -31,7 +31,7 @@ returns-in_err-play_line-clause-err c =
     let rest = letters (joined (drop (i + 1) lines)) in
     let fault = c.in_err-play_line.field-0.0 in
     let behind = fault_then line fault c.loop-line.invariant.continues c.in_err-play_line.ensures.err in
-    let whole = fault_before c.args.field.now c.args.run.now (done ++ line) rest fault behind in
+    let whole = fault_before c.args.mailbox.now c.args.run.now (done ++ line) rest fault behind in
     let p = err_from_is_err_and c.from_residual.result c.from_residual.ensures.1 in
     rw (p.1, p.2, line_letters_around lines i none (omega arith)) whole
 

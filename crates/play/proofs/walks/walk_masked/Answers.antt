@@ -7,7 +7,7 @@ pub groups-preserved : goal.groups-preserved
 groups-preserved c =
     let i = c.groups.at in
     let text = c.args.text.now in
-    let field = c.args.field.now in
+    let mailbox = c.args.mailbox.now in
     let run = c.args.run.now in
     let here = led run c.groups.player c.groups.moves in
     let there = led run c.in-Some.next (c.groups.moves + c.in-Some.steps) in
@@ -17,5 +17,5 @@ groups-preserved c =
     record {
       within = omega arith;
       moves = omega arith;
-      continues = continues_up field field field run here there text i (i + 8) (omega arith) c.groups.invariant.continues (c.in-Some.ensures.1 here refl);
+      continues = continues_up mailbox mailbox mailbox run here there text i (i + 8) (omega arith) c.groups.invariant.continues (c.in-Some.ensures.1 here refl);
     }

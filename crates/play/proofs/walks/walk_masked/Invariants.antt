@@ -4,7 +4,7 @@ use Rattle.play.proofs.Sums.{led}
 use Rattle.play.proofs.walks.walk_masked.Given as goal
 
 abbrev pub invariant-groups : goal.invariant-groups
-invariant-groups l = IsPlayed l.field l.fn.run l.text l.at l.field (led l.fn.run l.player l.moves)
+invariant-groups l = IsPlayed l.mailbox l.fn.run l.text l.at l.mailbox (led l.fn.run l.player l.moves)
 
 abbrev pub decreases-groups : goal.decreases-groups
 decreases-groups l = length l.text - l.at

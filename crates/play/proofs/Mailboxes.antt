@@ -1,7 +1,7 @@
--- What the field of a replay says. A byte is one of three, so it says what its cell is, and what a cell is determines
+-- What the mailbox of a replay says. A byte is one of three, so it says what its cell is, and what a cell is determines
 -- its byte.
--- A byte that is written belongs to a cell of the grid, so no other cell near the grid has its place, and the field shows the boxes with
--- or without this one. A push writes two bytes. The field of a new level is drawn by lanes (`Lanes.antt`), first without boxes.
+-- A byte that is written belongs to a cell of the grid, so no other cell near the grid has its place, and the mailbox shows the boxes with
+-- or without this one. A push writes two bytes. The mailbox of a new level is drawn by lanes (`Lanes.antt`), first without boxes.
 use Rattle.std.proofs.Common.{◌≡◌, ◌≢◌, ◌⊎◌, ℕ, Bool, true, false, cond, not, ◌&&◌, ◌||◌, ◌+◌, ◌-◌, ◌*◌, ◌/◌, ◌%◌, ◌^◌, ◌≤◌, ◌<◌, List, length, min, set, get_or, length-set, subst}
 use Rattle.std.proofs.Common.{refl, sym, ◌∙◌, ap, inl, inr, arith}
 use Rattle.std.specs.Prelude.{◌↔◌}
@@ -22,8 +22,8 @@ use Rattle.std.proofs.lemmas.Bool.{false≢true, cases_lt}
 use Rattle.board.specs.Game.{Level, IsFloor, moved}
 use Rattle.board.specs.Board.{IsWellFormed}
 use Rattle.play.specs.State.{IsWall}
-use Rattle.play.specs.Field.{place_of, IsNear, IsShown, IsFieldOf, IsDrawnBelow}
-use Rattle.play.specs.declared.field.TheConstants.{FREE, WALL, BOX}
+use Rattle.play.specs.Mailbox.{place_of, IsNear, IsShown, IsMailboxOf, IsDrawnBelow}
+use Rattle.play.specs.declared.mailbox.TheConstants.{FREE, WALL, BOX}
 use Rattle.cellset.proofs.Shifts.{bit_down}
 use Rattle.play.proofs.Lanes.{low_bits}
 use Rattle.play.proofs.Places.{near_on, on_or_off, place_one, place_on}
@@ -70,14 +70,14 @@ neighbor_other R on e = grind arith
 neighbor_other D on e = grind arith
 
 module _ (level : Level) (sides : HasSides level.shape.width level.shape.height) where
-  -- a field in which the byte of one cell is written shows boxes that differ at this cell at most
-  field_set : {boxes new : Cells} {field : List ℕ} {q : Cell} {byte : ℕ} → IsOn level.shape q
+  -- a mailbox in which the byte of one cell is written shows boxes that differ at this cell at most
+  mailbox_set : {boxes new : Cells} {mailbox : List ℕ} {q : Cell} {byte : ℕ} → IsOn level.shape q
       → ((c : Cell) → same c q ≡ false → cells.contains new c ≡ cells.contains boxes c) → IsShown level new q byte
-      → IsFieldOf level boxes field → IsFieldOf level new (set field (place_of q) byte)
-  field_set {boxes} {new} {field} {q} {byte} on others here before = record {
-    places = λ c near. let old = before.places c near in let long = length-set field (place_of q) byte in omega arith;
+      → IsMailboxOf level boxes mailbox → IsMailboxOf level new (set mailbox (place_of q) byte)
+  mailbox_set {boxes} {new} {mailbox} {q} {byte} on others here before = record {
+    places = λ c near. let old = before.places c near in let long = length-set mailbox (place_of q) byte in omega arith;
     shown = λ c near. same_or_other c q
-        (λ e. rw (e, get_or-set_same field (place_of q) byte 0 (before.places q (near_on level.shape on))) here)
+        (λ e. rw (e, get_or-set_same mailbox (place_of q) byte 0 (before.places q (near_on level.shape on))) here)
         (λ f. grind (arith, get_or-set_other, place_one, other, still));
   }
     where
@@ -89,22 +89,22 @@ module _ (level : Level) (sides : HasSides level.shape.width level.shape.height)
       still c b e (inr (inl (is, wall, free))) = inr (inl (is, wall, e ∙ free))
       still c b e (inr (inr (is, floor, box))) = inr (inr (is, floor, e ∙ box))
 
-  pub field_put : {boxes : Cells} {field : List ℕ} {to : Cell} → IsFloor level to → IsFieldOf level boxes field
-      → IsFieldOf level (cells.insert boxes to) (set field (place_of to) BOX)
-  field_put {boxes} {to} floor before = field_set floor.0
+  pub mailbox_put : {boxes : Cells} {mailbox : List ℕ} {to : Cell} → IsFloor level to → IsMailboxOf level boxes mailbox
+      → IsMailboxOf level (cells.insert boxes to) (set mailbox (place_of to) BOX)
+  mailbox_put {boxes} {to} floor before = mailbox_set floor.0
       (λ c f. cells.contains-insert cells_total boxes to c ∙ ap (λ b. b || cells.contains boxes c) f) (inr (inr (refl, floor, inserted boxes to))) before
 
-  field_taken : (boxes : Cells) (field : List ℕ) (from : Cell) → IsFloor level from → IsFieldOf level boxes field
-      → IsFieldOf level (cells.remove boxes from) (set field (place_of from) FREE)
-  field_taken boxes field from floor before = field_set floor.0
+  mailbox_taken : (boxes : Cells) (mailbox : List ℕ) (from : Cell) → IsFloor level from → IsMailboxOf level boxes mailbox
+      → IsMailboxOf level (cells.remove boxes from) (set mailbox (place_of from) FREE)
+  mailbox_taken boxes mailbox from floor before = mailbox_set floor.0
       (λ c f. cells.contains-remove cells_total boxes from c ∙ ap (λ b. not b && cells.contains boxes c) f)
       (inl (refl, floor, lacks_where (cells.remove boxes from) from (λ h. (has_remove boxes from from h).0 refl))) before
 
-  pub field_pushed : {boxes : Cells} {field : List ℕ} {from to : Cell} → IsFieldOf level boxes field → IsFloor level from → IsFloor level to
-      → IsFieldOf level (moved boxes from to) (set (set field (place_of from) FREE) (place_of to) BOX)
-  field_pushed before floor there = search (field_put, field_taken)
+  pub mailbox_pushed : {boxes : Cells} {mailbox : List ℕ} {from to : Cell} → IsMailboxOf level boxes mailbox → IsFloor level from → IsFloor level to
+      → IsMailboxOf level (moved boxes from to) (set (set mailbox (place_of from) FREE) (place_of to) BOX)
+  mailbox_pushed before floor there = search (mailbox_put, mailbox_taken)
 
--- ---- the field of a level as it begins
+-- ---- the mailbox of a level as it begins
 -- bytes for sixteen cells of a row, from a column on: they show the cells on the grid, and are the byte of a wall beyond it
 pub record AreBytesOf (level : Level) (row column : ℕ) (bytes : List ℕ) : Type 0 where
   pub len : length bytes ≡ 16
@@ -114,25 +114,25 @@ pub record AreBytesOf (level : Level) (row column : ℕ) (bytes : List ℕ) : Ty
 -- the cells of a level are drawn sixteen by sixteen, in the order of their places
 module _ (level : Level) (formed : IsWellFormed level) where
   -- drawing goes on by sixteen cells, whose bytes are stored at once
-  pub drawn_next : (row column : ℕ) (bytes field : List ℕ) → column + 16 ≤ 256 → row ≤ level.shape.height + 1 → row < 256
-      → AreBytesOf level row column bytes → IsDrawnBelow level (256 * row + column) field
-      → IsDrawnBelow level (256 * row + column + 16) (put_chunk (256 * row + column) field bytes)
-  drawn_next row column bytes field within row_on low are before = record { rows = rows; drawn = drawn }
+  pub drawn_next : (row column : ℕ) (bytes mailbox : List ℕ) → column + 16 ≤ 256 → row ≤ level.shape.height + 1 → row < 256
+      → AreBytesOf level row column bytes → IsDrawnBelow level (256 * row + column) mailbox
+      → IsDrawnBelow level (256 * row + column + 16) (put_chunk (256 * row + column) mailbox bytes)
+  drawn_next row column bytes mailbox within row_on low are before = record { rows = rows; drawn = drawn }
     where
       n : ℕ
       n = 256 * row + column
 
       after : List ℕ
-      after = put_chunk n field bytes
+      after = put_chunk n mailbox bytes
 
       rows : 256 * min (level.shape.height + 2) 256 ≤ length after
-      rows = let r = before.rows in let same = length-put_chunk n field bytes in omega arith
+      rows = let r = before.rows in let same = length-put_chunk n mailbox bytes in omega arith
 
-      room : n + length bytes ≤ length field
+      room : n + length bytes ≤ length mailbox
       room = omega arith
 
-      earlier : (i : ℕ) → i < n → get_or after i 0 ≡ get_or field i 0
-      earlier i lt = get_or-put_chunk_below n field bytes i 0 lt
+      earlier : (i : ℕ) → i < n → get_or after i 0 ≡ get_or mailbox i 0
+      earlier i lt = get_or-put_chunk_below n mailbox bytes i 0 lt
 
       here : (i : ℕ) → n ≤ i → i < n + 16 → get_or after i 0 ≡ get_or bytes (i - n) 0
       here i low high = grind (arith, get_or-put_chunk_at, room)

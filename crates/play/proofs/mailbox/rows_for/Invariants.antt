@@ -1,5 +1,5 @@
 use Rattle.std.proofs.Common.{◌≡◌, ℕ, ◌-◌, ◌^◌, ◌≤◌}
-use Rattle.play.proofs.field.rows_for.Given as goal
+use Rattle.play.proofs.mailbox.rows_for.Given as goal
 
 abbrev pub invariant-loop-rows : goal.invariant-loop-rows
 invariant-loop-rows l = (k : ℕ) × (k ≤ 8) × (l.rows ≡ 2 ^ k)

@@ -1,10 +1,10 @@
 use Rattle.std.proofs.Common.{◌≡◌, ◌+◌, ◌-◌, ◌*◌, ◌/◌, ◌%◌, ◌^◌, ◌≤◌}
-use Rattle.play.specs.Field.{IsDrawnBelow}
-use Rattle.play.proofs.field.draw_part.Given as goal
+use Rattle.play.specs.Mailbox.{IsDrawnBelow}
+use Rattle.play.proofs.mailbox.draw_part.Given as goal
 
 abbrev pub invariant-lanes : goal.invariant-lanes
 invariant-lanes g l = record {
-  drawn : IsDrawnBelow l.board (256 * l.row + l.column) l.field;
+  drawn : IsDrawnBelow l.board (256 * l.row + l.column) l.mailbox;
   whole : l.column % 16 ≡ 0;
   from : 64 * l.part ≤ l.column;
   to : l.column ≤ 64 * l.part + 64;

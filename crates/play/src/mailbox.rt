@@ -1,4 +1,4 @@
-//! A board as bytes, one for each cell, so that a step is one addition.
+//! The mailbox of a board: a byte for each cell, with a border, so that a step is one addition.
 //!
 //! The bytes are written 16 at a time. One at a time, an audit of 10,000 small levels takes 4 % more instructions. Long solutions gain nothing.
 ghost use Rattle.std.specs.Prelude.{◌≡◌, ◌↔◌, ℕ, ◌+◌, ◌*◌, ◌^◌, ◌<◌, ◌≤◌, min, if◌then◌else◌, length, slice_index, OnOk};
@@ -10,7 +10,7 @@ ghost use Rattle.cellset.specs.RowBits.{IsRowOf};
 ghost use Rattle.cellset.specs.declared.cell.Cell.{Cell as GridCell};
 ghost use Rattle.board.specs.Board.{IsWellFormed};
 ghost use Rattle.board.specs.Game.{IsFloor};
-ghost use Rattle.play.specs.Field.{place_of, HasMask, IsFieldOf, IsDrawnBelow};
+ghost use Rattle.play.specs.Mailbox.{place_of, HasMask, IsMailboxOf, IsDrawnBelow};
 
 use board::Board;
 use cellset::{Cell, CellSet, MembersOf};
@@ -33,35 +33,35 @@ pub(crate) fn place(cell: Cell) -> u16
     cell.row() as u16 * 256 + cell.column() as u16
 }
 
-// Draws the field of a board at the start of its level: its rows with one more above and below, and more rows up to a power of two.
+// Draws the mailbox of a board at the start of its level: its rows with one more above and below, and more rows up to a power of two.
 // On the highest boards the row below is the row above, because the places wrap around. What is beyond the cells around the grid stays
 // as it was.
-pub(crate) fn draw_field<S: CellSet>(
-    field: &mut Vec<u8>,
+pub(crate) fn draw_mailbox<S: CellSet>(
+    mailbox: &mut Vec<u8>,
     board: &Board<S>,
 ) -> Result<(), AllocError>
-    ensures shown { OnOk result (IsFieldOf board.now board.now.boxes field.new.items) }
-    ensures masked { OnOk result (HasMask field.new.items) }
+    ensures shown { OnOk result (IsMailboxOf board.now board.now.boxes mailbox.new.items) }
+    ensures masked { OnOk result (HasMask mailbox.new.items) }
     ensures formed { IsWellFormed board.now }
 {
-    field.resize(256 * rows_for(board.shape().height() as usize), WALL)?;
-    draw_board(field, board);
+    mailbox.resize(256 * rows_for(board.shape().height() as usize), WALL)?;
+    draw_board(mailbox, board);
     Ok(())
 }
 
 // Writes the bytes of the cells on the grid and around it.
-fn draw_board<S: CellSet>(field: &mut [u8], board: &Board<S>)
-    requires { 256 * min (board.now.shape.height + 2) 256 ≤ length field.old }
-    ensures { IsFieldOf board.now board.now.boxes field.new }
+fn draw_board<S: CellSet>(mailbox: &mut [u8], board: &Board<S>)
+    requires { 256 * min (board.now.shape.height + 2) 256 ≤ length mailbox.old }
+    ensures { IsMailboxOf board.now board.now.boxes mailbox.new }
 {
     let rows = (board.shape().height() as usize + 2).min(256);
     for row in 0..rows {
-        draw_row(field, board, row as u8);
+        draw_row(mailbox, board, row as u8);
     }
-    put_boxes(field, board);
+    put_boxes(mailbox, board);
 }
 
-// The number of rows in the field of a board of this height: a power of two.
+// The number of rows in the mailbox of a board of this height: a power of two.
 fn rows_for(height: usize) -> usize
     requires { height ≤ 255 }
     ensures enough { min (height + 2) 256 ≤ result }
@@ -75,23 +75,23 @@ fn rows_for(height: usize) -> usize
 }
 
 // Writes the bytes of the next row, from one column before the grid to one beyond it. Column 256 is column 0 of the row below.
-fn draw_row<S: CellSet>(field: &mut [u8], board: &Board<S>, row: u8)
+fn draw_row<S: CellSet>(mailbox: &mut [u8], board: &Board<S>, row: u8)
     requires row { row ≤ board.now.shape.height + 1 }
-    requires drawn { IsDrawnBelow board.now (256 * row) field.old }
-    ensures { IsDrawnBelow board.now (256 * (row + 1)) field.new }
+    requires drawn { IsDrawnBelow board.now (256 * row) mailbox.old }
+    ensures { IsDrawnBelow board.now (256 * (row + 1)) mailbox.new }
 {
     let last = board.shape().width().saturating_add(1);
     for part in 0..last / 64 + 1 {
-        draw_part(field, board, row, part);
+        draw_part(mailbox, board, row, part);
     }
 }
 
 // Writes the bytes of the next 64 columns of a row, without boxes.
-fn draw_part<S: CellSet>(field: &mut [u8], board: &Board<S>, row: u8, part: u8)
+fn draw_part<S: CellSet>(mailbox: &mut [u8], board: &Board<S>, row: u8, part: u8)
     requires row { row ≤ board.now.shape.height + 1 }
     requires part { part < 4 }
-    requires drawn { IsDrawnBelow board.now (256 * row + 64 * part) field.old }
-    ensures { IsDrawnBelow board.now (256 * row + 64 * part + 64) field.new }
+    requires drawn { IsDrawnBelow board.now (256 * row + 64 * part) mailbox.old }
+    ensures { IsDrawnBelow board.now (256 * row + 64 * part + 64) mailbox.new }
 {
     let floor = floor_at(board, row, part);
     let start = 64 * part as usize;
@@ -100,7 +100,7 @@ fn draw_part<S: CellSet>(field: &mut [u8], board: &Board<S>, row: u8, part: u8)
     let mut column = start;
     'lanes: while column < end {
         let bytes = bytes_of((floor_left % 65536) as u16);
-        bytes.copy_to_slice(&mut field[256 * row as usize + column..]);
+        bytes.copy_to_slice(&mut mailbox[256 * row as usize + column..]);
         floor_left >>= 16;
         column += 16;
     }
@@ -135,26 +135,26 @@ fn bytes_of(floor: u16) -> u8x16
     is_floor.select(u8x16::splat(FREE), u8x16::splat(WALL))
 }
 
-// Adds the boxes to a field that shows none.
-fn put_boxes<S: CellSet>(field: &mut [u8], board: &Board<S>)
+// Adds the boxes to a mailbox that shows none.
+fn put_boxes<S: CellSet>(mailbox: &mut [u8], board: &Board<S>)
     requires formed { IsWellFormed board.now }
-    requires bare { IsFieldOf board.now set.empty field.old }
-    ensures { IsFieldOf board.now board.now.boxes field.new }
+    requires bare { IsMailboxOf board.now set.empty mailbox.old }
+    ensures { IsMailboxOf board.now board.now.boxes mailbox.new }
 {
     for cell in MembersOf::new(board.boxes()) {
-        field[place(cell) as usize] = BOX;
+        mailbox[place(cell) as usize] = BOX;
     }
 }
 
 // The number of boxes off the goals.
-pub(crate) fn boxes_off_goals<S: CellSet>(board: &Board<S>, field: &[u8]) -> u64
-    requires { (boxes : Cells) × IsFieldOf board.now boxes field.now × (len boxes ≡ len board.now.boxes) }
-    ensures { (boxes : Cells) → IsFieldOf board.now boxes field.now → len boxes ≡ len board.now.boxes
+pub(crate) fn boxes_off_goals<S: CellSet>(board: &Board<S>, mailbox: &[u8]) -> u64
+    requires { (boxes : Cells) × IsMailboxOf board.now boxes mailbox.now × (len boxes ≡ len board.now.boxes) }
+    ensures { (boxes : Cells) → IsMailboxOf board.now boxes mailbox.now → len boxes ≡ len board.now.boxes
         → result ≡ len (difference boxes board.now.goals) }
 {
     let mut count = board.boxes().len() as u64;
     for goal in MembersOf::new(board.goals()) {
-        if field[place(goal) as usize] == BOX {
+        if mailbox[place(goal) as usize] == BOX {
             count -= 1;
         }
     }

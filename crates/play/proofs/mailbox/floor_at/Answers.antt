@@ -7,8 +7,8 @@ use Rattle.cellset.specs.declared.cell.Cell.{Cell}
 use Rattle.cellset.proofs.Members.{lacks_where}
 use Rattle.cellset.proofs.WordLoops.{zero_bit}
 use Rattle.board.specs.Game.{Level, IsFloor}
-use Rattle.play.proofs.field.floor_at.Goals as goal
-use Rattle.play.proofs.field.floor_at.Goals.{then-row-height-via-then-row-height, then-row-height-via-else-row-height+then-part-width}
+use Rattle.play.proofs.mailbox.floor_at.Goals as goal
+use Rattle.play.proofs.mailbox.floor_at.Goals.{then-row-height-via-then-row-height, then-row-height-via-else-row-height+then-part-width}
 
 no_floor : (level : Level) (floor : Cells) (row part : ℕ) → ((c : Cell) → Has floor c ↔ IsFloor level c)
     → ((k : ℕ) → IsFloor level (row_cell row part k) → ⊥) → IsRowOf floor row part 0

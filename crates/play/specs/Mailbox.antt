@@ -1,4 +1,4 @@
--- The field of a replay: a board as bytes, one a cell, so that a step is one addition.
+-- The mailbox of a replay: a board as bytes, one a cell, so that a step is one addition.
 --   place    the index of a cell's byte: rows are 256 apart, and places are numbers of 16 bits, so the places
 --            of row 256 are the places of row 0 again
 --   near     on the grid, or one row or one column beyond it
@@ -13,9 +13,9 @@ use Rattle.cellset.specs.declared.dir.Dir.{Dir}
 use Rattle.cellset.specs.declared.dir.Dir.TheVariants.{L, U, R, D}
 use Rattle.board.specs.Game.{Level, IsFloor}
 use Rattle.play.specs.State.{IsWall}
-use Rattle.play.specs.declared.field.TheConstants.{FREE, WALL, BOX}
+use Rattle.play.specs.declared.mailbox.TheConstants.{FREE, WALL, BOX}
 
--- the place of a cell: the index of its byte in the field
+-- the place of a cell: the index of its byte in the mailbox
 abbrev pub place_of : Cell → ℕ
 place_of c = (256 * c.row + c.column) % 2 ^ 16
 
@@ -34,7 +34,7 @@ pub record IsNear (shape : Extent) (c : Cell) : Type 0 where
 
 -- each of these cells has a byte
 abbrev pub HasPlaces : Extent → List ℕ → Type 0
-HasPlaces shape field = (c : Cell) → IsNear shape c → place_of c < length field
+HasPlaces shape mailbox = (c : Cell) → IsNear shape c → place_of c < length mailbox
 
 -- the byte of a cell: floor without a box, a wall without a box, or a box on floor
 abbrev pub IsShown : Level → Cells → Cell → ℕ → Type 0
@@ -44,15 +44,15 @@ IsShown level boxes c byte =
     ⊎ ((byte ≡ BOX) × IsFloor level c × Has boxes c))
 
 -- the bytes of the cells on the grid and around it show the level's walls and these boxes
-pub record IsFieldOf (level : Level) (boxes : Cells) (field : List ℕ) : Type 0 where
-  pub places : HasPlaces level.shape field
-  pub shown : (c : Cell) → IsNear level.shape c → IsShown level boxes c (slice_index field (place_of c))
+pub record IsMailboxOf (level : Level) (boxes : Cells) (mailbox : List ℕ) : Type 0 where
+  pub places : HasPlaces level.shape mailbox
+  pub shown : (c : Cell) → IsNear level.shape c → IsShown level boxes c (slice_index mailbox (place_of c))
 
 -- the number of bytes is a power of two, and at most that of the places
 abbrev pub HasMask : List ℕ → Type 0
-HasMask field = (k : ℕ) × (k ≤ 16) × (length field ≡ 2 ^ k)
+HasMask mailbox = (k : ℕ) × (k ≤ 16) × (length mailbox ≡ 2 ^ k)
 
 -- the bytes of the cells on the grid and around it whose places are below n are drawn, without boxes
-pub record IsDrawnBelow (level : Level) (n : ℕ) (field : List ℕ) : Type 0 where
-  pub rows : 256 * min (level.shape.height + 2) 256 ≤ length field
-  pub drawn : (c : Cell) → IsNear level.shape c → place_of c < n → IsShown level empty c (slice_index field (place_of c))
+pub record IsDrawnBelow (level : Level) (n : ℕ) (mailbox : List ℕ) : Type 0 where
+  pub rows : 256 * min (level.shape.height + 2) 256 ≤ length mailbox
+  pub drawn : (c : Cell) → IsNear level.shape c → place_of c < n → IsShown level empty c (slice_index mailbox (place_of c))

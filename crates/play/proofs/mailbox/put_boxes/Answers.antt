@@ -1,7 +1,7 @@
 use Rattle.cellset.proofs.MemberLists.{next_has, next_came, all_came}
-use Rattle.play.proofs.Fields.{field_put}
+use Rattle.play.proofs.Mailboxes.{mailbox_put}
 use Rattle.play.proofs.OffGoals.{came_more, all_came_set}
-use Rattle.play.proofs.field.put_boxes.Goals as goal
+use Rattle.play.proofs.mailbox.put_boxes.Goals as goal
 
 pub loop-cell-preserved : goal.loop-cell-preserved
 loop-cell-preserved g c =
@@ -14,7 +14,7 @@ loop-cell-preserved g c =
       can_next = tt;
       is_finite = tt;
       all = next_came came c.next.new.self q whole;
-      shown = rw (came_more came q, c.place.ensures) (field_put level c.requires.formed.sides floor c.loop-cell.invariant.shown);
+      shown = rw (came_more came q, c.place.ensures) (mailbox_put level c.requires.formed.sides floor c.loop-cell.invariant.shown);
     }
 
 pub returns : goal.returns

@@ -1,6 +1,0 @@
-use Rattle.std.proofs.Common.{◌*◌}
-use Rattle.play.specs.Field.{IsDrawnBelow}
-use Rattle.play.proofs.field.draw_board.Given as goal
-
-abbrev pub invariant-loop-row : goal.invariant-loop-row
-invariant-loop-row g l = IsDrawnBelow l.board (256 * l.row) l.field
