@@ -1,5 +1,5 @@
 -- Walks, played by a sum. The sum holds a place in its low part and a number of letters in its high part. A small
--- letter adds its stride and one letter, and the places of one group never reach the high part. So the low part is the
+-- letter adds its stride and one letter, and the places of one chunk never reach the high part. So the low part is the
 -- place to which the walks lead, if each cell on the way is free. A byte that isn't a walk makes the sum larger than
 -- any sum of walks. The number of bytes of a mailbox is a power of two, so the mask leaves each place that has a byte as it
 -- is. A step from a free cell leads to such a place.
@@ -88,29 +88,29 @@ module _ (level : Level) (done mailbox : List ℕ) (run : Run) (has_mask : HasMa
       (λ blank. absurd (false≢true (sym (not_blank d (inl named)) ∙ blank))))
   walked_one (inr (inr is)) at moves low walk free = absurd (omega arith)
 
--- how far a group is walked
-pub record IsWalked (mailbox : List ℕ) (player : ℕ) (group : List ℕ) (i sum met : ℕ) : Type 0 where
+-- how far a chunk is walked
+pub record IsWalked (mailbox : List ℕ) (player : ℕ) (chunk : List ℕ) (i sum met : ℕ) : Type 0 where
   pub low : sum % LETTER ≤ 65535 * (i + 1)
   pub bounded : sum ≤ 65535 + NO_WALK * i
   pub count : met ≡ FREE → sum < NO_WALK → sum / LETTER ≤ i
-  pub walks : met ≡ FREE → sum < NO_WALK → WalksOn mailbox player (letters (take i group)) (sum % 65536) (sum / LETTER)
+  pub walks : met ≡ FREE → sum < NO_WALK → WalksOn mailbox player (letters (take i chunk)) (sum % 65536) (sum / LETTER)
 
-pub walked_more : {mailbox : List ℕ} → HasMask mailbox → (player : ℕ) (group : List ℕ) (i sum met e : ℕ) → length group ≤ 8 → i < length group
-    → IsAdded (get_or group i 0) e → IsWalked mailbox player group i sum met
-    → IsWalked mailbox player group (i + 1) (sum + e) (bit_or met (get_or mailbox ((sum + e) % length mailbox) 0))
-walked_more {mailbox} has_mask player group i sum met e few within adds before = record {
+pub walked_more : {mailbox : List ℕ} → HasMask mailbox → (player : ℕ) (chunk : List ℕ) (i sum met e : ℕ) → length chunk ≤ 8 → i < length chunk
+    → IsAdded (get_or chunk i 0) e → IsWalked mailbox player chunk i sum met
+    → IsWalked mailbox player chunk (i + 1) (sum + e) (bit_or met (get_or mailbox ((sum + e) % length mailbox) 0))
+walked_more {mailbox} has_mask player chunk i sum met e few within adds before = record {
   low = let l = added_low sum adds before.low below in omega arith;
   bounded = let s = added_small adds in let old = before.bounded in omega arith;
   count = λ free walk. added_letters sum adds before.low below walk (before.count (parts free).0 (less walk));
   walks = λ free walk run at.
       let first = before.walks (parts free).0 (less walk) run at in
-      rw (letters_more group within) (continues_then first
+      rw (letters_more chunk within) (continues_then first
       (λ level done here. walked_one level done mailbox (led run (sum % 65536)
       (run.tally.moves + sum / LETTER)) has_mask here b e sum run.tally.moves adds refl refl (omega arith) walk (parts free).1));
 }
   where
     b : ℕ
-    b = get_or group i 0
+    b = get_or chunk i 0
 
     below : i < 8
     below = omega arith

@@ -17,7 +17,7 @@ IsRead letter =
     ⊎ ((is_blank letter.byte ≡ false) × ((d : Dir) → Names letter.byte d → ⊥) × (letter.step ≡ 0) × (letter.kind ≡ FOREIGN))))
 
 -- what a byte adds to a sum of places and letters: a blank adds nothing, a small letter its stride and one letter, and any
--- other byte more than a group of small letters can
+-- other byte more than a chunk of small letters can
 abbrev pub IsAdded : ℕ → ℕ → Type 0
 IsAdded byte added =
     ((is_blank byte ≡ true) × (added ≡ 0))

@@ -56,10 +56,10 @@ pub(crate) fn read(byte: u8) -> Letter
     }
 }
 
-// One letter in a sum of places and letters. The places of a group stay below it.
+// One letter in a sum of places and letters. The places of a chunk stay below it.
 pub(crate) const LETTER: u32 = 0x100000;
 
-// What any byte but a small letter or a blank adds to such a sum: more than a group of letters can.
+// What any byte but a small letter or a blank adds to such a sum: more than a chunk of letters can.
 pub(crate) const NO_WALK: u32 = 0x1000000;
 
 const LEFT: u32 = LETTER + 65535;

@@ -14,12 +14,12 @@ use crate::fault::ReplayFault;
 use crate::mailbox::{boxes_off_goals, draw_mailbox};
 use crate::run::{Run, begin, play_letter};
 use crate::tally::Tally;
-use crate::walks::{GROUP, walk_groups};
+use crate::walks::{CHUNK, walk_chunks};
 use board::Board;
 use cellset::CellSet;
 use std::alloc::Global;
 
-// Plays the letters of one line: walks in groups, and from a group that has anything else its walks and then its pushes one by one.
+// Plays the letters of one line: walks in chunks, and from a chunk that has anything else its walks and then its pushes one by one.
 fn play_line(mailbox: &mut [u8], run: &mut Run, line: &[u8]) -> Result<(), ReplayFault>
     requires under_way { IsUnderWay mailbox.old run.old }
     requires masked { HasMask mailbox.old }
@@ -29,9 +29,9 @@ fn play_line(mailbox: &mut [u8], run: &mut Run, line: &[u8]) -> Result<(), Repla
     ensures err { IfErr result (FailsOn mailbox.old run.old (letters line.now)) }
 {
     let mut at = 0;
-    'groups: while at < line.len() {
-        at += walk_groups(mailbox, run, &line[at..]);
-        let end = (at + GROUP).min(line.len());
+    'chunks: while at < line.len() {
+        at += walk_chunks(mailbox, run, &line[at..]);
+        let end = (at + CHUNK).min(line.len());
         'small: while at < end && line[at] >= b'a' {
             play_letter(mailbox, run, line[at])?;
             at += 1;

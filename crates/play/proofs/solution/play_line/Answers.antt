@@ -1,6 +1,6 @@
--- The invariant says that the bytes up to an index are played. Groups of walks make them more (`played_on` in `Replays.antt`), and so does
+-- The invariant says that the bytes up to an index are played. Chunks of walks make them more (`played_on` in `Replays.antt`), and so does
 -- each letter that is played after them (`played_more`). A letter that fails makes the whole line fail there, because the bytes before it
--- were played. There is room for a move per byte of the line, so the moves don't overflow. The first letter after the groups is small or it
+-- were played. There is room for a move per byte of the line, so the moves don't overflow. The first letter after the chunks is small or it
 -- isn't, so each turn plays a letter.
 use Rattle.std.proofs.Common.{take_all, arith}
 use Rattle.std.proofs.lemmas.Result.{err_from_is_err_and}
@@ -14,10 +14,10 @@ pub others-preserved : goal.others-preserved
 others-preserved c = (played_more (omega arith) c.others.invariant.0 c.in_ok-play_letter-2.ensures.moves c.in_ok-play_letter-2.ensures.ok, omega arith)
 
 pub returns-clause-ok : goal.returns-clause-ok
-returns-clause-ok c = rw (take_all c.groups.at c.args.line.now (omega arith)) at c.groups.invariant.continues
+returns-clause-ok c = rw (take_all c.chunks.at c.args.line.now (omega arith)) at c.chunks.invariant.continues
 
 pub small-init : goal.small-init
-small-init c = (played_on _ c.groups.invariant c.walk_groups-at.ensures, omega arith)
+small-init c = (played_on _ c.chunks.invariant c.walk_chunks-at.ensures, omega arith)
 
 pub play_letter-requires-clause-under_way : goal.play_letter-requires-clause-under_way
 play_letter-requires-clause-under_way c = under_way_then c.small.invariant.0.continues c.requires.under_way
@@ -37,11 +37,11 @@ overflow_add-at-in-small c = omega arith
 pub overflow_add-at-in-others : goal.overflow_add-at-in-others
 overflow_add-at-in-others c = omega arith
 
-pub groups-preserved : goal.groups-preserved
-groups-preserved c = c.others.invariant.0
+pub chunks-preserved : goal.chunks-preserved
+chunks-preserved c = c.others.invariant.0
 
-pub groups-preserved-else-line-at-lt97 : goal.groups-preserved-else-line-at-lt97
-groups-preserved-else-line-at-lt97 c = c.others.invariant.0
+pub chunks-preserved-else-line-at-lt97 : goal.chunks-preserved-else-line-at-lt97
+chunks-preserved-else-line-at-lt97 c = c.others.invariant.0
 
-pub walk_groups-at-requires-clause-masked : goal.walk_groups-at-requires-clause-masked
-walk_groups-at-requires-clause-masked c = rw c.groups.auto.mailbox c.requires.masked
+pub walk_chunks-at-requires-clause-masked : goal.walk_chunks-at-requires-clause-masked
+walk_chunks-at-requires-clause-masked c = rw c.chunks.auto.mailbox c.requires.masked

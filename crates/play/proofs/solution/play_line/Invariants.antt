@@ -2,11 +2,11 @@ use Rattle.std.proofs.Common.{◌-◌, ◌≤◌, length}
 use Rattle.play.specs.Progress.{IsPlayed}
 use Rattle.play.proofs.solution.play_line.Given as goal
 
-abbrev pub invariant-groups : goal.invariant-groups
-invariant-groups l = IsPlayed l.fn.mailbox l.fn.run l.line l.at l.mailbox l.run
+abbrev pub invariant-chunks : goal.invariant-chunks
+invariant-chunks l = IsPlayed l.fn.mailbox l.fn.run l.line l.at l.mailbox l.run
 
-abbrev pub decreases-groups : goal.decreases-groups
-decreases-groups l = length l.line - l.at
+abbrev pub decreases-chunks : goal.decreases-chunks
+decreases-chunks l = length l.line - l.at
 
 abbrev pub invariant-small : goal.invariant-small
 invariant-small l = IsPlayed l.fn.mailbox l.fn.run l.line l.at l.mailbox l.run × (l.initial.at ≤ l.at)

@@ -26,9 +26,9 @@ pub loop-byte-preserved : goal.loop-byte-preserved
 loop-byte-preserved c =
     let mailbox = c.args.mailbox.now in
     let sum = c.loop-byte.sum + c.added-sum.result in
-    subst (λ n. IsWalked mailbox c.args.player c.args.group.now (c.loop-byte.byte-index + 1) sum (bit_or c.loop-byte.met (get_or mailbox n 0)))
+    subst (λ n. IsWalked mailbox c.args.player c.args.chunk.now (c.loop-byte.byte-index + 1) sum (bit_or c.loop-byte.met (get_or mailbox n 0)))
     (sym (low_bits mailbox c.requires.masked c.args.mask sum c.requires.mask))
-    (walked_more c.requires.masked c.args.player c.args.group.now c.loop-byte.byte-index c.loop-byte.sum c.loop-byte.met c.added-sum.result
+    (walked_more c.requires.masked c.args.player c.args.chunk.now c.loop-byte.byte-index c.loop-byte.sum c.loop-byte.met c.added-sum.result
     c.requires.few (omega arith) c.added-sum.ensures c.loop-byte.invariant)
 
 pub returns-then-sum-lt-NO_WALK : goal.returns-then-sum-lt-NO_WALK
