@@ -13,3 +13,4 @@ pub mod Reports
 pub mod SolutionPieces
 pub mod Splits
 pub mod Statuses
+pub mod Totals

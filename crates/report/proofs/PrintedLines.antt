@@ -6,7 +6,7 @@ use Rattle.std.proofs.Common.{◌≡◌, ◌+◌, ◌/◌, ◌%◌, ℕ, zero, s
 use Rattle.std.specs.Prelude.{decimal, map, slice_index}
 use Rattle.std.specs.List.{AllByRecursion, flat_map, list_all, slice_get}
 use Rattle.std.specs.Fmt.{digit_glyph, digits, digits_onto}
-use Rattle.std.proofs.lemmas.List.{append-nil, append_cancel_left}
+use Rattle.std.proofs.lemmas.List.{append-nil, append_cancel_left, length-map}
 use Rattle.std.proofs.lemmas.Bool.Decides.{nat_tests}
 use Rattle.board.specs.Lines.{lines_in}
 use Rattle.board.specs.Words.{board_words}
@@ -51,6 +51,7 @@ use Rattle.report.specs.declared.status.Status.{Status}
 use Rattle.report.specs.declared.status.Status.TheVariants.{Solved, Unsolvable, UnsolvableZone, Refused, Missing}
 use Rattle.report.specs.declared.summary.Summary.{Summary}
 use Rattle.report.proofs.Reports.{each_at, each_long}
+use Rattle.report.proofs.Totals.{bare_total, total_is, words_at}
 
 -- ---- the words are plain
 
@@ -157,10 +158,6 @@ plain_words Missing = word (codes "missing") refl
 abbrev bare_line : ℕ → Status → Text
 bare_line n status = codes "level " ++ decimal n ++ codes " " ++ words_of status
 
-abbrev bare_total : Summary → Text
-bare_total s = codes "total " ++ decimal s.levels ++ codes " solved " ++ decimal s.solved ++ codes " unsolvable " ++ decimal s.unsolvable ++ codes " refused "
-    ++ decimal s.refused ++ codes " missing " ++ decimal s.missing
-
 -- the lines of the levels from this number on, each without its LF, and then a last line
 abbrev bare_lines : ℕ → List Status → Text → List Text
 bare_lines n [] last = last ∷ []
@@ -199,6 +196,10 @@ line_at n (suc i) (s ∷ statuses) last status there =
 
 lines_are : (statuses : List Status) → lines_in (report_text statuses) ≡ bare_lines 1 statuses (bare_total (summary_of statuses))
 lines_are statuses = search (text_of, lines_again, all_plain)
+
+last_line : (n : ℕ) (statuses : List Status) (last : Text) → slice_get (bare_lines n statuses last) (length statuses) ≡ Some last
+last_line n [] last = refl
+last_line n (status ∷ statuses) last = last_line (n + 1) statuses last
 
 count_lines : (n : ℕ) (statuses : List Status) (last : Text) → length (bare_lines n statuses last) ≡ length statuses + 1
 count_lines n [] last = refl
@@ -301,6 +302,13 @@ module _ (levels : List (List (List ℕ))) (entries : List Entry) (statuses : Li
     missing = λ before rows there has.
         let (status, line, means) = here before rows there in
         of_missing rows (answer_to (before + 1) entries) [] status means (one_text (report_text statuses) before _ _ line has);
+    total =
+        let same : length levels ≡ length statuses = sym (each_long Means 1 levels entries statuses mean) in (
+          map words_of statuses,
+          length-map statuses words_of ∙ sym same,
+          λ before own there. let (status, at, is) = words_at statuses before own there in rw (← is) (line_is statuses before status at),
+          rw (same, lines_are statuses, last_line 1 statuses _, total_is statuses) refl,
+        );
   }
 
   pub true_lines : (text : Text) → text ≡ report_text statuses → AreTrue levels entries text
