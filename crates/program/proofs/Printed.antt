@@ -4,32 +4,22 @@
 -- that there was no error, and then the text and the status are those that the request asks for. A failed write raises the
 -- output's count of failures, and any other error leaves the output as it was. A function that returns an error has written nothing to
 -- standard error, so the line that reports it is what standard error got.
-use Rattle.std.proofs.Common.{◌≡◌, ◌≢◌, ◌<◌, ◌≤◌, ◌-◌, ◌^◌, ℕ, List, Option, None, Some, refl, sym, subst, arith}
-use Rattle.std.specs.Prelude.{Result, Ok, Err, IfOk, OnErr, IsSome, MatchResult}
-use Rattle.std.specs.Io.KnownBytes.{Appends, Keeps}
-use Rattle.devices.specs.Device.{count_after}
-use Rattle.report.specs.Audit.{CountsAudit}
-use Rattle.report.specs.Collection.{Count, CountsError}
-use Rattle.report.specs.DeadMap.{CountsMap}
-use Rattle.report.specs.MadeAnswers.{CountsMade}
-use Rattle.report.specs.declared.fault.Which.TheVariants as which
+use Rattle.std.proofs.Common.{◌≡◌, ◌<◌, ◌≤◌, ℕ, List, Option, None, Some, inr, refl, sym, subst, arith}
+use Rattle.std.specs.Prelude.{Result, Ok, Err, IfOk, IfErr, IsSome, MatchResult}
+use Rattle.std.specs.Io.KnownBytes.{Appends}
+use Rattle.report.specs.Audit.{IsDue}
+use Rattle.report.specs.ErrorWords.{error_line}
 use Rattle.report.specs.declared.fault.AuditError.{AuditError}
-use Rattle.report.specs.declared.fault.AuditError.TheVariants.{Read, Write, TooLong, TooManyLevels, Answers, Memory}
+use Rattle.report.specs.declared.fault.AuditError.TheVariants.{Memory}
 use Rattle.report.specs.declared.fault.DeadError.{DeadError}
-use Rattle.report.specs.declared.fault.DeadError.TheVariants.{Audit, NoLevel, Board}
-use Rattle.arguments.specs.Command.{Request}
-use Rattle.program.specs.Program.{AreKnown, KeepsUnlessFailed, Prints, SpeaksUnlessFailed}
+use Rattle.report.specs.declared.fault.DeadError.TheVariants.{Audit}
+use Rattle.arguments.specs.Command.{Request, audit, make, dead}
+use Rattle.program.specs.Program.{AreKnown, CountsOutput, HasError, IsDueError, Prints, SaysUnlessFailed}
 
 -- the known bytes of a file are what is read of it
 pub bytes_of : (known : Option (List ℕ)) → IsSome known → (bytes : List ℕ) × (known ≡ Some bytes)
 bytes_of None is = cc
 bytes_of (Some bytes) is = (bytes, refl)
-
--- what holds of an opened file still holds if its error alone is mapped
-pub opened : {A E : Type 0} (P : A → Type 0) (outcome : Result A E) (file : A) → IfOk outcome P
-    → MatchResult outcome (λ own. ◌≡◌ {A = Result A DeadError} (Ok file) (Ok own)) (λ _. ⊥) → P file
-opened P (Ok own) file known same = let is : own ≡ file = cc in subst P is known
-opened P (Err error) file known none = absurd none
 
 -- a text was added to the output, and the request asks for it with this status
 abbrev pub IsPrinted : (List ℕ → Option (List ℕ)) → Option (List ℕ) → Option (List ℕ) → Request → ℕ → Type 0
@@ -50,57 +40,62 @@ done known old new asked request outcome status same files job is less =
     (without_error (IsPrinted known old new request) outcome status (job (subst (AreKnown known) same files)) is less)
 
 -- ---- what an error leaves
--- a count that was raised, and was below the highest count, did not stay
-raised : {G : Type 0} (before after : ℕ) → before < 2 ^ 64 - 1 → after ≡ count_after before → after ≡ before → G
-raised before after below up stayed = absurd (omega (arith, below, up, stayed))
+-- ---- errors
+-- the bytes of files that have an error are known
+known_by : (known : List ℕ → Option (List ℕ)) (request : Request) → HasError known request → AreKnown known request
+known_by known (audit levels answers) (lt, lt_is, at, at_is, _, _) = (rw lt_is refl, rw at_is refl)
+known_by known (make levels) (lt, lt_is, _) = rw lt_is refl
+known_by known (dead levels n) (lt, lt_is, _) = rw lt_is refl
 
-pub kept_by_audit : (levels answers report : Count) (error : AuditError) (old new : Option (List ℕ))
-    → CountsAudit {A = ℕ} levels answers report (Err error) → (error ≢ Write → Keeps old new) → KeepsUnlessFailed (old, report.before) (new, report.after)
-kept_by_audit levels answers report (Read which.Levels) old new counts untouched below stayed = untouched (λ e. cc)
-kept_by_audit levels answers report (Read which.Answers) old new counts untouched below stayed = untouched (λ e. cc)
-kept_by_audit levels answers report Write old new counts untouched below stayed = raised report.before report.after below counts.2 stayed
-kept_by_audit levels answers report (TooLong w) old new counts untouched below stayed = untouched (λ e. cc)
-kept_by_audit levels answers report TooManyLevels old new counts untouched below stayed = untouched (λ e. cc)
-kept_by_audit levels answers report (Answers line why) old new counts untouched below stayed = untouched (λ e. cc)
-kept_by_audit levels answers report Memory old new counts untouched below stayed = untouched (λ e. cc)
+-- a request whose texts have an error has nothing to print, so the status is 2
+pub two : {E : Type 0} (known : List ℕ → Option (List ℕ)) (old new : Option (List ℕ)) (request asked : Request) (outcome : Result ℕ E) (status : ℕ)
+    → request ≡ asked → HasError known asked → (AreKnown known request → IfOk outcome (λ own. IsPrinted known old new request own))
+    → ((text : List ℕ) (own : ℕ) → Prints known request text own → HasError known request → ⊥)
+    → MatchResult outcome (λ own. status ≡ own) (λ _. status ≡ 2) → status ≡ 2
+two known old new request asked (Ok own) status same error job none is =
+    let here = subst (HasError known) (sym same) error in
+    let (text, _, prints) = job (known_by known request here) in
+    absurd (none text own prints here)
+two known old new request asked (Err e) status same error job none is = is
 
-kept_by_error : (levels result : Count) (error : AuditError) (old new : Option (List ℕ))
-    → CountsError levels result error → (error ≢ Write → Keeps old new) → KeepsUnlessFailed (old, result.before) (new, result.after)
-kept_by_error levels result (Read w) old new counts untouched below stayed = untouched (λ e. cc)
-kept_by_error levels result Write old new counts untouched below stayed = raised result.before result.after below counts.1 stayed
-kept_by_error levels result (TooLong w) old new counts untouched below stayed = untouched (λ e. cc)
-kept_by_error levels result TooManyLevels old new counts untouched below stayed = untouched (λ e. cc)
-kept_by_error levels result (Answers line why) old new counts untouched below stayed = untouched (λ e. cc)
-kept_by_error levels result Memory old new counts untouched below stayed = untouched (λ e. cc)
+-- the error of an audit comes at its place in the order of work
+pub due_as : (known : List ℕ → Option (List ℕ)) (levels answers : List ℕ) (error : DeadError) (own : AuditError) → error ≡ Audit own
+    → ((levels_text answers_text : List ℕ) → known levels ≡ Some levels_text → known answers ≡ Some answers_text → IsDue levels_text answers_text own)
+    → IsDueError known (audit levels answers) error
+due_as known levels answers error own is due = subst (IsDueError known (audit levels answers)) (sym is) (inr due)
 
-pub kept_by_making : (levels result : Count) (error : AuditError) (old new : Option (List ℕ))
-    → CountsMade {A = ℕ} levels result (Err error) → (error ≢ Write → Keeps old new) → KeepsUnlessFailed (old, result.before) (new, result.after)
-kept_by_making levels result error old new counts untouched = kept_by_error levels result error old new counts untouched
+-- any request can end out of memory
+memory_is_due : (known : List ℕ → Option (List ℕ)) (request : Request) → IsDueError known request (Audit Memory)
+memory_is_due known (audit levels answers) = inr (λ levels_text answers_text _ _. tt)
+memory_is_due known (make levels) = λ levels_text _. tt
+memory_is_due known (dead levels n) = λ levels_text _. tt
 
-pub kept_by_map : (levels result : Count) (error : DeadError) (old new : Option (List ℕ))
-    → CountsMap {A = ℕ} levels result (Err error) → (error ≢ Audit Write → Keeps old new) → KeepsUnlessFailed (old, result.before) (new, result.after)
-kept_by_map levels result (Audit error) old new counts untouched below stayed =
-    kept_by_error levels result error old new counts (λ other. untouched (λ e. other (cc))) below stayed
-kept_by_map levels result NoLevel old new counts untouched below stayed = untouched (λ e. cc)
-kept_by_map levels result (Board why) old new counts untouched below stayed = untouched (λ e. cc)
+-- the error is due, the output failed if it is a failed write, and standard error gets its line
+abbrev pub IsSaid : (List ℕ → Option (List ℕ)) → Request → ℕ → ℕ → (Option (List ℕ)) × ℕ → (Option (List ℕ)) × ℕ → Type 0
+IsSaid known request before after old new =
+    (error : DeadError) × IsDueError known request error × CountsOutput before after error × SaysUnlessFailed (error_line error) old new
 
--- a status of 2 comes from an outcome with an error, if the other statuses are below 2
-pub failed : {E : Type 0} (K : Type 0) (outcome : Result ℕ E) (status : ℕ) → IfOk outcome (λ own. own ≤ 1) → OnErr outcome K
-    → MatchResult outcome (λ own. status ≡ own) (λ _. status ≡ 2) → status ≡ 2 → K
-failed K (Ok own) status low kept is two = absurd (omega (arith, low, is, two))
-failed K (Err error) status low kept is two = kept
+-- a status of 2 comes from an outcome with an error, whose line is printed
+pub said : (known : List ℕ → Option (List ℕ)) (request asked : Request) (before after : ℕ) (old new : (Option (List ℕ)) × ℕ) (outcome : Result ℕ DeadError)
+    (status : ℕ) → request ≡ asked → IfOk outcome (λ own. own ≤ 1) → IfErr outcome (IsDueError known request) → IfErr outcome (CountsOutput before after)
+    → IfErr outcome (λ error. SaysUnlessFailed (error_line error) old new)
+    → MatchResult outcome (λ own. status ≡ own) (λ _. status ≡ 2) → status ≡ 2 → IsSaid known asked before after old new
+said known request asked before after old new (Ok own) status same low due counts line is two = absurd (omega (arith, low, is, two))
+said known request asked before after old new (Err error) status same low due counts line is two =
+    (error, subst (λ (r : Request). IsDueError known r error) same due, counts, line)
 
-pub failed_of_0 : {E : Type 0} (K : Type 0) (outcome : Result ℕ E) (status : ℕ) → IfOk outcome (λ own. own ≡ 0) → OnErr outcome K
-    → MatchResult outcome (λ own. status ≡ own) (λ _. status ≡ 2) → status ≡ 2 → K
-failed_of_0 K (Ok own) status zero kept is two = absurd (omega (arith, zero, is, two))
-failed_of_0 K (Err error) status zero kept is two = kept
-
--- ---- what standard error gets
--- an error before which standard error got nothing is printed there
-pub spoken : {F E : Type 0} (held : F → Option (List ℕ)) (failures : F → ℕ) (old between new : F) (outcome : Result ℕ E) (error : E) → outcome ≡ Err error
-    → MatchResult outcome (λ status. status < 2 → between ≡ old) (λ _. between ≡ old)
-    → OnErr outcome (SpeaksUnlessFailed (held between, failures between) (held new, failures new))
-    → SpeaksUnlessFailed (held old, failures old) (held new, failures new)
-spoken held failures old between new (Ok status) error is quiet loud = let no : ⊥ = cc in absurd no
-spoken {F} held failures old between new (Err own) error is quiet loud =
-    subst (λ (f : F). SpeaksUnlessFailed (held f, failures f) (held new, failures new)) quiet loud
+-- out of memory before standard error got anything is printed there
+pub said_memory : {F : Type 0} (held : F → Option (List ℕ)) (failures : F → ℕ) (known : List ℕ → Option (List ℕ)) (request : Request) (before after : ℕ)
+    (old between new : F) (outcome : Result ℕ DeadError) → outcome ≡ Err (Audit Memory)
+    → MatchResult outcome (λ status. status < 2 → between ≡ old) (λ _. between ≡ old) → IfErr outcome (CountsOutput before after)
+    → IfErr outcome (λ error. SaysUnlessFailed (error_line error) (held between, failures between) (held new, failures new))
+    → IsSaid known request before after (held old, failures old) (held new, failures new)
+said_memory held failures known request before after old between new (Ok status) error quiet counts line = let no : ⊥ = cc in absurd no
+said_memory {F} held failures known request before after old between new (Err own) error quiet counts line =
+    let is : own ≡ Audit Memory = cc in
+    let here = subst (λ (e : DeadError). SaysUnlessFailed (error_line e) (held between, failures between) (held new, failures new)) is line in (
+      Audit Memory,
+      memory_is_due known request,
+      subst (CountsOutput before after) is counts,
+      subst (λ (f : F). SaysUnlessFailed (error_line (Audit Memory)) (held f, failures f) (held new, failures new)) quiet here,
+    )

@@ -1,19 +1,22 @@
 //! A run of the program, over any files and streams.
-ghost use Rattle.std.specs.Prelude.{◌≡◌, ◌<◌, ◌≤◌, ◌⊎◌, ℕ, List, Option, Some, IfOk, IfSome, OnOk, OnErr, MatchResult};
+ghost use Rattle.std.specs.Prelude.{◌≡◌, ◌<◌, ◌≤◌, ◌⊎◌, ℕ, List, Option, Some, Err, codes, IfOk, IfErr, IfSome, OnOk, OnErr, MatchResult};
 ghost use Rattle.std.specs.Io.KnownBytes.{Appends, Keeps};
-ghost use Rattle.devices.specs.Device.{CountsFault};
+ghost use Rattle.devices.specs.Device.{count_after};
 ghost use Rattle.clap.specs.Walk.{texts};
 ghost use Rattle.clap.specs.Words.{IsAmong, fault_of, kind_of};
 ghost use Rattle.arguments.specs.Command.{Request, AsksFor, program_app, audit as audit_of, make as make_of, dead as dead_of, request_of};
-ghost use Rattle.program.specs.Program.{AreKnown, KeepsUnlessFailed, Prints, SpeaksUnlessFailed};
+ghost use Rattle.report.specs.ErrorWords.{error_line};
+ghost use Rattle.report.specs.declared.fault.DeadError.{DeadError as Error};
+ghost use Rattle.program.specs.Program.{AreKnown, CountsOutput, HasError, IsDueError, KeepsUnlessFailed, Prints, SaysUnlessFailed};
 
+use crate::laws::errors_print_nothing;
 use crate::words::print_line;
 use arguments::{Command, parse};
 use clap::error::ErrorKind;
 use devices::{Sink, Source, write_whole};
 use report::{AuditError, DeadError, Which, audit, dead_map, make_answers};
 use std::alloc::Global;
-use std::{fmt, io};
+use std::io;
 
 /// Opens files by their names.
 pub trait Opener {
@@ -51,14 +54,21 @@ pub fn run<'a, F: Opener, O: Sink, E: Sink>(
     ensures sound { result < 2 → O.failures output.new ≡ O.failures output.old }
     // With a status below 2, standard error gets nothing.
     ensures quiet { result < 2 → faults.new ≡ faults.old }
-    // If a request fails, standard error gets a text that isn't empty, unless it fails itself.
-    ensures loud { result ≡ 2 → (request : Request) → AsksFor (texts words.entry.now) request
-        → SpeaksUnlessFailed (E.held faults.old, E.failures faults.old) (E.held faults.new, E.failures faults.new) }
+    // If a request ends with status 2, its error comes at its place in the order of work, and is `cannot write` exactly if the output failed.
+    // Standard error gets the line of this error, unless it fails itself.
+    ensures said { result ≡ 2 → (request : Request) → AsksFor (texts words.entry.now) request
+        → (error : Error) × IsDueError (F.known files.old) request error
+        × CountsOutput (O.failures output.old) (O.failures output.new) error
+        × SaysUnlessFailed (error_line error) (E.held faults.old, E.failures faults.old) (E.held faults.new, E.failures faults.new) }
     // If the status is 2, nothing is printed, except what an output took before it failed.
     ensures kept { result ≡ 2 → KeepsUnlessFailed (O.held output.old, O.failures output.old) (O.held output.new, O.failures output.new) }
+    // If the texts of a request have an error, the status is 2.
+    ensures two { (request : Request) → AsksFor (texts words.entry.now) request → HasError (F.known files.old) request → result ≡ 2 }
 {
+    // For the proof of `two`.
+    errors_print_nothing();
     match parse(alloc, words) {
-        Ok(command) => carry_out(alloc, command, files, output, faults),
+        Ok(command) => status_of(carry_out(alloc, command, files, output), faults),
         Err(refusal) => status_of(answer(alloc, &refusal, output, faults), faults),
     }
 }
@@ -66,7 +76,8 @@ pub fn run<'a, F: Opener, O: Sink, E: Sink>(
 /// Prints why the system can't hand over the words, and returns the status 2.
 pub fn refuse<E: Sink>(error: &io::Error, faults: &mut E) -> u8
     ensures status { result ≡ 2 }
-    ensures loud { SpeaksUnlessFailed (E.held faults.old, E.failures faults.old) (E.held faults.new, E.failures faults.new) }
+    ensures said { SaysUnlessFailed (codes "out of memory\n") (E.held faults.old, E.failures faults.old) (E.held faults.new, E.failures faults.new)
+        ⊎ SaysUnlessFailed (codes "words not in UTF-8\n") (E.held faults.old, E.failures faults.old) (E.held faults.new, E.failures faults.new) }
 {
     let fault = match error.kind() {
         io::ErrorKind::OutOfMemory => "out of memory",
@@ -76,44 +87,39 @@ pub fn refuse<E: Sink>(error: &io::Error, faults: &mut E) -> u8
     2
 }
 
-/// Carries out a command, and returns the status.
-fn carry_out<F: Opener, O: Sink, E: Sink>(
+/// Carries out a command, and returns its status.
+fn carry_out<F: Opener, O: Sink>(
     alloc: Global,
     command: Command<'_>,
     files: &mut F,
     output: &mut O,
-    faults: &mut E,
-) -> u8
-    ensures printed { AreKnown (F.known files.old) (request_of command.entry) → result < 2
-        → (text : List ℕ) × Appends (O.held output.old) (O.held output.new) text × Prints (F.known files.old) (request_of command.entry) text result }
-    ensures status { result ≤ 2 }
-    ensures sound { result < 2 → O.failures output.new ≡ O.failures output.old }
-    ensures quiet { result < 2 → faults.new ≡ faults.old }
-    ensures loud { result ≡ 2 → SpeaksUnlessFailed (E.held faults.old, E.failures faults.old) (E.held faults.new, E.failures faults.new) }
-    ensures kept { result ≡ 2 → KeepsUnlessFailed (O.held output.old, O.failures output.old) (O.held output.new, O.failures output.new) }
+) -> Result<u8, DeadError>
+    ensures printed { AreKnown (F.known files.old) (request_of command.entry)
+        → IfOk result (λ status. (text : List ℕ) × Appends (O.held output.old) (O.held output.new) text
+        × Prints (F.known files.old) (request_of command.entry) text status) }
+    ensures due { IfErr result (λ error. IsDueError (F.known files.old) (request_of command.entry) error) }
+    ensures kept { OnErr result (KeepsUnlessFailed (O.held output.old, O.failures output.old) (O.held output.new, O.failures output.new)) }
+    ensures status { IfOk result (λ status. status ≤ 1) }
+    ensures sound { OnOk result (O.failures output.new ≡ O.failures output.old) }
+    ensures cause { IfErr result (CountsOutput (O.failures output.old) (O.failures output.new)) }
 {
     match command {
-        Command::Audit { levels, answers } => {
-            status_of(audit_files(alloc, levels, answers, files, output), faults)
-        }
-        Command::Make { levels } => status_of(make_file(alloc, levels, files, output), faults),
-        Command::Dead { levels, n } => status_of(
-            dead_file(alloc, levels, n, files, output),
-            faults,
-        ),
+        Command::Audit { levels, answers } => audit_files(alloc, levels, answers, files, output),
+        Command::Make { levels } => make_file(alloc, levels, files, output),
+        Command::Dead { levels, n } => dead_file(alloc, levels, n, files, output),
     }
 }
 
-/// Returns the status of an outcome, and prints its error if it is one.
-fn status_of<X: fmt::Display + Drop, E: Sink>(outcome: Result<u8, X>, faults: &mut E) -> u8
+/// Returns the status of an outcome, and prints the words of its error if it is one.
+fn status_of<E: Sink>(outcome: Result<u8, DeadError>, faults: &mut E) -> u8
     ensures value { MatchResult outcome (λ status. result ≡ status) (λ error. result ≡ 2) }
     ensures quiet { OnOk outcome (faults.new ≡ faults.old) }
-    ensures loud { OnErr outcome (SpeaksUnlessFailed (E.held faults.old, E.failures faults.old) (E.held faults.new, E.failures faults.new)) }
+    ensures said { IfErr outcome (λ error. SaysUnlessFailed (error_line error) (E.held faults.old, E.failures faults.old) (E.held faults.new, E.failures faults.new)) }
 {
     match outcome {
         Ok(status) => status,
         Err(error) => {
-            print_line(faults, error);
+            print_line(faults, error.words().as_str());
             2
         }
     }
@@ -125,17 +131,22 @@ fn audit_files<F: Opener, O: Sink>(
     answers: &str,
     files: &mut F,
     output: &mut O,
-) -> Result<u8, AuditError>
+) -> Result<u8, DeadError>
     ensures printed { AreKnown (F.known files.old) (audit_of levels.now answers.now)
         → IfOk result (λ status. (text : List ℕ) × Appends (O.held output.old) (O.held output.new) text
         × Prints (F.known files.old) (audit_of levels.now answers.now) text status) }
+    ensures due { IfErr result (λ error. IsDueError (F.known files.old) (audit_of levels.now answers.now) error) }
     ensures kept { OnErr result (KeepsUnlessFailed (O.held output.old, O.failures output.old) (O.held output.new, O.failures output.new)) }
     ensures status { IfOk result (λ status. status ≤ 1) }
     ensures sound { OnOk result (O.failures output.new ≡ O.failures output.old) }
+    ensures cause { IfErr result (CountsOutput (O.failures output.old) (O.failures output.new)) }
 {
     let mut levels = open(files, levels, Which::Levels)?;
     let mut answers = open(files, answers, Which::Answers)?;
-    let summary = audit(alloc, &mut levels, &mut answers, output)?;
+    let summary = match audit(alloc, &mut levels, &mut answers, output) {
+        Ok(summary) => summary,
+        Err(error) => return Err(DeadError::Audit(error)),
+    };
     flush(output)?;
     Ok(summary.exit_status())
 }
@@ -145,16 +156,21 @@ fn make_file<F: Opener, O: Sink>(
     levels: &str,
     files: &mut F,
     output: &mut O,
-) -> Result<u8, AuditError>
+) -> Result<u8, DeadError>
     ensures printed { AreKnown (F.known files.old) (make_of levels.now)
         → IfOk result (λ status. (text : List ℕ) × Appends (O.held output.old) (O.held output.new) text
         × Prints (F.known files.old) (make_of levels.now) text status) }
+    ensures due { IfErr result (λ error. IsDueError (F.known files.old) (make_of levels.now) error) }
     ensures kept { OnErr result (KeepsUnlessFailed (O.held output.old, O.failures output.old) (O.held output.new, O.failures output.new)) }
-    ensures status { IfOk result (λ status. status ≡ 0) }
+    ensures status { IfOk result (λ status. status ≤ 1) }
     ensures sound { OnOk result (O.failures output.new ≡ O.failures output.old) }
+    ensures cause { IfErr result (CountsOutput (O.failures output.old) (O.failures output.new)) }
 {
     let mut levels = open(files, levels, Which::Levels)?;
-    make_answers(alloc, &mut levels, output)?;
+    match make_answers(alloc, &mut levels, output) {
+        Ok(_) => {}
+        Err(error) => return Err(DeadError::Audit(error)),
+    }
     flush(output)?;
     Ok(0)
 }
@@ -169,13 +185,15 @@ fn dead_file<F: Opener, O: Sink>(
     ensures printed { AreKnown (F.known files.old) (dead_of levels.now n)
         → IfOk result (λ status. (text : List ℕ) × Appends (O.held output.old) (O.held output.new) text
         × Prints (F.known files.old) (dead_of levels.now n) text status) }
+    ensures due { IfErr result (λ error. IsDueError (F.known files.old) (dead_of levels.now n) error) }
     ensures kept { OnErr result (KeepsUnlessFailed (O.held output.old, O.failures output.old) (O.held output.new, O.failures output.new)) }
-    ensures status { IfOk result (λ status. status ≡ 0) }
+    ensures status { IfOk result (λ status. status ≤ 1) }
     ensures sound { OnOk result (O.failures output.new ≡ O.failures output.old) }
+    ensures cause { IfErr result (CountsOutput (O.failures output.old) (O.failures output.new)) }
 {
-    let mut levels = open(files, levels, Which::Levels).map_err(DeadError::Audit)?;
+    let mut levels = open(files, levels, Which::Levels)?;
     dead_map(alloc, &mut levels, n, output)?;
-    flush(output).map_err(DeadError::Audit)?;
+    flush(output)?;
     Ok(0)
 }
 
@@ -186,20 +204,21 @@ fn answer<O: Sink, E: Sink>(
     refusal: &clap::Error,
     output: &mut O,
     faults: &mut E,
-) -> Result<u8, AuditError>
-    ensures memory { kind_of refusal.now ≡ ErrorKind.OutOfMemory → result ≡ Err AuditError.Memory }
+) -> Result<u8, DeadError>
+    ensures memory { kind_of refusal.now ≡ ErrorKind.OutOfMemory → result ≡ Err (DeadError.Audit AuditError.Memory) }
     ensures status { IfOk result (λ status. (status ≡ 0) ⊎ (status ≡ 2)) }
     ensures shown { IfOk result (λ status. status < 2 → (kind_of refusal.now ≡ ErrorKind.DisplayHelp) ⊎ (kind_of refusal.now ≡ ErrorKind.DisplayVersion)) }
     ensures sound { OnOk result (O.failures output.new ≡ O.failures output.old) }
+    ensures cause { IfErr result (CountsOutput (O.failures output.old) (O.failures output.new)) }
     ensures quiet { MatchResult result (λ status. status < 2 → faults.new ≡ faults.old) (λ _. faults.new ≡ faults.old) }
     ensures kept { MatchResult result (λ status. status ≡ 2) (λ _. Unit {0})
         → KeepsUnlessFailed (O.held output.old, O.failures output.old) (O.held output.new, O.failures output.new) }
 {
     if refusal.kind() == ErrorKind::OutOfMemory {
-        return Err(AuditError::Memory);
+        return Err(DeadError::Audit(AuditError::Memory));
     }
     let Ok(text) = format!(in alloc; "{refusal}") else {
-        return Err(AuditError::Memory);
+        return Err(DeadError::Audit(AuditError::Memory));
     };
     if refusal.use_stderr() {
         let _ = write_whole(faults, text.as_bytes());
@@ -210,26 +229,28 @@ fn answer<O: Sink, E: Sink>(
             flush(output)?;
             Ok(0)
         }
-        Err(_) => Err(AuditError::Write),
+        Err(_) => Err(DeadError::Audit(AuditError::Write)),
     }
 }
 
-fn open<F: Opener>(files: &mut F, name: &str, which: Which) -> Result<F::File, AuditError>
+fn open<F: Opener>(files: &mut F, name: &str, which: Which) -> Result<F::File, DeadError>
     ensures same { F.known files.new ≡ F.known files.old }
     ensures bytes { (bytes : List ℕ) → F.known files.old name.now ≡ Some bytes → IfOk result (λ file. F.File.left file ≡ Some bytes) }
+    ensures err { IfErr result (λ error. error ≡ DeadError.Audit (AuditError.Read which)) }
 {
     match files.open(name) {
         Some(file) => Ok(file),
-        None => Err(AuditError::Read { which }),
+        None => Err(DeadError::Audit(AuditError::Read { which })),
     }
 }
 
-fn flush<O: Sink>(output: &mut O) -> Result<(), AuditError>
+fn flush<O: Sink>(output: &mut O) -> Result<(), DeadError>
     ensures same { Keeps (O.held output.old) (O.held output.new) }
-    ensures cause { CountsFault (O.failures output.old) (O.failures output.new) result }
+    ensures sound { OnOk result (O.failures output.new ≡ O.failures output.old) }
+    ensures err { IfErr result (λ error. (error ≡ DeadError.Audit AuditError.Write) × (O.failures output.new ≡ count_after (O.failures output.old))) }
 {
     match output.flush() {
         Ok(()) => Ok(()),
-        Err(_) => Err(AuditError::Write),
+        Err(_) => Err(DeadError::Audit(AuditError::Write)),
     }
 }

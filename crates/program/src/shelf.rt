@@ -1,8 +1,17 @@
 //! Files in memory.
+ghost use Rattle.std.specs.Prelude.{◌≡◌, ◌<◌, ◌+◌, ◌++◌, ℕ, List, Some, codes, decimal};
+ghost use Rattle.std.specs.Io.KnownBytes.{Appends};
+ghost use Rattle.std.specs.List.{slice_get};
+ghost use Rattle.board.specs.Levels.{AreLevelsOf};
+ghost use Rattle.board.specs.Lines.{lines_in, without_mark};
 ghost use Rattle.program.specs.Shelf.{file_of};
+ghost use Rattle.report.specs.Unsolvable.{IsUnsolvable};
 
-use crate::program::Opener;
-use devices::Device;
+use crate::laws::printed_lines_are_true;
+use crate::program::{Opener, run};
+use arguments::plain_words_ask;
+use devices::{Device, Sink};
+use std::alloc::Global;
 
 /// Two files in memory, named `levels` and `answers`.
 #[derive(Debug, Drop)]
@@ -25,4 +34,31 @@ impl<'a> Opener for Shelf<'a> {
         }
         None
     }
+}
+
+/// Runs the program on the words `audit levels answers` and these two files.
+pub fn audit_in_memory<O: Sink, E: Sink>(
+    alloc: Global,
+    levels: &[u8],
+    answers: &[u8],
+    output: &mut O,
+    faults: &mut E,
+) -> u8
+    // A status below 2 comes with a report. If line n of it is `level n unsolvable ..`, no play solves the level that the n-th rows draw.
+    ensures unsolvable { result < 2 → (report : List ℕ) × Appends (O.held output.old) (O.held output.new) report
+        × ((all : List (List (List ℕ))) (before : ℕ) (rows : List (List ℕ)) (words : List ℕ) → AreLevelsOf all (lines_in (without_mark levels.now))
+        → slice_get all before ≡ Some rows
+        → slice_get (lines_in report) before ≡ Some (codes "level " ++ decimal (before + 1) ++ codes " unsolvable " ++ words) → IsUnsolvable rows) }
+{
+    // For the proof: what the words ask for, and what the lines of its report mean.
+    plain_words_ask();
+    printed_lines_are_true();
+    let mut files = Shelf { levels, answers };
+    run(
+        alloc,
+        &["sokoaudit", "audit", "levels", "answers"],
+        &mut files,
+        output,
+        faults,
+    )
 }

@@ -1,6 +1,7 @@
 pub mod Accepted
 pub mod Answered
 pub mod Errors
+pub mod Fits
 pub mod LoneRecords
 pub mod MadeRecords
 pub mod MapRows

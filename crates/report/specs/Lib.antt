@@ -3,6 +3,7 @@ pub mod Means
 pub mod Answer
 pub mod Printed
 pub mod Words
+pub mod ErrorWords
 pub mod Status
 pub mod Report
 pub mod Judging

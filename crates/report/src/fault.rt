@@ -1,7 +1,12 @@
 //! The errors of audits, made answers and maps, in the words that the program prints.
+ghost use Rattle.std.specs.Prelude.{◌≡◌, ◌<◌, ◌+◌, ◌++◌, length};
+ghost use Rattle.std.specs.Fmt.InlineText.{inline_text};
+ghost use Rattle.report.specs.ErrorWords.{audit_error_words, error_words, which_word, why_word};
+
 use answers::AnswersFault;
 use board::BoardFault;
-use std::fmt;
+use itoa::Buffer;
+use std::fmt::{self, InlineText};
 use thiserror::Error;
 
 /// One of the two texts of an audit.
@@ -11,59 +16,114 @@ pub enum Which {
     Answers,
 }
 
+impl Which {
+    /// Returns the word that errors print.
+    pub fn word(self) -> &'static str
+        ensures { result.now ≡ which_word self }
+    {
+        match self {
+            Which::Levels => "levels",
+            Which::Answers => "answers",
+        }
+    }
+}
+
 impl fmt::Display for Which {
     fn fmt<W: fmt::Write>(&self, f: &mut fmt::Formatter<W>) -> fmt::Result {
-        match self {
-            Which::Levels => f.write_str("levels"),
-            Which::Answers => f.write_str("answers"),
-        }
+        f.write_str(self.word())
     }
 }
 
 /// What is wrong with the first faulty line of an answers text.
 #[derive(Clone, Copy, Debug, PartialEq, Eq, Error)]
+#[error("{}", self.word())]
 pub enum Why {
     /// The first line isn't a header, or there is no line.
-    #[error("header")]
     Header,
     /// A level line is due, and the line isn't one.
-    #[error("level")]
     Level,
     /// The level's number isn't above the number in the record before.
-    #[error("order")]
     Order,
     /// The level's number is above the number of levels.
-    #[error("unknown")]
     Unknown,
     /// A kind line is due, and the line isn't one.
-    #[error("kind")]
     Kind,
     /// The text ends inside a record; the line is the one after the last.
-    #[error("unclosed")]
     Unclosed,
+}
+
+impl Why {
+    /// Returns the word that errors print.
+    pub fn word(self) -> &'static str
+        ensures { result.now ≡ why_word self }
+    {
+        match self {
+            Why::Header => "header",
+            Why::Level => "level",
+            Why::Order => "order",
+            Why::Unknown => "unknown",
+            Why::Kind => "kind",
+            Why::Unclosed => "unclosed",
+        }
+    }
 }
 
 /// Why there is no report, or no made answers.
 #[derive(Clone, Copy, Debug, PartialEq, Eq, Error)]
+#[error("{}", self.words().as_str())]
 pub enum AuditError {
     /// The file can't be opened, or a read of that text failed.
-    #[error("cannot read {which}")]
     Read { which: Which },
     /// A write of the result failed; a beginning of the result may have been written.
-    #[error("cannot write")]
     Write,
     /// The text has more than 33,554,432 bytes.
-    #[error("{which} too long")]
     TooLong { which: Which },
     /// There are more than 10,000 levels.
-    #[error("too many levels")]
     TooManyLevels,
     /// The first fault of the answers text is on this line.
-    #[error("answers line {line} {why}")]
     Answers { line: usize, why: Why },
     /// The system refused memory.
-    #[error("out of memory")]
     Memory,
+}
+
+impl AuditError {
+    /// Returns the words that the program prints. Allocates nothing.
+    pub fn words(self) -> InlineText<64>
+        ensures { inline_text result ≡ audit_error_words self }
+    {
+        match self {
+            AuditError::Read { which } => joined(text_of("cannot read "), which.word()),
+            AuditError::Write => text_of("cannot write"),
+            AuditError::TooLong { which } => joined(text_of(which.word()), " too long"),
+            AuditError::TooManyLevels => text_of("too many levels"),
+            AuditError::Answers { line, why } => answers_words(line, why),
+            AuditError::Memory => text_of("out of memory"),
+        }
+    }
+}
+
+// Returns the words for a faulty line of the answers.
+fn answers_words(line: usize, why: Why) -> InlineText<64>
+    ensures { inline_text result ≡ audit_error_words (AuditError.Answers line why) }
+{
+    let mut digits = Buffer::new();
+    let words = joined(text_of("answers line "), digits.format(line as u64));
+    joined(joined(words, " "), why.word())
+}
+
+fn text_of(words: &str) -> InlineText<64>
+    requires { length words.now < 64 }
+    ensures { inline_text result ≡ words.now }
+{
+    joined(InlineText::new(), words)
+}
+
+// Returns the first text with the second after it.
+fn joined(first: InlineText<64>, second: &str) -> InlineText<64>
+    requires { length (inline_text first) + length second.now < 64 }
+    ensures { inline_text result ≡ inline_text first ++ second.now }
+{
+    first.and_str(second, second.len())
 }
 
 impl From<AnswersFault> for AuditError {
@@ -88,14 +148,25 @@ impl From<AnswersFault> for AuditError {
 
 /// Why there is no map.
 #[derive(Clone, Copy, Debug, PartialEq, Eq, Error)]
+#[error("{}", self.words().as_str())]
 pub enum DeadError {
     /// An error that an audit can have too. Out of memory is always this one, and never a fault of the board.
-    #[error(transparent)]
     Audit(#[from] AuditError),
     /// The collection has no level of that number.
-    #[error("no such level")]
     NoLevel,
     /// The level isn't legal, and why.
-    #[error("board {0}")]
     Board(#[from] BoardFault),
+}
+
+impl DeadError {
+    /// Returns the words that the program prints. Allocates nothing.
+    pub fn words(self) -> InlineText<64>
+        ensures { inline_text result ≡ error_words self }
+    {
+        match self {
+            DeadError::Audit(error) => error.words(),
+            DeadError::NoLevel => text_of("no such level"),
+            DeadError::Board(why) => joined(text_of("board "), why.word()),
+        }
+    }
 }

@@ -21,8 +21,8 @@ mod report;
 mod status;
 mod summary;
 mod texts;
-mod words;
 
+pub use devices::{Device, DeviceFault, Sink, Source};
 pub use fault::{AuditError, DeadError, Which, Why};
 pub use jobs::audit;
 pub use judging::{Scratch, judge};
@@ -37,4 +37,3 @@ pub use map::dead_map;
 pub use status::{Refusal, Status};
 pub use summary::Summary;
 pub use texts::{audit_texts, judge_texts};
-pub use words::{MOST_WORDS, Words};

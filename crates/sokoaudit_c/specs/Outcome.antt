@@ -75,6 +75,11 @@ abbrev pub line_of_error : DeadError → ℕ
 line_of_error (Audit (Answers line reason)) = line
 line_of_error _ = 0
 
+-- the error has the number of this outcome, and its line if it names one of the answers
+abbrev pub IsErrorOf : Outcome → DeadError → Type 0
+IsErrorOf outcome error =
+    (number_of_error error ≡ outcome.fault) × ((line : ℕ) (reason : Why) → error ≡ Audit (Answers line reason) → line ≡ outcome.line)
+
 -- an error has the outcome with its number, and with its line if it names one of the answers
 abbrev pub outcome_of_error : DeadError → Outcome
 outcome_of_error error = record no_numbers { fault = number_of_error error; line = line_of_error error }

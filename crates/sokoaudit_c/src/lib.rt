@@ -11,9 +11,10 @@
 //! `specs/Spans.antt` and `specs/Records.antt` for what levels and records have in their texts.
 #![tactic(auto)]
 
-ghost use Rattle.std.specs.Prelude.{◌≡◌, ◌≤◌, ◌<◌, ◌⊎◌, ℕ, List, length};
+ghost use Rattle.std.specs.Prelude.{◌≡◌, ◌≤◌, ◌<◌, ◌⊎◌, ℕ, List, codes, length};
 ghost use Rattle.report.specs.Audit.{IsFirstError};
 ghost use Rattle.report.specs.Collection.{IsDueFor};
+ghost use Rattle.report.specs.ErrorWords.{error_words};
 ghost use Rattle.report.specs.Report.{IsReport};
 ghost use Rattle.report.specs.Summary.{status_of};
 ghost use Rattle.report.specs.MadeAnswers.{AreMadeAnswers, IsMadeText};
@@ -23,7 +24,7 @@ ghost use Rattle.report.specs.declared.fault.AuditError.TheVariants as error_of_
 ghost use Rattle.report.specs.declared.fault.DeadError.{DeadError as MapError};
 ghost use Rattle.report.specs.declared.fault.DeadError.TheVariants.{Audit};
 ghost use Rattle.report.specs.declared.summary.Summary.{Summary as Numbers};
-ghost use Rattle.sokoaudit_c.specs.Outcome.{Holds, outcome_of_answers, outcome_of_error, outcome_of_map, outcome_of_report};
+ghost use Rattle.sokoaudit_c.specs.Outcome.{Holds, IsErrorOf, outcome_of_answers, outcome_of_error, outcome_of_map, outcome_of_report};
 
 mod judge;
 mod numbers;
@@ -38,10 +39,9 @@ pub use numbers::Line;
 pub use outcome::Outcome;
 use outcome::{error_of, of_answers, of_error, of_map, of_report};
 pub use records::{RecordSpan, sokoaudit_records};
-use report::{DeadError, MOST_WORDS, Words, audit_texts, dead_map, make_answers};
+use report::{DeadError, audit_texts, dead_map, make_answers};
 pub use spans::{Span, sokoaudit_levels};
 use std::alloc::Global;
-use std::fmt::Write;
 pub use verdicts::sokoaudit_lines;
 
 /// Writes the report of an audit of two texts. Returns the program's exit status: 0, 1, or 2 if there is no report.
@@ -144,15 +144,18 @@ pub extern "C" fn sokoaudit_dead(
 pub extern "C" fn sokoaudit_fault_text(outcome: &Outcome, text: &mut [u8]) -> usize
     // The buffer begins with some words, and the rest of it is unchanged.
     ensures words { (words : List ℕ) × (length words ≤ 64) × (result ≡ length words) × Holds text.old text.new words }
+    // They are the words of an error with the outcome's number and line.
+    ensures exact { 0 < outcome.now.fault → outcome.now.fault ≤ 16
+        → (error : MapError) × IsErrorOf outcome.now error × Holds text.old text.new (error_words error) }
+    ensures memory { outcome.now.fault ≡ 1 → Holds text.old text.new (codes "out of memory") }
     ensures none { (outcome.now.fault ≡ 0) ⊎ (16 < outcome.now.fault) → result ≡ 0 }
 {
-    let mut words = Words::new();
-    if let Some(error) = error_of(outcome) {
-        let _ = write!(words, "{error}");
-    }
-    let taken = words.taken.min(MOST_WORDS);
-    put(&words.bytes[..taken], text);
-    taken
+    let Some(error) = error_of(outcome) else {
+        return 0;
+    };
+    let words = error.words();
+    put(words.as_str().as_bytes(), text);
+    words.as_str().len()
 }
 
 // Copies a text to the beginning of a buffer, or as much of it as there is room for.

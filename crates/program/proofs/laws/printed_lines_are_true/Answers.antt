@@ -1,12 +1,9 @@
-use Rattle.std.proofs.Common.{◌≡◌, ℕ, List, Option, Some, length, subst}
+use Rattle.std.proofs.Common.{ℕ, List, length, subst}
 use Rattle.answers.specs.Grammar.{SpellsEntries}
 use Rattle.board.specs.Levels.{AreLevelsOf}
 use Rattle.board.specs.Lines.{lines_in, without_mark}
+use Rattle.program.proofs.Errors.{one_text}
 use Rattle.program.proofs.laws.printed_lines_are_true.Goals as goal
-
--- the known bytes of a file are one text
-one_text : (known : Option (List ℕ)) (text other : List ℕ) → known ≡ Some text → known ≡ Some other → text ≡ other
-one_text known text other is too = cc
 
 pub returns-clause-unsolvable : goal.returns-clause-unsolvable
 returns-clause-unsolvable c = λ known levels answers text status prints levels_text known_levels all are.
