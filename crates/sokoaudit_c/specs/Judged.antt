@@ -1,11 +1,12 @@
 -- The two texts that are made of one level and the body of one record, and why there is no verdict on them.
 --   kind    1 for a solution, 2 for a certificate
 --   body    the lines between the kind line and `end`
-use Rattle.std.specs.Prelude.{◌≡◌, ◌≢◌, ℕ, ◌-◌, ◌<◌, List, [], ◌∷◌, ◌++◌, codes, if◌then◌else◌, ◌==◌, length}
+use Rattle.std.specs.Prelude.{◌≡◌, ◌≢◌, ℕ, ◌-◌, ◌<◌, ◌≤◌, List, [], ◌∷◌, ◌++◌, codes, if◌then◌else◌, ◌==◌, length}
 use Rattle.std.specs.List.{AllByRecursion}
 use Rattle.board.specs.Levels.{AreLevelsOf}
 use Rattle.board.specs.Lines.{lines_in, without_mark}
 use Rattle.report.specs.Audit.{IsFirstError}
+use Rattle.report.specs.Report.{AreShort}
 use Rattle.devices.specs.Reading.{most_bytes}
 use Rattle.report.specs.declared.fault.AuditError.TheVariants.{Answers}
 use Rattle.report.specs.declared.fault.Why.{Why}
@@ -33,15 +34,20 @@ in_body l = record l { line = l.line - 3 }
 abbrev pub HasLevels : List ℕ → ℕ → Type 0
 HasLevels level_text n = (levels : List (List (List ℕ))) × AreLevelsOf levels (lines_in (without_mark level_text)) × (length levels ≡ n)
 
--- the fault is one of the level text, the kind and the body
-abbrev pub HasFault : List ℕ → ℕ → List ℕ → Fault → Type 0
-HasFault level kind body Memory = Unit {0}
-HasFault level kind body LevelTooLong = most_bytes < length level
-HasFault level kind body BodyTooLong = most_bytes < length (answers_around kind body)
-HasFault level kind body ManyLevels = (n : ℕ) × HasLevels level n × (1 < n)
-HasFault level kind body NoLevel = HasLevels level 0
-HasFault level kind body BodyEnd = HasLevels level 1 × (line : ℕ) × (why : Why) × IsFirstError level (answers_around kind body) (Answers line why)
-HasFault level kind body Kind = (kind ≢ 1) × (kind ≢ 2)
+-- the text has several levels
+abbrev pub HasSeveralLevels : List ℕ → Type 0
+HasSeveralLevels level_text = (n : ℕ) × HasLevels level_text n × (1 < n)
+
+-- the fault is the first of the level text, the kind and the body: another kind comes before all others, then a text is too long, then there
+-- is no level or several, then the body has a line `end`; memory can run out at any time
+abbrev pub IsFirstFault : List ℕ → ℕ → List ℕ → Fault → Type 0
+IsFirstFault level kind body Memory = Unit {0}
+IsFirstFault level kind body LevelTooLong = most_bytes < length level
+IsFirstFault level kind body BodyTooLong = (length level ≤ most_bytes) × (most_bytes < length (answers_around kind body))
+IsFirstFault level kind body ManyLevels = AreShort level (answers_around kind body) × HasSeveralLevels level
+IsFirstFault level kind body NoLevel = AreShort level (answers_around kind body) × HasLevels level 0
+IsFirstFault level kind body BodyEnd = HasLevels level 1 × (line : ℕ) × (why : Why) × IsFirstError level (answers_around kind body) (Answers line why)
+IsFirstFault level kind body Kind = (kind ≢ 1) × (kind ≢ 2)
 
 -- each fault has the number that include/sokoaudit.h gives it
 abbrev pub number_of_fault : Fault → ℕ

@@ -5,7 +5,7 @@ ghost use Rattle.report.specs.Report.{AreStatuses};
 ghost use Rattle.report.specs.declared.fault.AuditError.TheVariants.{Answers};
 ghost use Rattle.report.specs.declared.fault.Why.{Why as AnswersWhy};
 ghost use Rattle.report.specs.declared.status.Status.{Status as Said};
-ghost use Rattle.sokoaudit_c.specs.Judged.{HasFault, NoneEndsIn, answers_around, in_body, number_of_fault};
+ghost use Rattle.sokoaudit_c.specs.Judged.{IsFirstFault, NoneEndsIn, answers_around, in_body, number_of_fault};
 ghost use Rattle.sokoaudit_c.specs.Numbers.{no_line, numbers_of as numbers};
 
 use crate::numbers::{Line, NONE, numbers_of};
@@ -45,9 +45,10 @@ pub extern "C" fn sokoaudit_judge(
 ) -> u32
     // The audit of the level and of the answers around the body has one status, and the line has its numbers.
     ensures done { result ≡ 0 → (status : Said) × AreStatuses level.now (answers_around kind body.now) (status ∷ []) × (line.new ≡ in_body (numbers status)) }
-    ensures refused { result ≢ 0 → (fault : Fault) × HasFault level.now kind body.now fault × (result ≡ number_of_fault fault) }
+    // The fault is the first, or out of memory.
+    ensures refused { result ≢ 0 → (fault : Fault) × IsFirstFault level.now kind body.now fault × (result ≡ number_of_fault fault) }
     ensures fault { result ≢ 0 → line.new ≡ no_line }
-    // Another kind is always that fault.
+    // Another kind comes before all other faults.
     ensures kind { kind ≢ 1 → kind ≢ 2 → result ≡ number_of_fault Fault.Kind }
 {
     match verdict(alloc, level, kind, body) {
@@ -65,7 +66,7 @@ pub extern "C" fn sokoaudit_judge(
 // Returns the status of the level by its record.
 fn verdict(alloc: Global, level: &[u8], kind: u32, body: &[u8]) -> Result<Status, Fault>
     ensures ok { IfOk result (λ status. AreStatuses level.now (answers_around kind body.now) (status ∷ [])) }
-    ensures err { IfErr result (HasFault level.now kind body.now) }
+    ensures err { IfErr result (IsFirstFault level.now kind body.now) }
     ensures kind { kind ≢ 1 → kind ≢ 2 → result ≡ Err Fault.Kind }
 {
     if kind != 1 && kind != 2 {
@@ -95,7 +96,7 @@ fn only_status(statuses: &[Status]) -> Result<Status, Fault>
 // Returns the fault that an error of the two texts comes from.
 fn fault_of(alloc: Global, level: &[u8], error: AuditError) -> Fault
     ensures { (kind : ℕ) (body : List ℕ) → (error ≡ AuditError.Memory) ⊎ IsFirstError level.now (answers_around kind body) error
-        → HasFault level.now kind body result }
+        → IsFirstFault level.now kind body result }
 {
     match error {
         AuditError::TooLong {
@@ -114,7 +115,7 @@ fn fault_of(alloc: Global, level: &[u8], error: AuditError) -> Fault
 // body has a line `end`.
 fn fault_of_record(alloc: Global, level: &[u8]) -> Fault
     ensures { (kind : ℕ) (body : List ℕ) (line : ℕ) (why : AnswersWhy) → IsFirstError level.now (answers_around kind body) (Answers line why)
-        → HasFault level.now kind body result }
+        → IsFirstFault level.now kind body result }
 {
     match levels(alloc, level) {
         Ok(found) => match found.len() {
@@ -172,7 +173,7 @@ fn number_of(fault: Fault) -> u32
 ///
 /// A law does nothing when it runs. The calls in its body name the laws that it rests on.
 pub fn bodies_without_end_are_judged()
-    ensures { (level : List ℕ) (kind : ℕ) (body : List ℕ) → NoneEndsIn body → HasFault level kind body Fault.BodyEnd → ⊥ }
+    ensures { (level : List ℕ) (kind : ℕ) (body : List ℕ) → NoneEndsIn body → IsFirstFault level kind body Fault.BodyEnd → ⊥ }
 {
     lines_have_one_list_of_levels();
     texts_have_one_reading();

@@ -13,8 +13,9 @@ returns-in-Ok-judge_texts-clause-ok c =
 
 pub returns-in-Ok-judge_texts-clause-err : goal.returns-in-Ok-judge_texts-clause-err
 returns-in-Ok-judge_texts-clause-err c =
-    one_err c.args.level.now c.args.kind c.args.body.now c.deref.result.now c.deref-in-Ok-judge_texts.result.now c.only_status.result
-    (rw c.deref-in-Ok-judge_texts.ensures.value c.in-Ok-judge_texts.ensures.ok.0) c.only_status.ensures.err
+    let around = rw (c.deref.ensures.value ∙ c.in-Ok.ensures) at c.in-Ok-judge_texts.ensures.ok.0 in
+    let are = rw (← c.deref-in-Ok-judge_texts.ensures.value) at around in
+    one_err c.args.level.now c.args.kind c.args.body.now c.deref-in-Ok-judge_texts.result.now c.only_status.result are c.only_status.ensures.err
 
 pub returns-clause-err : goal.returns-clause-err
 returns-clause-err c =
