@@ -6,6 +6,8 @@
 #[cfg(test)]
 mod device_calls;
 #[cfg(test)]
+mod messages;
+#[cfg(test)]
 mod pictures;
 #[cfg(test)]
 mod pushes;
