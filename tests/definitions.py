@@ -21,6 +21,8 @@ CLAIMS = {
     "solved": ("report.Means.IsSolvedBy", "report.Printed.AreTrue.solved"),
     "missing": ("report.Means.IsMissing", "report.Printed.AreTrue.missing"),
     "refused": ("report.Status.IsFirstFaultOf", "report.Printed.AreTrue.refused"),
+    "total": ("report.Printed.total_of", "report.Printed.AreTrue.total"),
+    "dead": ("report.DeadMap.IsMap", "report.DeadMap.IsMapOf"),
 }
 LEVELS = "board.Levels.AreLevelsOf", "board.Lines.without_mark"
 ANSWERS = "answers.Grammar.SpellsEntries"
@@ -95,7 +97,7 @@ class Specs:
     def counts_of(self, kind: str) -> List[Tuple[int, int]]:
         """The counts for the meaning of a kind of line, for a printed line, and for the output."""
         meaning, printed = CLAIMS[kind]
-        # no answer matters to what an unsolvable level is
-        texts = LEVELS if kind == "unsolvable" else (*LEVELS, ANSWERS)
+        # no answer matters to these
+        texts = LEVELS if kind in ("unsolvable", "total", "dead") else (*LEVELS, ANSWERS)
         return [self.count(meaning), self.count(printed, *texts),
                 self.count(printed, *texts, *RUN)]

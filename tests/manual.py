@@ -2,8 +2,8 @@
 sources of sokoaudit can print, their examples show what it prints, and the page of sokotool has the
 options and defaults of its parser; mandoc, if it is installed, finds no fault in them. There are
 the files that HACKING.md names and the crates in its picture, the definitions and lemmas that pages
-name in brackets, and what pages and examples use of the header for C. Ends in 'N passed, M failed'.
-"""
+name in brackets, the code that pages quote, and what pages and examples use of the header for C.
+Ends in 'N passed, M failed'."""
 import argparse
 import glob
 import os
@@ -51,6 +51,15 @@ def corridor(cases: Cases) -> None:
         below = [places.get(it, 0) for it in used.split() if os.path.isdir(f"{TOP}/crates/{it}")]
         cases.holds(f"HACKING.md draws {name} after what it uses",
                     name in places and max(below, default=-1) < places[name])
+
+
+def quoted(cases: Cases) -> None:
+    """A case: the code in Rattle that pages quote is in the sources."""
+    pages = (read(it) for it in glob.glob(f"{TOP}/docs/*.md"))
+    quotes = [it for page in pages for it in re.findall(r"(?ms)^```rust\n(.*?)^```", page)]
+    sources = "".join(map(read, glob.glob(f"{TOP}/crates/*/src/**/*.rt", recursive=True)))
+    lost = [it.partition("\n")[0] for it in quotes if it not in sources]
+    cases.holds("the code that pages quote", bool(quotes) and not lost, *lost)
 
 
 def examples(cases: Cases, program: str) -> None:
@@ -149,6 +158,7 @@ for name in sorted(set(re.findall(r"[A-Za-z]+\.antt", read(f"{TOP}/HACKING.md"))
                 glob.glob(f"{TOP}/crates/*/[sp]*/**/{name}", recursive=True))
 named(cases)
 corridor(cases)
+quoted(cases)
 options(cases)
 header(cases)
 examples(cases, program)
