@@ -2,7 +2,7 @@
 //!
 //! They take the memory of the last board. With new memory for each board, 10,000 levels of 5 by 4 take 20 % more instructions to audit and
 //! 18 % more to make answers for. A single level gains nothing.
-ghost use Rattle.std.specs.Prelude.{◌≡◌, ◌+◌, ◌<◌, ◌≤◌, ℕ, List, [], ◌∷◌, ◌++◌, drop, length, take, IfOk, OnOk, All};
+ghost use Rattle.std.specs.Prelude.{◌≡◌, ◌+◌, ◌-◌, ◌<◌, ◌≤◌, ℕ, List, [], ◌∷◌, ◌++◌, drop, length, take, IfOk, OnOk, All};
 ghost use Rattle.std.specs.FinSet as set;
 ghost use Rattle.cellset.specs.Shape.{HasSides};
 ghost use Rattle.board.specs.Lines.{first_row, lines_in};
@@ -115,8 +115,7 @@ fn draw_row<S: CellSet>(sketch: &mut Sketch<S>, row: u8, text: &[u8]) -> usize
     let mut from = 0;
     for part in 0..sketch.shape.width() / 64 + 1 {
         let kinds = kinds_from(text, from);
-        // Columns count from 1: bit 0 of part 0 is no column.
-        let lead = 1u8.saturating_sub(part);
+        let lead = lead(part);
         let walls = kinds.walls << lead;
         sketch.walls.insert_row(row, part, walls);
         sketch.floor.remove_row(row, part, walls);
@@ -129,4 +128,12 @@ fn draw_row<S: CellSet>(sketch: &mut Sketch<S>, row: u8, text: &[u8]) -> usize
         from += 64 - lead as usize;
     }
     past_end(text, from)
+}
+
+// Returns how many bits of a part are no column. Columns count from 1, so bit 0 of part 0 is none.
+#[inline(always)]
+fn lead(part: u8) -> u8
+    ensures { result ≡ 1 - part }
+{
+    if part == 0 { 1 } else { 0 }
 }

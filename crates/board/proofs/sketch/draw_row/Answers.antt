@@ -13,25 +13,25 @@ pub insert_row-requires : goal.insert_row-requires
 insert_row-requires g c =
     let was = c.loop-part.invariant in
     word_on is_wall refl (first_row c.args.text.now) c.args.row c.loop-part.part _ _ _ (was.rows.wall ∙ was.shape) c.requires.high c.requires.wide
-    (row_word is_wall refl refl c.args.text.now c.requires.some c.loop-part.part c.loop-part.from _ c.kinds_from-kinds.result c.saturating_sub-lead.ensures was.from was.before c.kinds_from-kinds.ensures _ c.kinds_from-kinds.ensures.wall)
+    (row_word is_wall refl refl c.args.text.now c.requires.some c.loop-part.part c.loop-part.from _ c.kinds_from-kinds.result c.lead-lead.ensures was.from was.before c.kinds_from-kinds.ensures _ c.kinds_from-kinds.ensures.wall)
 
 pub insert_row-requires-in-loop-part : goal.insert_row-requires-in-loop-part
 insert_row-requires-in-loop-part g c =
     let was = c.loop-part.invariant in
     word_on is_goal refl (first_row c.args.text.now) c.args.row c.loop-part.part _ _ _ (was.rows.goal ∙ was.shape) c.requires.high c.requires.wide
-    (row_word is_goal refl refl c.args.text.now c.requires.some c.loop-part.part c.loop-part.from _ c.kinds_from-kinds.result c.saturating_sub-lead.ensures was.from was.before c.kinds_from-kinds.ensures _ c.kinds_from-kinds.ensures.goal)
+    (row_word is_goal refl refl c.args.text.now c.requires.some c.loop-part.part c.loop-part.from _ c.kinds_from-kinds.result c.lead-lead.ensures was.from was.before c.kinds_from-kinds.ensures _ c.kinds_from-kinds.ensures.goal)
 
 pub insert_row-requires-in-loop-part-2 : goal.insert_row-requires-in-loop-part-2
 insert_row-requires-in-loop-part-2 g c =
     let was = c.loop-part.invariant in
     word_on is_box refl (first_row c.args.text.now) c.args.row c.loop-part.part _ _ _ (was.rows.box ∙ was.shape) c.requires.high c.requires.wide
-    (row_word is_box refl refl c.args.text.now c.requires.some c.loop-part.part c.loop-part.from _ c.kinds_from-kinds.result c.saturating_sub-lead.ensures was.from was.before c.kinds_from-kinds.ensures _ c.kinds_from-kinds.ensures.box)
+    (row_word is_box refl refl c.args.text.now c.requires.some c.loop-part.part c.loop-part.from _ c.kinds_from-kinds.result c.lead-lead.ensures was.from was.before c.kinds_from-kinds.ensures _ c.kinds_from-kinds.ensures.box)
 
 pub insert_row-requires-in-loop-part-3 : goal.insert_row-requires-in-loop-part-3
 insert_row-requires-in-loop-part-3 g c =
     let was = c.loop-part.invariant in
     word_on is_player refl (first_row c.args.text.now) c.args.row c.loop-part.part _ _ _ (was.rows.player ∙ was.shape) c.requires.high c.requires.wide
-    (row_word is_player refl refl c.args.text.now c.requires.some c.loop-part.part c.loop-part.from _ c.kinds_from-kinds.result c.saturating_sub-lead.ensures was.from was.before c.kinds_from-kinds.ensures _ c.kinds_from-kinds.ensures.player)
+    (row_word is_player refl refl c.args.text.now c.requires.some c.loop-part.part c.loop-part.from _ c.kinds_from-kinds.result c.lead-lead.ensures was.from was.before c.kinds_from-kinds.ensures _ c.kinds_from-kinds.ensures.player)
 
 pub returns-then-kinds-lt64-clause-next : goal.returns-then-kinds-lt64-clause-next
 returns-then-kinds-lt64-clause-next g c =
@@ -55,13 +55,13 @@ returns-then-kinds-lt64-clause-drawn g c = λ done at s.
     let long : length line < 64 * (c.loop-part.part + 1) = omega (arith, was.from, c.if-kinds-lt64.true) in
     record {
       wall = row_drawn is_wall refl done line c.args.row (c.loop-part.part + 1) _ _ at long s.wall
-          (part_added is_wall refl line c.args.row c.loop-part.part _ _ _ _ (row_word is_wall refl refl text c.requires.some c.loop-part.part c.loop-part.from _ c.kinds_from-kinds.result c.saturating_sub-lead.ensures was.from was.before is _ is.wall) c.insert_row.ensures.members was.wall);
+          (part_added is_wall refl line c.args.row c.loop-part.part _ _ _ _ (row_word is_wall refl refl text c.requires.some c.loop-part.part c.loop-part.from _ c.kinds_from-kinds.result c.lead-lead.ensures was.from was.before is _ is.wall) c.insert_row.ensures.members was.wall);
       goal = row_drawn is_goal refl done line c.args.row (c.loop-part.part + 1) _ _ at long s.goal
-          (part_added is_goal refl line c.args.row c.loop-part.part _ _ _ _ (row_word is_goal refl refl text c.requires.some c.loop-part.part c.loop-part.from _ c.kinds_from-kinds.result c.saturating_sub-lead.ensures was.from was.before is _ is.goal) c.insert_row-in-loop-part.ensures.members was.goal);
+          (part_added is_goal refl line c.args.row c.loop-part.part _ _ _ _ (row_word is_goal refl refl text c.requires.some c.loop-part.part c.loop-part.from _ c.kinds_from-kinds.result c.lead-lead.ensures was.from was.before is _ is.goal) c.insert_row-in-loop-part.ensures.members was.goal);
       box = row_drawn is_box refl done line c.args.row (c.loop-part.part + 1) _ _ at long s.box
-          (part_added is_box refl line c.args.row c.loop-part.part _ _ _ _ (row_word is_box refl refl text c.requires.some c.loop-part.part c.loop-part.from _ c.kinds_from-kinds.result c.saturating_sub-lead.ensures was.from was.before is _ is.box) c.insert_row-in-loop-part-2.ensures.members was.box);
+          (part_added is_box refl line c.args.row c.loop-part.part _ _ _ _ (row_word is_box refl refl text c.requires.some c.loop-part.part c.loop-part.from _ c.kinds_from-kinds.result c.lead-lead.ensures was.from was.before is _ is.box) c.insert_row-in-loop-part-2.ensures.members was.box);
       player = row_drawn is_player refl done line c.args.row (c.loop-part.part + 1) _ _ at long s.player
-          (part_added is_player refl line c.args.row c.loop-part.part _ _ _ _ (row_word is_player refl refl text c.requires.some c.loop-part.part c.loop-part.from _ c.kinds_from-kinds.result c.saturating_sub-lead.ensures was.from was.before is _ is.player) c.insert_row-in-loop-part-3.ensures.members was.player);
+          (part_added is_player refl line c.args.row c.loop-part.part _ _ _ _ (row_word is_player refl refl text c.requires.some c.loop-part.part c.loop-part.from _ c.kinds_from-kinds.result c.lead-lead.ensures was.from was.before is _ is.player) c.insert_row-in-loop-part-3.ensures.members was.player);
     }
 
 pub loop-part-preserved : goal.loop-part-preserved
@@ -70,18 +70,18 @@ loop-part-preserved g c =
     let line = first_row text in
     let was = c.loop-part.invariant in
     let is = c.kinds_from-kinds.ensures in
-    let more = seen_more text c.loop-part.from c.kinds_from-kinds.result.count c.saturating_sub-lead.result was.within was.before is.before c.if-kinds-lt64.false in
+    let more = seen_more text c.loop-part.from c.kinds_from-kinds.result.count c.lead-lead.result was.within was.before is.before c.if-kinds-lt64.false in
     record {
-      from = omega (arith, was.from, c.saturating_sub-lead.ensures);
+      from = omega (arith, was.from, c.lead-lead.ensures);
       within = more.0;
       before = more.1;
       shape = was.shape;
       rows = rows_more g.S.CellSet.extent g.S.CellSet.members c.loop-part.sketch _ _ _ _ _ _ _ was.rows c.insert_row.ensures.extent c.insert_row-in-loop-part.ensures.extent
           c.insert_row-in-loop-part-2.ensures.extent c.insert_row-in-loop-part-3.ensures.extent c.insert_row.ensures.members c.remove_row.ensures.extent c.remove_row.ensures.members;
-      wall = part_added is_wall refl line c.args.row c.loop-part.part _ _ _ _ (row_word is_wall refl refl text c.requires.some c.loop-part.part c.loop-part.from _ c.kinds_from-kinds.result c.saturating_sub-lead.ensures was.from was.before is _ is.wall) c.insert_row.ensures.members was.wall;
-      goal = part_added is_goal refl line c.args.row c.loop-part.part _ _ _ _ (row_word is_goal refl refl text c.requires.some c.loop-part.part c.loop-part.from _ c.kinds_from-kinds.result c.saturating_sub-lead.ensures was.from was.before is _ is.goal) c.insert_row-in-loop-part.ensures.members was.goal;
-      box = part_added is_box refl line c.args.row c.loop-part.part _ _ _ _ (row_word is_box refl refl text c.requires.some c.loop-part.part c.loop-part.from _ c.kinds_from-kinds.result c.saturating_sub-lead.ensures was.from was.before is _ is.box) c.insert_row-in-loop-part-2.ensures.members was.box;
-      player = part_added is_player refl line c.args.row c.loop-part.part _ _ _ _ (row_word is_player refl refl text c.requires.some c.loop-part.part c.loop-part.from _ c.kinds_from-kinds.result c.saturating_sub-lead.ensures was.from was.before is _ is.player) c.insert_row-in-loop-part-3.ensures.members was.player;
+      wall = part_added is_wall refl line c.args.row c.loop-part.part _ _ _ _ (row_word is_wall refl refl text c.requires.some c.loop-part.part c.loop-part.from _ c.kinds_from-kinds.result c.lead-lead.ensures was.from was.before is _ is.wall) c.insert_row.ensures.members was.wall;
+      goal = part_added is_goal refl line c.args.row c.loop-part.part _ _ _ _ (row_word is_goal refl refl text c.requires.some c.loop-part.part c.loop-part.from _ c.kinds_from-kinds.result c.lead-lead.ensures was.from was.before is _ is.goal) c.insert_row-in-loop-part.ensures.members was.goal;
+      box = part_added is_box refl line c.args.row c.loop-part.part _ _ _ _ (row_word is_box refl refl text c.requires.some c.loop-part.part c.loop-part.from _ c.kinds_from-kinds.result c.lead-lead.ensures was.from was.before is _ is.box) c.insert_row-in-loop-part-2.ensures.members was.box;
+      player = part_added is_player refl line c.args.row c.loop-part.part _ _ _ _ (row_word is_player refl refl text c.requires.some c.loop-part.part c.loop-part.from _ c.kinds_from-kinds.result c.lead-lead.ensures was.from was.before is _ is.player) c.insert_row-in-loop-part-3.ensures.members was.player;
     }
 
 pub returns-clause-next : goal.returns-clause-next
