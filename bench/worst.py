@@ -50,6 +50,7 @@ def worst() -> Iterator[Timed]:
     yield pockets(side=255)
     yield lanes(side=255, count=2)
     yield lanes(side=181, count=4)
+    yield corridors(side=255, count=120)
 
 
 def spelled(cells: Iterable[Cell]) -> str:
@@ -323,6 +324,24 @@ def combs(side: int) -> Timed:
     things.update({**dict.fromkeys(boxes[0] + boxes[1], "$"), **dict.fromkeys(goals, "."),
                    (2, 2): "@"})
     return Timed("boxes between two combs", MAKE,
+                 walled(side, side, things, lambda *cell: "#"))
+
+
+def corridors(side: int, count: int) -> Timed:
+    """Corridors side by side, with boxes between them that can enter the one on either side and
+    never leave it. The goals of the first corridor come last. So the boxes take the others first,
+    and then have to give their goals on along a chain of corridors."""
+    top, low = 4, side - 3
+    each = (low - top + 1) // 2
+    halls = [grid(range(x, x + 1), range(3, side - 1)) for x in range(3, 3 + 2 * count, 2)]
+    boxes = [(4 + 2 * place, y)
+             for place in range(count - 1) for y in range(top + place % 2, low, 2)]
+    goals = [it for it in reversed(halls[0]) if low - each < it[1] <= low]
+    goals += [it for hall in halls[1:] for it in hall if top <= it[1] < top + each]
+    things = {**dict.fromkeys((it for hall in halls for it in hall), " "),
+              **dict.fromkeys(boxes, "$"), **dict.fromkeys(goals[:len(boxes) + each], "."),
+              (3, 3): "@"}
+    return Timed("boxes between corridors side by side", MAKE,
                  walled(side, side, things, lambda *cell: "#"))
 
 

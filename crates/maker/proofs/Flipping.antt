@@ -3,7 +3,7 @@
 -- former goal of this box. That goal comes earlier in the queue, so the loop ends, and the goals of earlier visits still have their boxes.
 use Rattle.std.proofs.Common.{◌≡◌, ◌≢◌, ℕ, ◌+◌, ◌<◌, ◌≤◌, List, length, get_or, set, refl, sym, ◌∙◌, arith}
 use Rattle.std.specs.Prelude.{Option, None, Some}
-use Rattle.std.proofs.lemmas.List.{get_or-set_same, get_or-set_other, length-set}
+use Rattle.std.proofs.lemmas.List.{get_or-set_same, get_or-set_other}
 use Rattle.cellset.specs.Shape.{Extent}
 use Rattle.cellset.specs.Cell.{IsOn}
 use Rattle.cellset.specs.CellSet.{Cells}
@@ -14,7 +14,7 @@ use Rattle.cellset.proofs.ReadingOrder.{index_apart, below_index}
 use Rattle.cellset.proofs.Truth.{either}
 use Rattle.board.specs.Game.{Level}
 use Rattle.maker.specs.Matching.{InReach}
-use Rattle.maker.specs.Search.{Pairs, HasEntries, visit_at, cell_visited, IsTraced, IsSearch, IsFreeGoal, EndsPath, IsMatchingOf, MatchesOneMore}
+use Rattle.maker.specs.Search.{Pairs, HasEntries, visit_at, cell_visited, IsTraced, AreTraced, IsFreeGoal, EndsPath, IsMatchingOf, MatchesOneMore}
 use Rattle.maker.specs.declared.zones.search.Visit.{Visit}
 use Rattle.maker.proofs.Flipped.{IsRematched, IsFreed, freed_start, freed_next, all_matched}
 
@@ -60,10 +60,10 @@ pub record IsFlipping (level : Level) (former : List (Option Cell)) (start : Cel
   pub same : (i : ℕ) (b : Cell) → i < n → Pairs level.shape former (cell_visited queue i) b → Pairs level.shape matching (cell_visited queue i) b
   pub others : (matched : Cells) → IsMatchingOf level matched former → IsFreed level matched (Pairs level.shape matching) freed.cell
 
-pub flipping_start : (level : Level) (former : List (Option Cell)) (start : Cell) (visited : Cells) (queue : List Visit) (found : Visit)
-    → EndsPath level former start visited queue found → IsFlipping level former start queue former found
-flipping_start level former start visited queue found is =
-    let unmatched : (b : Cell) → Pairs level.shape former found.cell b → ⊥ = λ b pair. let e = sym is.free.unmatched ∙ pair.entry in cc in
+pub flipping_start : (level : Level) (former : List (Option Cell)) (start : Cell) (queue : List Visit) (end : Visit)
+    → EndsPath level former start queue end → IsFlipping level former start queue former end
+flipping_start level former start queue end is =
+    let unmatched : (b : Cell) → Pairs level.shape former end.cell b → ⊥ = λ b pair. let e = sym is.free.unmatched ∙ pair.entry in cc in
     record {
       n = length queue;
       within = omega arith;
@@ -71,11 +71,11 @@ flipping_start level former start visited queue found is =
       traced = is.traced;
       apart = λ i b h pair e. unmatched b (rw e at pair);
       same = λ i b h pair. pair;
-      others = λ matched valid. freed_start level matched (Pairs level.shape former) found.cell valid.pairs is.free.goal unmatched;
+      others = λ matched valid. freed_start level matched (Pairs level.shape former) end.cell valid.pairs is.free.goal unmatched;
     }
 
-module _ (level : Level) (former : List (Option Cell)) (start : Cell) (visited : Cells) (queue : List Visit) (matching : List (Option Cell)) (freed : Visit)
-    (is_search : IsSearch level former start visited queue) (entries : HasEntries level.shape matching)
+module _ (level : Level) (former : List (Option Cell)) (start : Cell) (queue : List Visit) (matching : List (Option Cell)) (freed : Visit)
+    (path : AreTraced level former start queue) (entries : HasEntries level.shape matching)
     (flipping : IsFlipping level former start queue matching freed) where
   -- the last goal on the path to the freed one is the goal of visit j
   traced_by : (j : ℕ) → freed.via ≡ Some j → IsTraced level former start queue flipping.n freed.cell (Some j)
@@ -85,7 +85,7 @@ module _ (level : Level) (former : List (Option Cell)) (start : Cell) (visited :
   visit_within j via = grind (arith, traced_by)
 
   pub visit_on : (j : ℕ) → freed.via ≡ Some j → IsOn level.shape (cell_visited queue j)
-  visit_on j via = grind (arith, visit_within)
+  visit_on j via = path.on j (visit_within j via)
 
   pub flipping_next : (j : ℕ) → freed.via ≡ Some j
       → IsFlipping level former start queue (set matching (index level.shape freed.cell) (get_or matching (index level.shape (cell_visited queue j)) None))
@@ -101,8 +101,8 @@ module _ (level : Level) (former : List (Option Cell)) (start : Cell) (visited :
         n = j;
         within = omega arith;
         on = visit_on j via;
-        traced = is_search.traced j below;
-        apart = λ i b h pair_i. is_search.once i j h below;
+        traced = path.traced j below;
+        apart = λ i b h pair_i. path.once i j h below;
         same = λ i b h pair_i. valid.kept (cell_visited queue i) b (flipping.apart i b (omega arith) pair_i) (flipping.same i b (omega arith) pair_i);
         others = λ matched is. freed_next level matched (Pairs level.shape matching) (Pairs level.shape new) (one_match level.shape new) freed.cell k
             (flipping.others matched is) valid near (cell_visited queue j) (flipping.apart j k less pair) pair_now;
@@ -122,26 +122,6 @@ module _ (level : Level) (former : List (Option Cell)) (start : Cell) (visited :
         pairs = all_matched level matched (Pairs level.shape matching) (Pairs level.shape new) (one_match level.shape new) freed.cell start
             (flipping.others matched is) (table_matched level.shape matching freed.cell start (Some start) flipping.on entries refl) near lacks;
       }
-
--- a goal is given to a box that can be pushed to it, and the box that had it gets a free goal
-pub passed_on : (level : Level) (matching : List (Option Cell)) (start b goal free : Cell) → HasEntries level.shape matching
-    → IsFreeGoal level matching free → InReach level b free → IsOn level.shape goal → Pairs level.shape matching goal b → InReach level start goal
-    → MatchesOneMore level matching start (set (set matching (index level.shape free) (get_or matching (index level.shape goal) None))
-    (index level.shape goal) (Some start))
-passed_on level matching start b goal free entries is_free near on pair near_start matched is box lacks =
-    let entry = get_or matching (index level.shape goal) None in
-    let between = set matching (index level.shape free) entry in
-    let new = set between (index level.shape goal) (Some start) in
-    let unmatched : (x : Cell) → Pairs level.shape matching free x → ⊥ = λ x p. let e = sym is_free.unmatched ∙ p.entry in cc in
-    let freed = freed_start level matched (Pairs level.shape matching) free is.pairs is_free.goal unmatched in
-    let first = table_matched level.shape matching free b entry is_free.on entries pair.entry in
-    let next = freed_next level matched (Pairs level.shape matching) (Pairs level.shape between) (one_match level.shape between) free b freed first near
-    goal (λ e. unmatched b (rw e at pair)) pair in
-    let last = table_matched level.shape between goal start (Some start) on (length-set matching (index level.shape free) entry ∙ entries) refl in
-    record {
-      boxes = λ c h. either (has_insert matched start c h) (λ e. rw e box) (is.boxes c);
-      pairs = all_matched level matched (Pairs level.shape between) (Pairs level.shape new) (one_match level.shape new) goal start next last near_start lacks;
-    }
 
 -- a free goal in the reach of a box can be matched to it at once
 pub free_matched : (level : Level) (matching : List (Option Cell)) (start goal : Cell) → HasEntries level.shape matching → IsFreeGoal level matching goal

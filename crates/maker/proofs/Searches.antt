@@ -1,255 +1,378 @@
--- The invariant of a search, and what a search shows at its end.
--- Each new visit keeps the invariant: its cell is in every set that confines the paths, and an alternating path leads to it. If every visit
--- is expanded and none is at a free goal, the visited cells are closed and hold the boxes matched to their goals. So they are the least
--- set that confines the paths, which is a Hall violator.
-use Rattle.std.proofs.Common.{◌≡◌, ℕ, ◌+◌, ◌*◌, ◌<◌, ◌≤◌, List, [], ◌∷◌, ◌++◌, length, get_or, sym, ◌∙◌, ap, subst, inl, inr, arith}
-use Rattle.std.specs.Prelude.{◌⊎◌, Option, None, Some}
+-- What a search keeps, and what it shows at its end.
+-- No push leads out of the visited cells. So once a box and its reach are visited, each new cell is in the reach of this box. An alternating
+-- path leads to the box, and so to each goal among the new cells, and every set that confines the paths has all of them. If at the end each
+-- visited goal is matched to a visited box, the visited cells are the least set that confines the paths, which is a Hall violator.
+use Rattle.std.proofs.Common.{◌≡◌, ℕ, ◌+◌, ◌<◌, ◌≤◌, List, [], ◌∷◌, ◌++◌, length, get_or, refl, sym, ◌∙◌, ap, subst, inl, inr, arith}
+use Rattle.std.specs.Prelude.{◌⊎◌, ◌↔◌, Option, None, Some, vec_capacity}
 use Rattle.std.proofs.lemmas.Bool.{cases_lt}
 use Rattle.std.specs.FinSet as set
-use Rattle.std.specs.FinSet.{len-empty}
 use Rattle.std.proofs.Math.ListN.{length-append}
 use Rattle.std.proofs.lemmas.List.{get_or_append_left, get_or_at, get_or_default}
 use Rattle.cellset.specs.Shape.{Extent}
-use Rattle.cellset.specs.Cell.{IsOn, neighbor, cell_cmp}
-use Rattle.cellset.specs.CellSet.{Cells, Has, Lacks}
+use Rattle.cellset.specs.Cell.{IsOn, neighbor}
 use Rattle.cellset.specs.SortedList.{index}
+use Rattle.cellset.specs.CellSet.{Cells, Has, Lacks}
 use Rattle.cellset.specs.declared.cell.Cell.{Cell}
-use Rattle.cellset.specs.declared.dir.Dir.{Dir}
-use Rattle.cellset.proofs.Members.{has_or_lacks, not_both, inserted, kept_by_insert, has_insert, has_empty, lacks_where}
-use Rattle.cellset.proofs.ReadingOrder.{len_on_grid}
-use Rattle.cell_lists.proofs.Counts.{len-insert_new}
-use Rattle.certificates.specs.Zone.{IsClosedZone}
+use Rattle.cellset.proofs.Members.{not_both, has_empty, lacks_where, kept_by_remove, has_remove, same_members}
+use Rattle.cellset.proofs.Truth.{either}
+use Rattle.reach.specs.Reached.{Reached, at_seed, by_step, PushesTo, IsClosedUnder}
+use Rattle.cell_lists.proofs.Counts.{len-remove_member}
 use Rattle.board.specs.Game.{Level, IsFloor}
-use Rattle.maker.specs.Dead.{IsRelaxedPush}
-use Rattle.maker.specs.Matching.{ConfinesPaths, IsHallViolator}
-use Rattle.maker.specs.Search.{Pairs, visit_at, cell_visited, no_visit, IsTraced, IsSearch, IsQueued, IsFurther, KeepsSearches, IsExpanded}
+use Rattle.board.specs.Board.{IsWellFormed}
+use Rattle.maker.specs.Matching.{InReach, IsHallViolator}
+use Rattle.maker.specs.Search.{Pairs, IsPaired, IsFreeGoal, no_visit, visit_at, cell_visited, IsTraced, AreTraced, IsFound, AreListed, IsLonger, IsListing, IsSearch, IsNext, VisitsBox, IsFurther}
 use Rattle.maker.specs.declared.zones.search.Visit.{Visit}
-use Rattle.maker.proofs.Flipping.{one_match}
+use Rattle.maker.specs.declared.zones.search.Search.{Search}
+use Rattle.maker.proofs.Flipped.{is_or_other}
+use Rattle.maker.proofs.Hubs.{pushed_inside}
+use Rattle.maker.proofs.Living.{beside_room}
 
--- ---- what a search keeps
+-- ---- one goal more in the list
+last_visit : (found : List Visit) (v : Visit) → visit_at (found ++ v ∷ []) (length found) ≡ v
+last_visit found v = search (get_or_at)
 
-pub further_on : (level : Level) (s : Cells) (v : List Visit) (s' : Cells) (v' : List Visit) (s'' : Cells) (v'' : List Visit) → IsFurther level s v s' v'
-    → IsFurther level s' v' s'' v'' → IsFurther level s v s'' v''
-further_on level s v s' v' s'' v'' a b = grind arith
+earlier_visit : (found : List Visit) (v : Visit) (i : ℕ) → i < length found → visit_at (found ++ v ∷ []) i ≡ visit_at found i
+earlier_visit found v i h = search (get_or_append_left)
 
-last_visit : (queue : List Visit) (v : Visit) → visit_at (queue ++ v ∷ []) (length queue) ≡ v
-last_visit queue v = search (get_or_at)
+-- each visit of the longer list is an earlier one or the last
+each_visit : {G : Type 0} (found : List Visit) (v : Visit) (i : ℕ) → i < length (found ++ v ∷ [])
+    → (i < length found → visit_at (found ++ v ∷ []) i ≡ visit_at found i → G)
+    → (i ≡ length found → visit_at (found ++ v ∷ []) i ≡ v → G) → G
+each_visit {G} found v i h earlier last = elim (cases_lt i (length found)) [
+  | inl less ↦ earlier less (earlier_visit found v i less)
+  | inr ge ↦ let more = length-append found (v ∷ []) in let e : i ≡ length found = omega arith in
+      last e (rw e (last_visit found v))
+]
 
-earlier_visit : (queue : List Visit) (v : Visit) (i : ℕ) → i < length queue → visit_at (queue ++ v ∷ []) i ≡ visit_at queue i
-earlier_visit queue v i h = search (get_or_append_left)
+module _ (found : List Visit) (left left' : Cells) (v : Visit) (has : Has left v.cell)
+    (without : (q : Cell) → Has left' q ↔ (Has left q × (q ≡ v.cell → ⊥))) where
+  abbrev more : List Visit
+  more = found ++ v ∷ []
 
-pub queued_further : (level : Level) (v : Visit) (visited : Cells) (queue : List Visit) (visited' : Cells) (queue' : List Visit)
-    → IsQueued v visited queue visited' queue' → IsFurther level visited queue visited' queue'
-queued_further level v visited queue visited' queue' (inl (has, s, l)) = grind arith
-queued_further level v visited queue visited' queue' (inr (lacks, s, l)) = grind (arith, kept_by_insert, length-append, earlier_visit)
+  pub one_less : set.len left ≡ set.len left' + 1
+  one_less =
+      let same : set.remove left v.cell ≡ left' = same_members _ _
+      (λ q h. let old = has_remove left v.cell q h in (without q).1 (old.1, λ e. old.0 e))
+      (λ q h. let old = (without q).0 h in kept_by_remove left v.cell q old.1 old.0) in
+      len-remove_member left v.cell has ∙ ap (λ (s : Cells). set.len s + 1) same
 
-pub queued_here : (v : Visit) (visited : Cells) (queue : List Visit) (visited' : Cells) (queue' : List Visit) → IsQueued v visited queue visited' queue'
-    → Has visited' v.cell
-queued_here v visited queue visited' queue' (inl (has, s, l)) = search
-queued_here v visited queue visited' queue' (inr (lacks, s, l)) = grind (arith, inserted)
+  gone : Lacks left' v.cell
+  gone = lacks_where left' v.cell (λ h. ((without v.cell).0 h).1 refl)
 
-pub queued_cases : (v : Visit) (visited : Cells) (queue : List Visit) (visited' : Cells) (queue' : List Visit) (q : Cell)
-    → IsQueued v visited queue visited' queue' → Has visited' q → (q ≡ v.cell) ⊎ Has visited q
-queued_cases v visited queue visited' queue' q (inl (has, s, l)) h = inr (rw s at h)
-queued_cases v visited queue visited' queue' q (inr (lacks, s, l)) h = has_insert visited v.cell q (rw s at h)
-
--- ---- one visit more
-traced_on : (level : Level) (matching : List (Option Cell)) (start : Cell) (queue : List Visit) (v : Visit) (i : ℕ) (c : Cell) (via : Option ℕ)
-    → i ≤ length queue → IsTraced level matching start queue i c via → IsTraced level matching start (queue ++ v ∷ []) i c via
-traced_on level matching start queue v i c None le near = near
-traced_on level matching start queue v i c (Some j) le (less, b, pair, near) =
-    (less, b, subst (λ (x : Visit). Pairs level.shape matching x.cell b) (sym (earlier_visit queue v j (omega arith))) pair, near)
-
-module _ (level : Level) (matching : List (Option Cell)) (start : Cell) (visited : Cells) (queue : List Visit) (v : Visit)
-    (is_search : IsSearch level matching start visited queue) (lacks : Lacks visited v.cell)
-    (floor : IsFloor level v.cell) (stays : (zone : Cells) → ConfinesPaths level (Pairs level.shape matching) start zone → Has zone v.cell)
-    (near : IsTraced level matching start queue (length queue) v.cell v.via) where
-  one_longer : length (queue ++ v ∷ []) ≡ length queue + 1
-  one_longer = length-append queue (v ∷ [])
-
-  -- each visit of the longer queue is an earlier one or the last
-  each_visit : {G : Type 0} (i : ℕ) → i < length (queue ++ v ∷ []) → (i < length queue → visit_at (queue ++ v ∷ []) i ≡ visit_at queue i → G)
-      → (i ≡ length queue → visit_at (queue ++ v ∷ []) i ≡ v → G) → G
-  each_visit {G} i h earlier last = elim (cases_lt i (length queue)) [
-    | inl less ↦ earlier less (earlier_visit queue v i less)
-    | inr ge ↦ let more = one_longer in let e : i ≡ length queue = omega arith in
-        last e (rw e (last_visit queue v))
-  ]
-
-  pub search_more : IsSearch level matching start (set.insert visited v.cell) (queue ++ v ∷ [])
-  search_more = record {
-    floor = λ q h. elim (has_insert visited v.cell q h) [ inl e ↦ subst (IsFloor level) (sym e) floor | inr old ↦ is_search.floor q old ];
-    begins = kept_by_insert visited v.cell start is_search.begins;
-    least = λ zone q confines h. elim (has_insert visited v.cell q h)
-        [ inl e ↦ rw (← e) at (stays zone confines) | inr old ↦ is_search.least zone q confines old ];
-    listed = λ i h. each_visit i h
-        (λ less is. subst (λ (x : Visit). Has (set.insert visited v.cell) x.cell) (sym is)
-        (kept_by_insert visited v.cell (cell_visited queue i) (is_search.listed i less)))
-        (λ e is. rw is (inserted visited v.cell));
-    all = λ q h. elim (has_insert visited v.cell q h) [
-      | inl e ↦ inl (length queue, let more = one_longer in omega arith, ap (λ (x : Visit). x.cell) (last_visit queue v) ∙ sym e)
-      | inr old ↦ elim (is_search.all q old) [
-        | inl (i, less, is) ↦ inl (i, let more = one_longer in omega arith, ap (λ (x : Visit). x.cell) (earlier_visit queue v i less) ∙ is)
-        | inr passed ↦ inr (record { around = λ d push. kept_by_insert visited v.cell (neighbor q d) (passed.around d push); no_goal = passed.no_goal })
-      ]
-    ];
-    once = λ i j less h. each_visit j h
-        (λ below is. let i_below : i < length queue = omega arith in
-        λ e. is_search.once i j less below (sym (ap (λ (x : Visit). x.cell) (earlier_visit queue v i i_below)) ∙ (e ∙ ap (λ (x : Visit). x.cell) is)))
-        (λ last is. let i_below : i < length queue = omega arith in
-        λ e. not_both visited v.cell (subst (Has visited)
-        (sym (ap (λ (x : Visit). x.cell) (earlier_visit queue v i i_below)) ∙ (e ∙ ap (λ (x : Visit). x.cell) is)) (is_search.listed i i_below)) lacks);
-    traced = λ i h. each_visit i h
-        (λ less is. subst (λ (x : Visit). IsTraced level matching start (queue ++ v ∷ []) i x.cell x.via) (sym is)
-        (traced_on level matching start queue v i (cell_visited queue i) (visit_at queue i).via (omega arith) (is_search.traced i less)))
-        (λ e is. subst (λ (x : Visit). IsTraced level matching start (queue ++ v ∷ []) i x.cell x.via) (sym is)
-        (rw e (traced_on level matching start queue v (length queue) v.cell v.via (omega arith) near)));
-    count = let more = one_longer in let count = is_search.count in let one = len-insert_new visited v.cell lacks in omega arith;
+  pub listed_more : (goals : Cells) → AreListed goals found left → AreListed goals more left'
+  listed_more goals listed = record {
+    rest = λ g h. listed.rest g ((without g).0 h).0;
+    goal = λ i h. each_visit found v i h
+        (λ less is. subst (λ (x : Visit). Has goals x.cell × Lacks left' x.cell) (sym is)
+        ((listed.goal i less).0, lacks_where left' _ (λ h. not_both left _ ((without _).0 h).0 (listed.goal i less).1)))
+        (λ e is. subst (λ (x : Visit). Has goals x.cell × Lacks left' x.cell) (sym is) (listed.rest v.cell has, gone));
+    once = λ i j less h. each_visit found v j h
+        (λ below is. let i_below : i < length found = omega arith in
+        λ e. listed.once i j less below (ap (λ (x : Visit). x.cell) (sym (earlier_visit found v i i_below)) ∙ (e ∙ ap (λ (x : Visit). x.cell) is)))
+        (λ last is. let i_below : i < length found = omega arith in
+        λ e. not_both left v.cell has (subst (Lacks left)
+        (ap (λ (x : Visit). x.cell) (sym (earlier_visit found v i i_below)) ∙ (e ∙ ap (λ (x : Visit). x.cell) is)) (listed.goal i i_below).1));
+    all = λ g h. either (listed.all g h)
+        (λ there. is_or_other g v.cell {G = Has left' g ⊎ IsFound more g}
+        (λ e. inr (length found, let longer = length-append found (v ∷ []) in omega arith, ap (λ (x : Visit). x.cell) (last_visit found v) ∙ sym e))
+        (λ ne. inl ((without g).1 (there, ne))))
+        (λ (i, less, is). inr (i, let longer = length-append found (v ∷ []) in omega arith, ap (λ (x : Visit). x.cell) (earlier_visit found v i less) ∙ is));
+    count = let longer = length-append found (v ∷ []) in let fewer = one_less in let count = listed.count in omega arith;
   }
 
--- a search stays one if a visit is queued, unless its cell was visited before
-pub queued_keeps : (level : Level) (matching : List (Option Cell)) (start : Cell) (v : Visit) (visited : Cells) (queue : List Visit) (visited' : Cells)
-    (queue' : List Visit) → IsQueued v visited queue visited' queue' → IsFloor level v.cell
-    → ((zone : Cells) → ConfinesPaths level (Pairs level.shape matching) start zone → Has zone v.cell)
-    → IsTraced level matching start queue (length queue) v.cell v.via
-    → IsSearch level matching start visited queue → IsSearch level matching start visited' queue'
-queued_keeps level matching start v visited queue visited' queue' (inl (has, s, l)) floor stays near is_search = grind arith
-queued_keeps level matching start v visited queue visited' queue' (inr (lacks, s, l)) floor stays near is_search =
-    subst (λ (x : Cells). IsSearch level matching start x queue') (sym s)
-    (rw l (search_more level matching start visited queue v is_search lacks floor stays near))
+  pub longer_more : (visited start : Cells) (via : Option ℕ) (first : List Visit) → IsLonger visited start via first found → Has visited v.cell
+      → Has start v.cell → v.via ≡ via → IsLonger visited start via first more
+  longer_more visited start via first longer seen was is_via =
+      let one = length-append found (v ∷ []) in
+      let length_before = longer.longer in
+      record {
+        longer = omega arith;
+        same = λ i less. earlier_visit found v i (omega arith) ∙ longer.same i less;
+        new = λ i late h. each_visit found v i h
+            (λ less is. subst (λ (x : Visit). Has visited x.cell × Has start x.cell × (x.via ≡ via)) (sym is) (longer.new i late less))
+            (λ e is. subst (λ (x : Visit). Has visited x.cell × Has start x.cell × (x.via ≡ via)) (sym is) (seen, was, is_via));
+      }
 
--- ---- a push
--- a relaxed push from a cell of a closed set leads to a cell of it
-pub push_stays : (level : Level) (zone : Cells) (c : Cell) (d : Dir) → IsClosedZone level zone → IsRelaxedPush level c d → Has zone c → Has zone (neighbor c d)
-push_stays level zone c d closed push inside = grind (arith, has_or_lacks)
+-- the visited goals of the rows before a row are listed, and the others are left
+pub record IsPartlyListed (via : Option ℕ) (first s : Search) (row : ℕ) : Type 0 where
+  pub left_on : s.left.extent ≡ first.left.extent
+  pub visited : s.visited ≡ first.visited
+  pub goals : s.goals ≡ first.goals
+  pub capacity : vec_capacity s.found ≡ vec_capacity first.found
+  pub space : length s.found.items + set.len s.left.members ≤ vec_capacity s.found
+  pub kept : (c : Cell) → Has s.left.members c → Has first.left.members c
+  pub listed : (goals : Cells) → AreListed goals first.found.items first.left.members → AreListed goals s.found.items s.left.members
+  pub longer : IsLonger first.visited.members first.left.members via first.found.items s.found.items
+  pub below : (c : Cell) → Has first.visited.members c → Has s.left.members c → row ≤ c.row
 
-traced_push : (level : Level) (matching : List (Option Cell)) (start : Cell) (queue : List Visit) (i n : ℕ) (c : Cell) (via : Option ℕ) (d : Dir) → i < n
-    → IsRelaxedPush level c d → IsTraced level matching start queue i c via → IsTraced level matching start queue n (neighbor c d) via
-traced_push level matching start queue i n c None d less push near = search (push_stays)
-traced_push level matching start queue i n c (Some j) d less push (below, b, pair, near) = grind (arith, push_stays)
+module _ (via : Option ℕ) (first s s' : Search) (row : ℕ) (cell : Cell) (partly : IsPartlyListed via first s row) (seen : Has s.visited.members cell)
+    (has : Has s.left.members cell) (same_visited : s'.visited ≡ s.visited) (same_goals : s'.goals ≡ s.goals) (left_on : s'.left.extent ≡ s.left.extent)
+    (capacity : vec_capacity s'.found ≡ vec_capacity s.found) (items : s'.found.items ≡ s.found.items ++ record { cell = cell; via = via } ∷ [])
+    (without : (q : Cell) → Has s'.left.members q ↔ (Has s.left.members q × (q ≡ cell → ⊥))) where
+  abbrev visit : Visit
+  visit = record { cell = cell; via = via }
 
--- a search stays one if the cell is queued to which a push from an earlier visit leads
-pub push_keeps : (level : Level) (visited : Cells) (queue : List Visit) (at : ℕ) (d : Dir) (visited' : Cells) (queue' : List Visit) → at < length queue
-    → IsRelaxedPush level (cell_visited queue at) d
-    → IsQueued (record { cell = neighbor (cell_visited queue at) d; via = (visit_at queue at).via }) visited queue visited' queue'
-    → KeepsSearches level visited queue visited' queue'
-push_keeps level visited queue at d visited' queue' below push queued matching start is_search =
-    let c = cell_visited queue at in
-    queued_keeps level matching start _ visited queue visited' queue' queued push.floor
-    (λ zone confines. push_stays level zone c d confines.closed push (is_search.least zone c confines (is_search.listed at below)))
-    (traced_push level matching start queue at (length queue) c (visit_at queue at).via d below push (is_search.traced at below)) is_search
+  pub partly_more : IsPartlyListed via first s' row
+  partly_more = record {
+    left_on = left_on ∙ partly.left_on;
+    visited = same_visited ∙ partly.visited;
+    goals = same_goals ∙ partly.goals;
+    capacity = capacity ∙ partly.capacity;
+    space =
+        let longer = ap length items in
+        let one = length-append s.found.items (visit ∷ []) in
+        let fewer = one_less s.found.items s.left.members s'.left.members visit has without in
+        let before = partly.space in
+        omega arith;
+    kept = λ c h. partly.kept c ((without c).0 h).0;
+    listed = λ goals l. rw items (listed_more s.found.items s.left.members s'.left.members visit has without goals (partly.listed goals l));
+    longer = rw items (longer_more s.found.items s.left.members s'.left.members visit has without first.visited.members first.left.members via
+        first.found.items partly.longer (rw partly.visited at seen) (partly.kept cell has) refl);
+    below = λ c there h. partly.below c there ((without c).0 h).0;
+  }
 
--- a search stays one if the box matched to the goal of an earlier visit is queued
-pub matched_keeps : (level : Level) (matching : List (Option Cell)) (start : Cell) (visited : Cells) (queue : List Visit) (at : ℕ) (b : Cell) (visited' : Cells)
-    (queue' : List Visit) → at < length queue
-    → Pairs level.shape matching (cell_visited queue at) b → IsFloor level b → IsQueued (record { cell = b; via = Some at }) visited queue visited' queue'
-    → IsSearch level matching start visited queue → IsSearch level matching start visited' queue'
-matched_keeps level matching start visited queue at b visited' queue' below pair floor queued is_search =
-    let c = cell_visited queue at in
-    queued_keeps level matching start _ visited queue visited' queue' queued floor
-    (λ zone confines. confines.boxes c b (is_search.least zone c confines (is_search.listed at below)) pair) (below, b, pair, λ zone closed h. h) is_search
+-- once no visited goal of a row is left, those of the rows before the next row are listed
+pub partly_next : (via : Option ℕ) (first s : Search) (row : ℕ) → IsPartlyListed via first s row
+    → ((c : Cell) → Has s.visited.members c → Has s.left.members c → c.row ≡ row → ⊥) → IsPartlyListed via first s (row + 1)
+partly_next via first s row partly none = record {
+  left_on = partly.left_on;
+  visited = partly.visited;
+  goals = partly.goals;
+  capacity = partly.capacity;
+  space = partly.space;
+  kept = partly.kept;
+  listed = partly.listed;
+  longer = partly.longer;
+  below = λ c there h.
+      let late = partly.below c there h in
+      elim (cases_lt row c.row) [
+        | inl later ↦ omega arith
+        | inr early ↦ absurd (none c (rw partly.visited there) h (omega arith))
+      ];
+}
 
--- ---- the beginning
-first_search : (level : Level) (matching : List (Option Cell)) (start : Cell) → IsFloor level start
-    → IsSearch level matching start (set.insert set.empty start) (record { cell = start; via = None } ∷ [])
-first_search level matching start floor =
-    let v : Visit = record { cell = start; via = None } in
-    let is_start : (q : Cell) → Has (set.insert set.empty start) q → q ≡ start =
-    λ q h. elim (has_insert set.empty start q h) [ inl e ↦ e | inr none ↦ has_empty q none ] in
-    record {
-      floor = λ q h. subst (IsFloor level) (sym (is_start q h)) floor;
-      begins = inserted set.empty start;
-      least = λ zone q confines h. rw (← (is_start q h)) at confines.begins;
-      listed = λ i h. let e : 0 ≡ i = omega arith in subst (λ (n : ℕ). Has (set.insert set.empty start) (cell_visited (v ∷ []) n)) e (inserted set.empty start);
-      all = λ q h. inl (0, omega arith, sym (is_start q h));
-      once = λ i j less h. absurd (omega arith);
-      traced = λ i h. let e : 0 ≡ i = omega arith in
-          rw (← e) (λ zone closed has. has);
-      count = let none = len-empty cell_cmp in let one = len-insert_new set.empty start (lacks_where set.empty start (λ h. has_empty start h)) in
-          omega arith;
-    }
+-- ---- alternating paths
+module _ (level : Level) (matching : List (Option Cell)) (start : Cell) where
+  traced_near : (found : List Visit) (i : ℕ) (c g : Cell) (via : Option ℕ) → InReach level c g → IsTraced level matching start found i c via
+      → IsTraced level matching start found i g via
+  traced_near found i c g None near traced = λ zone closed h. near zone closed (traced zone closed h)
+  traced_near found i c g (Some j) near (less, b, pair, reach) = (less, b, pair, λ zone closed h. near zone closed (reach zone closed h))
 
-pub search_first : (level : Level) (matching : List (Option Cell)) (start : Cell) (visited : Cells) (queue : List Visit) (visited' : Cells)
-    (queue' : List Visit)
-    → IsFloor level start → visited ≡ set.empty → queue ≡ [] → IsQueued (record { cell = start; via = None }) visited queue visited' queue'
-    → IsSearch level matching start visited' queue'
-search_first level matching start visited queue visited' queue' floor none empty (inl (has, s, l)) = has_empty start (rw none at has)
-search_first level matching start visited queue visited' queue' floor none empty (inr (lacks, s, l)) =
-    let v : Visit = record { cell = start; via = None } in
-    subst (λ (x : Cells). IsSearch level matching start x queue') (sym (s ∙ ap (λ (x : Cells). set.insert x start) none))
-    (rw (sym (l ∙ ap (λ (x : List Visit). x ++ v ∷ []) empty)) at (first_search level matching start floor))
+  pub traced_later : (found : List Visit) (i n : ℕ) (c : Cell) (via : Option ℕ) → i ≤ n → IsTraced level matching start found i c via
+      → IsTraced level matching start found n c via
+  traced_later found i n c None up traced = traced
+  traced_later found i n c (Some j) up (less, b, pair, reach) = (omega arith, b, pair, reach)
+
+  traced_longer : (found found' : List Visit) (i : ℕ) (c : Cell) (via : Option ℕ) → i ≤ length found
+      → ((j : ℕ) → j < length found → visit_at found' j ≡ visit_at found j) → IsTraced level matching start found i c via
+      → IsTraced level matching start found' i c via
+  traced_longer found found' i c None up same traced = traced
+  traced_longer found found' i c (Some j) up same (less, b, pair, reach) =
+      (less, b, subst (λ (x : Visit). Pairs level.shape matching x.cell b) (sym (same j (omega arith))) pair, reach)
+
+-- ---- a box and its reach are visited
+module _ (level : Level) (formed : IsWellFormed level) (visited : Cells) (closed : IsClosedUnder (PushesTo (Has level.room)) (Has visited)) (cell : Cell)
+    (Seed : Cell → Type 0) (seed : (q : Cell) → Seed q → Has visited q ⊎ (q ≡ cell)) where
+  grown_cases : (c : Cell) → Reached (PushesTo (Has level.room)) Seed c → Has visited c ⊎ InReach level cell c
+  grown_cases c (at_seed h) = either (seed c h) (λ old. inl old) (λ e. inr (rw e (λ zone closed inside. inside)))
+  grown_cases c (by_step b before p) = either (grown_cases b before)
+      (λ old. inl (closed b c old p))
+      (λ near. inr (λ zone shut h. pushed_inside level formed zone b c shut p (near zone shut h)))
+
+  pub grown_floor : ((q : Cell) → Has visited q → IsFloor level q) → IsFloor level cell → (c : Cell) → Reached (PushesTo (Has level.room)) Seed c
+      → IsFloor level c
+  grown_floor old here c (at_seed h) = either (seed c h) (λ was. old c was) (λ e. rw e here)
+  grown_floor old here c (by_step b before p) = formed.room c p.ahead
+
+  -- if no push leads on from the cell, no more is reached
+  pub not_grown : ((c : Cell) → PushesTo (Has level.room) cell c → Has visited c) → (c : Cell) → Reached (PushesTo (Has level.room)) Seed c
+      → Has visited c ⊎ (c ≡ cell)
+  not_grown here c (at_seed h) = seed c h
+  not_grown here c (by_step b before p) = either (not_grown here b before)
+      (λ old. inl (closed b c old p))
+      (λ e. inl (here c (rw e at p)))
+
+-- a list is no shorter than itself
+pub not_longer : (visited left : Cells) (via : Option ℕ) (found : List Visit) → IsLonger visited left via found found
+not_longer visited left via found = record { longer = omega arith; same = λ i h. refl; new = λ i late h. absurd (omega arith) }
+
+module _ (level : Level) (formed : IsWellFormed level) (old new : Search) (cell : Cell) (via : Option ℕ) (Seed : Cell → Type 0)
+    (seeds : (q : Cell) → Seed q ↔ (Has old.visited.members q ⊎ (q ≡ cell)))
+    (grown : (q : Cell) → Has new.visited.members q ↔ Reached (PushesTo (Has level.room)) Seed q)
+    (listing : IsListing level old) (floor : IsFloor level cell) (listed : AreListed level.goals new.found.items new.left.members)
+    (longer : IsLonger new.visited.members old.left.members via old.found.items new.found.items)
+    (unseen : (g : Cell) → Has new.left.members g → Lacks new.visited.members g) where
+  kept : (q : Cell) → Has old.visited.members q → Has new.visited.members q
+  kept q h = (grown q).1 (at_seed ((seeds q).1 (inl h)))
+
+  pub reach_further : IsFurther old new
+  reach_further = record { kept = kept; longer = longer.longer; same = longer.same }
+
+  pub reach_here : Has new.visited.members cell
+  reach_here = (grown cell).1 (at_seed ((seeds cell).1 (inr refl)))
+
+  -- a visit of the longer list is an earlier one or a new one
+  old_or_new : {G : Type 0} (i : ℕ) → (i < length old.found.items → G) → (length old.found.items ≤ i → G) → G
+  old_or_new i if_old if_new = elim (cases_lt i (length old.found.items)) [ inl less ↦ if_old less | inr late ↦ if_new late ]
+
+  pub reach_listing : IsListing level new
+  reach_listing = record {
+    floor = λ q h. grown_floor level formed old.visited.members listing.closed cell Seed (λ q s. (seeds q).0 s) listing.floor floor q ((grown q).0 h);
+    closed = λ b c h push. (grown c).1 (by_step b ((grown b).0 h) push);
+    listed = listed;
+    visited = λ i h. old_or_new i
+        (λ less. subst (λ (x : Visit). Has new.visited.members x.cell) (sym (longer.same i less)) (kept _ (listing.visited i less)))
+        (λ late. (longer.new i late h).0);
+    unseen = unseen;
+  }
+
+  new_cases : (q : Cell) → Has new.visited.members q → Has old.visited.members q ⊎ InReach level cell q
+  new_cases q h = grown_cases level formed old.visited.members listing.closed cell Seed (λ q s. (seeds q).0 s) q ((grown q).0 h)
+
+  pub reach_search : VisitsBox level old cell via new
+  reach_search matching start is_search next = record {
+    least = λ zone q confines h. either (new_cases q h)
+        (λ was. is_search.least zone q confines was)
+        (λ near. near zone confines.closed (next.confined zone confines));
+    traced = λ i h. old_or_new i
+        (λ less. subst (λ (x : Visit). IsTraced level matching start new.found.items i x.cell x.via) (sym (longer.same i less))
+        (traced_longer level matching start old.found.items new.found.items i _ _ (omega arith) longer.same (is_search.traced i less)))
+        (λ late.
+        let (seen, was, is_via) = longer.new i late h in
+        let near : InReach level cell (cell_visited new.found.items i) = either (new_cases _ seen)
+        (λ there. not_both old.visited.members _ there (listing.unseen _ was)) (λ near. near) in
+        subst (λ (v : Option ℕ). IsTraced level matching start new.found.items i (cell_visited new.found.items i) v) (sym is_via)
+        (traced_later level matching start new.found.items (length old.found.items) i _ via late
+        (traced_longer level matching start old.found.items new.found.items (length old.found.items) _ via (omega arith) longer.same
+        (traced_near level matching start old.found.items (length old.found.items) cell _ via near next.traced))));
+  }
 
 -- ---- the end
-pub expanded_kept : (level : Level) (matching : List (Option Cell)) (visited visited' : Cells) (c : Cell) → ((q : Cell) → Has visited q → Has visited' q)
-    → IsExpanded level matching visited c → IsExpanded level matching visited' c
-expanded_kept level matching visited visited' c kept expanded = grind arith
+module _ (level : Level) (formed : IsWellFormed level) (matching : List (Option Cell)) (start : Cell) (s : Search)
+    (listing : IsListing level s) (is_search : IsSearch level matching start s) (begins : Has s.visited.members start)
+    (goals : (g b : Cell) → Pairs level.shape matching g b → Has level.goals g)
+    (paired : (i : ℕ) → i < length s.found.items → IsPaired level.shape matching (cell_visited s.found.items i))
+    (boxes : (i : ℕ) (b : Cell) → i < length s.found.items → Pairs level.shape matching (cell_visited s.found.items i) b
+    → Has s.visited.members b) where
+  goal_found : (g : Cell) → Has s.visited.members g → Has level.goals g → IsFound s.found.items g
+  goal_found g seen goal = either (listing.listed.all g goal)
+      (λ left. not_both s.visited.members g seen (listing.unseen g left))
+      (λ is. is)
 
--- if every visit is expanded, the visited cells are a Hall violator
-pub search_violator : (level : Level) (matching : List (Option Cell)) (start : Cell) (visited : Cells) (queue : List Visit)
-    → IsSearch level matching start visited queue → ((g b : Cell) → Pairs level.shape matching g b → Has level.goals g)
-    → ((i : ℕ) → i < length queue → IsExpanded level matching visited (cell_visited queue i)) → IsHallViolator level (Pairs level.shape matching) start visited
-search_violator level matching start visited queue is_search goals expanded =
-    let each : (q : Cell) → Has visited q → IsExpanded level matching visited q = λ q h. elim (is_search.all q h) [
-      | inl (i, less, is) ↦ rw is at (expanded i less)
-      | inr passed ↦ record { around = passed.around; matched_box = λ goal. absurd (passed.no_goal goal) }
-    ] in
-    record {
-      confines = record {
-        closed = λ x d leak. not_both visited (neighbor x d) ((each x leak.inside).around d (record { player = leak.behind; floor = leak.ahead })) leak.outside;
-        begins = is_search.begins;
-        boxes = λ g b h pair. let (k, paired, has) = (each g h).matched_box (goals g b pair) in
-            rw (one_match level.shape matching g k b paired pair) at has;
-      };
-      paired = λ g h goal. let (b, pair, has) = (each g h).matched_box goal in (b, pair);
-      floor = is_search.floor;
-      least = λ other c confines h. is_search.least other c confines h;
-    }
+  -- if each found goal is matched to a visited box, the visited cells are a Hall violator
+  pub search_violator : IsHallViolator level (Pairs level.shape matching) start s.visited.members
+  search_violator = record {
+    confines = record {
+      closed = λ x d leak. not_both s.visited.members (neighbor x d) (listing.closed x (neighbor x d) leak.inside (record {
+        dir = d;
+        next = refl;
+        behind = leak.behind;
+        ahead = formed.goes_on x d (beside_room level formed x d (listing.floor x leak.inside) leak.behind) leak.ahead;
+      })) leak.outside;
+      begins = begins;
+      boxes = λ g b seen pair.
+          let (i, less, is) = goal_found g seen (goals g b pair) in
+          boxes i b less (rw is pair);
+    };
+    paired = λ g seen goal. let (i, less, is) = goal_found g seen goal in rw is at (paired i less);
+    floor = listing.floor;
+    least = λ other c confines h. is_search.least other c confines h;
+  }
 
--- the queue has no more visits than the grid has cells
-pub queue_fits : (level : Level) (matching : List (Option Cell)) (start : Cell) (visited : Cells) (queue : List Visit)
-    → IsSearch level matching start visited queue → length queue ≤ level.shape.width * level.shape.height
-queue_fits level matching start visited queue is_search = grind (arith, len_on_grid)
+-- ---- the beginning
+module _ (level : Level) (s : Search) (none : s.visited.members ≡ set.empty) (empty : s.found.items ≡ []) (left : s.left.members ≡ level.goals) where
+  no_visits : (i : ℕ) → i < length s.found.items → ⊥
+  no_visits i h = let e = ap length empty in omega arith
 
--- the queue has room for a visit at a new cell
-pub visit_room : (shape : Extent) (visited : Cells) (n capacity : ℕ) (c : Cell) → ((q : Cell) → Has visited q → IsOn shape q) → n ≤ set.len visited
-    → shape.width * shape.height ≤ capacity → Lacks visited c → IsOn shape c → n < capacity
-visit_room shape visited n capacity c on count room lacks here =
-    let few = len_on_grid shape (set.insert visited c)
-    (λ q h. elim (has_insert visited c q h) [ inl e ↦ rw e here | inr old ↦ on q old ]) in
-    let one = len-insert_new visited c lacks in
-    omega arith
+  not_visited : (q : Cell) → Has s.visited.members q → ⊥
+  not_visited q h = has_empty q (rw none at h)
 
--- ---- visits as the code reads them
-pub read_visit : (queue : List Visit) (i : ℕ) (v : Visit) → i < length queue → v ≡ get_or queue i v → v ≡ visit_at queue i
-read_visit queue i v h e = e ∙ get_or_default queue i v no_visit h
+  pub listing_first : IsListing level s
+  listing_first = record {
+    floor = λ q h. absurd (not_visited q h);
+    closed = λ b c h push. absurd (not_visited b h);
+    listed = record {
+      rest = λ g h. rw left at h;
+      goal = λ i h. absurd (no_visits i h);
+      once = λ i j less h. absurd (no_visits j h);
+      all = λ g h. inl (rw left h);
+      count = let none_found = ap length empty in let all_left = ap set.len left in omega arith;
+    };
+    visited = λ i h. absurd (no_visits i h);
+    unseen = λ g h. lacks_where s.visited.members g (not_visited g);
+  }
 
-module _ (level : Level) (visited : Cells) (queue : List Visit) (at : ℕ) (d : Dir) (here : Visit) (ahead : Cell) (visited' : Cells) (queue' : List Visit)
-    (is_here : here ≡ visit_at queue at) (is_ahead : ahead ≡ neighbor here.cell d)
-    (queued : IsQueued (record { cell = ahead; via = here.via }) visited queue visited' queue') where
-  pub pushed_keeps : at < length queue → IsRelaxedPush level here.cell d → KeepsSearches level visited queue visited' queue'
-  pushed_keeps below push =
-      let queued_there = rw is_ahead at queued in
-      push_keeps level visited queue at d visited' queue' below (rw is_here at push) (rw is_here at queued_there)
+  pub search_first : (matching : List (Option Cell)) (start : Cell) → IsSearch level matching start s
+  search_first matching start = record {
+    least = λ zone q confines h. absurd (not_visited q h);
+    traced = λ i h. absurd (no_visits i h);
+  }
 
-  pub pushed_here : Has visited' (neighbor (cell_visited queue at) d)
-  pushed_here =
-      let has = rw is_ahead at (queued_here (record { cell = ahead; via = here.via }) visited queue visited' queue' queued) in
-      subst (λ (v : Visit). Has visited' (neighbor v.cell d)) is_here has
+-- an alternating path leads to the first box
+pub next_first : (level : Level) (matching : List (Option Cell)) (start : Cell) (s : Search) → IsNext level matching start s start None
+next_first level matching start s = record { confined = λ zone confines. confines.begins; traced = λ zone closed h. h }
 
--- ---- the box matched to a goal
-pub pairs_read : (shape : Extent) (matching : List (Option Cell)) (g b : Cell) (i : ℕ) → IsOn shape g → i ≡ index shape g → get_or matching i None ≡ Some b
-    → Pairs shape matching g b
-pairs_read shape matching g b i on is entry = search
+-- an alternating path leads to the box matched to a found goal
+pub next_matched : (level : Level) (matching : List (Option Cell)) (start : Cell) (s : Search) (at : ℕ) (b : Cell) → IsListing level s
+    → IsSearch level matching start s → at < length s.found.items → Pairs level.shape matching (cell_visited s.found.items at) b
+    → IsNext level matching start s b (Some at)
+next_matched level matching start s at b listing is_search within pair = record {
+  confined = λ zone confines. confines.boxes _ b (is_search.least zone _ confines (listing.visited at within)) pair;
+  traced = (within, b, pair, λ zone closed h. h);
+}
 
-pub pairs_visited : (shape s : Extent) (matching : List (Option Cell)) (queue : List Visit) (at : ℕ) (v : Visit) (i : ℕ) (b : Cell)
-    → v ≡ visit_at queue at → s ≡ shape → i ≡ index s v.cell → IsOn shape (cell_visited queue at) → get_or matching i None ≡ Some b
-    → Pairs shape matching (cell_visited queue at) b
-pairs_visited shape s matching queue at v i b is_v is_s is_i on entry = search
+-- the found goals are on the grid, and alternating paths lead to them
+pub search_traced : (level : Level) (matching : List (Option Cell)) (start : Cell) (s : Search) → IsListing level s → IsSearch level matching start s
+    → AreTraced level matching start s.found.items
+search_traced level matching start s listing is_search = record {
+  on = λ i h. (listing.floor _ (listing.visited i h)).0;
+  once = listing.listed.once;
+  traced = is_search.traced;
+}
 
--- ---- the loop over the queue
-pub expanded_more : (level : Level) (matching : List (Option Cell)) (visited : Cells) (queue : List Visit) (visited' : Cells) (queue' : List Visit) (at : ℕ)
-    → at < length queue → IsFurther level visited queue visited' queue'
-    → ((i : ℕ) → i < at → i < length queue → IsExpanded level matching visited (cell_visited queue i))
-    → IsExpanded level matching visited' (cell_visited queue at)
-    → (i : ℕ) → i < at + 1 → i < length queue' → IsExpanded level matching visited' (cell_visited queue' i)
-expanded_more level matching visited queue visited' queue' at within further expanded here i h h' = grind (arith, cases_lt, expanded_kept)
+-- ---- the table as the code reads it
+module _ (level : Level) (s : Extent) (matching : List (Option Cell)) (found : List Visit) (at : ℕ) (v : Visit) (i : ℕ) (entry : Option Cell)
+    (read : v ≡ get_or found at v) (within : at < length found) (is_shape : s ≡ level.shape) (is_index : i ≡ index s v.cell) (below : i < length matching)
+    (is_entry : entry ≡ get_or matching i entry) (on : IsOn level.shape (cell_visited found at)) where
+  pub read_visit : v ≡ visit_at found at
+  read_visit = read ∙ get_or_default found at v no_visit within
+
+  at_goal : i ≡ index level.shape (cell_visited found at)
+  at_goal = is_index ∙ (ap (λ (x : Extent). index x v.cell) is_shape ∙ ap (λ (x : Visit). index level.shape x.cell) read_visit)
+
+  at_entry : entry ≡ get_or matching (index level.shape (cell_visited found at)) None
+  at_entry = is_entry ∙ (get_or_default matching i entry None below ∙ ap (λ (n : ℕ). get_or matching n None) at_goal)
+
+  pub read_pair : (b : Cell) → entry ≡ Some b → Pairs level.shape matching (cell_visited found at) b
+  read_pair b is = record { on = on; entry = sym at_entry ∙ is }
+
+  pub read_free : entry ≡ None → Has level.goals (cell_visited found at) → IsFreeGoal level matching v.cell
+  read_free is goal = subst (IsFreeGoal level matching) (ap (λ (x : Visit). x.cell) (sym read_visit))
+      (record { on = on; goal = goal; unmatched = sym at_entry ∙ is })
+
+-- ---- the loop over the list
+-- the matched boxes of the first goals are visited
+abbrev pub AreBoxesVisited : Level → List (Option Cell) → Search → ℕ → Type 0
+AreBoxesVisited level matching s at =
+    (i : ℕ) (b : Cell) → i < at → i < length s.found.items → Pairs level.shape matching (cell_visited s.found.items i) b → Has s.visited.members b
+
+pub boxes_more : (level : Level) (matching : List (Option Cell)) (s s' : Search) (at : ℕ) → at < length s.found.items → IsFurther s s'
+    → AreBoxesVisited level matching s at
+    → ((b : Cell) → Pairs level.shape matching (cell_visited s.found.items at) b → Has s'.visited.members b) → AreBoxesVisited level matching s' (at + 1)
+boxes_more level matching s s' at within further before here i b below less pair =
+    let same : visit_at s'.found.items i ≡ visit_at s.found.items i = further.same i (omega arith) in
+    let pair_before : Pairs level.shape matching (cell_visited s.found.items i) b = subst (λ (x : Visit). Pairs level.shape matching x.cell b) same pair in
+    elim (cases_lt i at) [
+      | inl earlier ↦ further.kept b (before i b earlier (omega arith) pair_before)
+      | inr late ↦ let e : i ≡ at = omega arith in here b (subst (λ (n : ℕ). Pairs level.shape matching (cell_visited s.found.items n) b) e pair_before)
+    ]
+
+-- the goals of a longer list are matched, if those of the list and the new ones are
+pub paired_more : (level : Level) (matching : List (Option Cell)) (s s' : Search) → IsFurther s s'
+    → ((i : ℕ) → i < length s.found.items → IsPaired level.shape matching (cell_visited s.found.items i))
+    → ((i : ℕ) → length s.found.items ≤ i → i < length s'.found.items → IsPaired level.shape matching (cell_visited s'.found.items i))
+    → (i : ℕ) → i < length s'.found.items → IsPaired level.shape matching (cell_visited s'.found.items i)
+paired_more level matching s s' further before new i h = elim (cases_lt i (length s.found.items)) [
+  | inl less ↦ subst (λ (x : Visit). IsPaired level.shape matching x.cell) (sym (further.same i less)) (before i less)
+  | inr late ↦ new i late h
+]

@@ -6,7 +6,7 @@ pub mod Made
 pub mod Zones
 pub mod Matching
 pub mod Search
-pub mod Relay
+pub mod Hub
 pub use Rattle.cellset.specs.CellSet
 pub use Rattle.board.specs.Game
 pub use Rattle.board.specs.Board

@@ -1,21 +1,20 @@
--- One breadth-first search for an augmenting path: the table of the matching, the visits, and the steps from visit to visit.
+-- One breadth-first search for an augmenting path: the table of the matching, and the goals that are found.
 --     table        for each cell of the grid the box matched to the goal there, or none
---     visit        a cell in the queue: pushes of the first box lead to it, or pushes of the box matched to the goal of an earlier visit
---     passed       a visited cell that isn't in the queue: it is no goal, and the cells to which pushes lead from it are visited
---     search       the queue has the visited cells but passed ones, each once; all are floor, and every set that confines the paths has them
---     expanded     a visit with all successors visited: the cells to which pushes lead and, at a goal, the box matched to the goal
-use Rattle.std.specs.Prelude.{◌≡◌, ◌≢◌, ℕ, ◌*◌, ◌<◌, ◌≤◌, ◌⊎◌, Option, None, Some, List, [], ◌∷◌, ◌++◌, length, slice_index_or}
+--     visit        a found goal: the first box can be pushed to it, or the box matched to the goal of an earlier visit
+--     listing      the visited cells are floor, and no push leads out of them; each goal among them is found, once, and the others are left
+--     search       a listing in which an alternating path leads to each found goal, and every set that confines the paths has the visited cells
+use Rattle.std.specs.Prelude.{◌≡◌, ◌≢◌, ℕ, ◌+◌, ◌*◌, ◌<◌, ◌≤◌, ◌⊎◌, Option, None, Some, List, length, vec_capacity, slice_index_or}
 use Rattle.std.specs.FinSet as set
 use Rattle.cellset.specs.Shape.{Extent}
-use Rattle.cellset.specs.Cell.{IsOn, neighbor, cell_at}
+use Rattle.cellset.specs.Cell.{IsOn, cell_at}
 use Rattle.cellset.specs.CellSet.{Cells, Has, Lacks}
 use Rattle.cellset.specs.SortedList.{index}
 use Rattle.cellset.specs.declared.cell.Cell.{Cell}
-use Rattle.cellset.specs.declared.dir.Dir.{Dir}
+use Rattle.reach.specs.Reached.{IsClosedUnder, PushesTo}
 use Rattle.board.specs.Game.{Level, IsFloor}
-use Rattle.maker.specs.Dead.{IsRelaxedPush}
 use Rattle.maker.specs.Matching.{InReach, IsMatching, ConfinesPaths}
 use Rattle.maker.specs.declared.zones.search.Visit.{Visit}
+use Rattle.maker.specs.declared.zones.search.Search.{Search}
 
 -- ---- the table
 -- the table matches goal g to box b
@@ -27,76 +26,92 @@ pub record Pairs (shape : Extent) (matching : List (Option Cell)) (g b : Cell) :
 abbrev pub HasEntries : Extent → List (Option Cell) → Type 0
 HasEntries shape matching = length matching ≡ shape.width * shape.height
 
--- ---- the visits
--- the visited cells are on the grid, and the queue has capacity for all cells of the grid
-pub record IsReady (shape extent : Extent) (capacity : ℕ) : Type 0 where
-  pub grid : extent ≡ shape
-  pub room : shape.width * shape.height ≤ capacity
+-- the table matches the goal to a box
+abbrev pub IsPaired : Extent → List (Option Cell) → Cell → Type 0
+IsPaired shape matching g = (b : Cell) × Pairs shape matching g b
 
--- the visit that is read at an index past the end of the queue, at no cell of the grid
+-- ---- the visits
+-- the visit that is read at an index past the end of the list, at no cell of the grid
 abbrev pub no_visit : Visit
 no_visit = record { cell = cell_at 0 0; via = None }
 
--- visit i of the queue
+-- visit i of the list
 abbrev pub visit_at : List Visit → ℕ → Visit
-visit_at queue i = slice_index_or queue i no_visit
+visit_at found i = slice_index_or found i no_visit
 
--- the cell of visit i of the queue
+-- the goal of visit i of the list
 abbrev pub cell_visited : List Visit → ℕ → Cell
-cell_visited queue i = (visit_at queue i).cell
+cell_visited found i = (visit_at found i).cell
 
 -- an alternating path leads to the cell of visit i: it is in the reach of the box `start`, or of the box matched to the goal of an
 -- earlier visit
 abbrev pub IsTraced : Level → List (Option Cell) → Cell → List Visit → ℕ → Cell → Option ℕ → Type 0
-IsTraced level matching start queue i c None = InReach level start c
-IsTraced level matching start queue i c (Some j) = (j < i) × (b : Cell) × Pairs level.shape matching (cell_visited queue j) b × InReach level b c
+IsTraced level matching start found i c None = InReach level start c
+IsTraced level matching start found i c (Some j) = (j < i) × (b : Cell) × Pairs level.shape matching (cell_visited found j) b × InReach level b c
 
--- the search need not go on from c: it is no goal, and the cells to which pushes lead from it are visited
-pub record IsPassed (level : Level) (visited : Cells) (c : Cell) : Type 0 where
-  pub around : (d : Dir) → IsRelaxedPush level c d → Has visited (neighbor c d)
-  pub no_goal : Has level.goals c → ⊥
+-- alternating paths lead to the found goals, which are on the grid, each once
+pub record AreTraced (level : Level) (matching : List (Option Cell)) (start : Cell) (found : List Visit) : Type 0 where
+  pub on : (i : ℕ) → i < length found → IsOn level.shape (cell_visited found i)
+  pub once : (i j : ℕ) → i < j → j < length found → cell_visited found i ≢ cell_visited found j
+  pub traced : (i : ℕ) → i < length found → IsTraced level matching start found i (cell_visited found i) (visit_at found i).via
 
--- a search from the box `start` has visited these cells, and has this queue
-pub record IsSearch (level : Level) (matching : List (Option Cell)) (start : Cell) (visited : Cells) (queue : List Visit) : Type 0 where
-  pub floor : (q : Cell) → Has visited q → IsFloor level q
-  pub begins : Has visited start
-  pub least : (zone : Cells) (q : Cell) → ConfinesPaths level (Pairs level.shape matching) start zone → Has visited q → Has zone q
-  pub listed : (i : ℕ) → i < length queue → Has visited (cell_visited queue i)
-  pub all : (q : Cell) → Has visited q → ((i : ℕ) × (i < length queue) × (cell_visited queue i ≡ q)) ⊎ IsPassed level visited q
-  pub once : (i j : ℕ) → i < j → j < length queue → cell_visited queue i ≢ cell_visited queue j
-  pub traced : (i : ℕ) → i < length queue → IsTraced level matching start queue i (cell_visited queue i) (visit_at queue i).via
-  pub count : length queue ≤ set.len visited
+-- the goal is found
+abbrev pub IsFound : List Visit → Cell → Type 0
+IsFound found g = (i : ℕ) × (i < length found) × (cell_visited found i ≡ g)
 
--- these are the visited cells and the queue of a search from some box, for some matching
-abbrev pub IsSomeSearch : Level → Cells → List Visit → Type 0
-IsSomeSearch level visited queue = (matching : List (Option Cell)) × (start : Cell) × IsSearch level matching start visited queue
+-- each goal is found, once, or left
+pub record AreListed (goals : Cells) (found : List Visit) (left : Cells) : Type 0 where
+  pub rest : (g : Cell) → Has left g → Has goals g
+  pub goal : (i : ℕ) → i < length found → Has goals (cell_visited found i) × Lacks left (cell_visited found i)
+  pub once : (i j : ℕ) → i < j → j < length found → cell_visited found i ≢ cell_visited found j
+  pub all : (g : Cell) → Has goals g → Has left g ⊎ IsFound found g
+  pub count : length found + set.len left ≤ set.len goals
 
--- ---- steps
--- a visit was added at the end of the queue, unless its cell was visited before
-abbrev pub IsQueued : Visit → Cells → List Visit → Cells → List Visit → Type 0
-IsQueued v visited queue visited' queue' =
-    (Has visited v.cell × (visited' ≡ visited) × (queue' ≡ queue))
-    ⊎ (Lacks visited v.cell × (visited' ≡ set.insert visited v.cell) × (queue' ≡ queue ++ v ∷ []))
+-- a later state of the list: no visit was lost or changed, and each new one is at a visited goal that was left
+pub record IsLonger (visited left : Cells) (via : Option ℕ) (found found' : List Visit) : Type 0 where
+  pub longer : length found ≤ length found'
+  pub same : (i : ℕ) → i < length found → visit_at found' i ≡ visit_at found i
+  pub new : (i : ℕ) → length found ≤ i → i < length found'
+      → Has visited (cell_visited found' i) × Has left (cell_visited found' i) × ((visit_at found' i).via ≡ via)
+
+-- ---- a search
+-- a search can begin: the rows are on the grid, and the list has space for all goals
+pub record IsReady (level : Level) (s : Search) : Type 0 where
+  pub visited_on : s.visited.extent ≡ level.shape
+  pub left_on : s.left.extent ≡ level.shape
+  pub goals_on : s.goals.extent ≡ level.shape
+  pub goals : s.goals.members ≡ level.goals
+  pub space : set.len level.goals ≤ vec_capacity s.found
+
+-- the visited cells are floor, and no push leads out of them; each goal among them is found, once, and the others are left
+pub record IsListing (level : Level) (s : Search) : Type 0 where
+  pub floor : (q : Cell) → Has s.visited.members q → IsFloor level q
+  pub closed : IsClosedUnder (PushesTo (Has level.room)) (Has s.visited.members)
+  pub listed : AreListed level.goals s.found.items s.left.members
+  pub visited : (i : ℕ) → i < length s.found.items → Has s.visited.members (cell_visited s.found.items i)
+  pub unseen : (g : Cell) → Has s.left.members g → Lacks s.visited.members g
+
+-- alternating paths from the box `start` lead to the found goals, and every set that confines these paths has the visited cells
+pub record IsSearch (level : Level) (matching : List (Option Cell)) (start : Cell) (s : Search) : Type 0 where
+  pub least : (zone : Cells) (q : Cell) → ConfinesPaths level (Pairs level.shape matching) start zone → Has s.visited.members q → Has zone q
+  pub traced : (i : ℕ) → i < length s.found.items
+      → IsTraced level matching start s.found.items i (cell_visited s.found.items i) (visit_at s.found.items i).via
+
+-- an alternating path from the box `start` leads to the box at c, which the search visits next
+pub record IsNext (level : Level) (matching : List (Option Cell)) (start : Cell) (s : Search) (c : Cell) (via : Option ℕ) : Type 0 where
+  pub confined : (zone : Cells) → ConfinesPaths level (Pairs level.shape matching) start zone → Has zone c
+  pub traced : IsTraced level matching start s.found.items (length s.found.items) c via
+
+-- whatever the matching and the start: if the old state is that of a search and the box at c is visited next, the new state is that of a search
+abbrev pub VisitsBox : Level → Search → Cell → Option ℕ → Search → Type 0
+VisitsBox level s c via s' = (matching : List (Option Cell)) (start : Cell) → IsSearch level matching start s → IsNext level matching start s c via
+    → IsSearch level matching start s'
 
 -- a later state of a search: no visited cell was lost, and no visit was lost or changed
-pub record IsFurther (level : Level) (visited : Cells) (queue : List Visit) (visited' : Cells) (queue' : List Visit) : Type 0 where
-  pub kept : (q : Cell) → Has visited q → Has visited' q
-  pub longer : length queue ≤ length queue'
-  pub same : (i : ℕ) → i < length queue → visit_at queue' i ≡ visit_at queue i
-
--- whatever the matching and the start: if the old cells and queue are a search, the new ones are too
-abbrev pub KeepsSearches : Level → Cells → List Visit → Cells → List Visit → Type 0
-KeepsSearches level visited queue visited' queue' =
-    (matching : List (Option Cell)) (start : Cell) → IsSearch level matching start visited queue → IsSearch level matching start visited' queue'
-
--- if there is a goal at c, the box matched to it is visited
-abbrev pub VisitsMatchedBox : Level → List (Option Cell) → Cells → Cell → Type 0
-VisitsMatchedBox level matching visited c = Has level.goals c → (b : Cell) × Pairs level.shape matching c b × Has visited b
-
--- the visit at c is expanded: the cells to which pushes from c lead are visited, and if c is a goal, the box matched to it
-pub record IsExpanded (level : Level) (matching : List (Option Cell)) (visited : Cells) (c : Cell) : Type 0 where
-  pub around : (d : Dir) → IsRelaxedPush level c d → Has visited (neighbor c d)
-  pub matched_box : VisitsMatchedBox level matching visited c
+pub record IsFurther (s s' : Search) : Type 0 where
+  pub kept : (q : Cell) → Has s.visited.members q → Has s'.visited.members q
+  pub longer : length s.found.items ≤ length s'.found.items
+  pub same : (i : ℕ) → i < length s.found.items → visit_at s'.found.items i ≡ visit_at s.found.items i
 
 -- there is a goal at g, and the table matches it to no box
 pub record IsFreeGoal (level : Level) (matching : List (Option Cell)) (g : Cell) : Type 0 where
@@ -105,10 +120,10 @@ pub record IsFreeGoal (level : Level) (matching : List (Option Cell)) (g : Cell)
   pub unmatched : slice_index_or matching (index level.shape g) None ≡ None
 
 -- the search found an augmenting path, which ends with this visit at a free goal
-pub record EndsPath (level : Level) (matching : List (Option Cell)) (start : Cell) (visited : Cells) (queue : List Visit) (found : Visit) : Type 0 where
-  pub search : IsSearch level matching start visited queue
-  pub free : IsFreeGoal level matching found.cell
-  pub traced : IsTraced level matching start queue (length queue) found.cell found.via
+pub record EndsPath (level : Level) (matching : List (Option Cell)) (start : Cell) (found : List Visit) (end : Visit) : Type 0 where
+  pub path : AreTraced level matching start found
+  pub free : IsFreeGoal level matching end.cell
+  pub traced : IsTraced level matching start found (length found) end.cell end.via
 
 -- ---- all boxes
 -- the table is a matching of these boxes of the start

@@ -1,256 +1,219 @@
-//! The search for an augmenting path: a breadth-first search over the cells to which boxes can be pushed.
-ghost use Rattle.std.specs.Prelude.{◌≡◌, ◌*◌, ◌<◌, ◌≤◌, ◌⊎◌, List, Option, IfSome, MatchBool, MatchOption, vec_capacity, length};
+//! The search for an augmenting path: a breadth-first search over goals, whose steps are floods.
+ghost use Rattle.std.specs.Prelude.{◌≡◌, ◌+◌, ◌*◌, ◌<◌, ◌≤◌, ℕ, List, Option, IfOk, IfSome, MatchOption, vec_capacity, length, false};
 ghost use Rattle.std.specs.FinSet as set;
-ghost use Rattle.cellset.specs.Shape.{Extent};
-ghost use Rattle.cellset.specs.Cell.{IsOn, neighbor};
+ghost use Rattle.cellset.specs.Cell.{IsOn};
 ghost use Rattle.cellset.specs.CellSet.{Cells, Has};
 ghost use Rattle.cellset.specs.declared.cell.Cell.{Cell as GridCell};
-ghost use Rattle.cellset.specs.declared.dir.Dir.{Dir as GridDir};
+ghost use Rattle.reach.specs.Reached.{PushesTo};
 ghost use Rattle.board.specs.Board.{IsWellFormed};
 ghost use Rattle.board.specs.Game.{IsFloor};
-ghost use Rattle.maker.specs.Dead.{IsRelaxedPush};
-ghost use Rattle.maker.specs.Matching.{IsHallViolator};
-ghost use Rattle.maker.specs.Search.{Pairs, HasEntries, IsReady, cell_visited, IsTraced, IsSearch, IsSomeSearch, IsQueued, IsFurther, KeepsSearches, VisitsMatchedBox, IsExpanded, IsFreeGoal, EndsPath, IsMatchingOf};
-ghost use Rattle.maker.specs.Relay.{HasFreeGoal, IsReachOf};
+ghost use Rattle.maker.specs.Matching.{ConfinesPaths, IsHallViolator};
+ghost use Rattle.maker.specs.Search.{Pairs, IsReady, IsListing, AreListed, IsLonger, IsPaired, IsFurther, IsTraced, IsSearch, VisitsBox, IsFreeGoal, EndsPath, IsMatchingOf, cell_visited};
+ghost use Rattle.maker.specs.Hub.{IsTableWithHubs};
 
-use super::relays::Relays;
+use super::matching::Matching;
 use board::Board;
-use cellset::{Cell, CellSet, Dir, MembersOf};
+use cellset::{Cell, CellSet};
 use reach::Rows;
+use reach::step::ByPush;
+use std::alloc::{AllocError, Global};
 
-/// A cell in the queue of a search. `via` is the index of the visit at the last goal on the alternating path to the cell, or None if
-/// the path has only pushes of the first box.
+/// A goal that a search visited. `via` is the index of the goal before it on the alternating path, or None if the first box can be
+/// pushed to it.
 #[derive(Clone, Copy)]
 pub(super) struct Visit {
     pub(super) cell: Cell,
     pub(super) via: Option<usize>,
 }
 
-/// A breadth-first search: the visited cells, and a queue with a visit for each of them but those that the search passes.
+/// A search: the visited cells, the goals among them in the order in which they were found, and the goals that are left.
 #[derive(Drop)]
 pub(super) struct Search {
     pub(super) visited: Rows,
-    pub(super) queue: Vec<Visit>,
+    pub(super) found: Vec<Visit>,
+    pub(super) left: Rows,
+    pub(super) goals: Rows,
 }
 
 impl Search {
-    /// Begins a search from a box whose reach the relays have. The queue has the box and the goals in its reach, and all of the reach is
-    /// visited.
-    pub(super) fn begin<S: CellSet>(&mut self, board: &Board<S>, relays: &Relays<'_>, start: Cell)
-        requires formed { IsWellFormed board.now }
-        requires ready { IsReady board.now.shape self.old.visited.extent (vec_capacity self.old.queue) }
-        requires start { Has board.now.boxes start }
-        requires extent { relays.now.reach.extent ≡ board.now.shape }
-        requires reach { IsReachOf board.now start relays.now.reach.members }
-        ensures ready { IsReady board.now.shape self.new.visited.extent (vec_capacity self.new.queue) }
-        ensures search { (matching : List (Option GridCell)) → IsSearch board.now matching start self.new.visited.members self.new.queue.items }
+    /// Returns a search that can begin.
+    pub(super) fn new<S: CellSet>(alloc: Global, board: &Board<S>) -> Result<Search, AllocError>
+        ensures { IfOk result (IsReady board.now) }
     {
-        self.visited.clear();
-        self.queue.clear();
-        self.enqueue(Visit {
-            cell: start,
-            via: None,
-        });
-        self.enqueue_goals(board, relays);
-        relays.copy_reach(&mut self.visited);
+        let shape = board.shape();
+        let visited = Rows::new(alloc, shape)?;
+        let found = Vec::with_capacity(alloc, board.goals().len())?;
+        let left = Rows::new(alloc, shape)?;
+        let mut goals = Rows::new(alloc, shape)?;
+        goals.load(board.goals());
+        Ok(Search {
+            visited,
+            found,
+            left,
+            goals,
+        })
     }
 
-    // Queues each goal in the reach of the box `start`, at which the search began.
-    fn enqueue_goals<S: CellSet>(&mut self, board: &Board<S>, relays: &Relays<'_>)
-        requires formed { IsWellFormed board.now }
-        requires ready { IsReady board.now.shape self.old.visited.extent (vec_capacity self.old.queue) }
-        requires search { (matching : List (Option GridCell)) × (start : GridCell) × IsSearch board.now matching start self.old.visited.members self.old.queue.items
-            × IsReachOf board.now start relays.now.reach.members }
-        ensures ready { IsReady board.now.shape self.new.visited.extent (vec_capacity self.new.queue) }
-        ensures search { (matching : List (Option GridCell)) (start : GridCell) → IsReachOf board.now start relays.now.reach.members
-            → IsSearch board.now matching start self.old.visited.members self.old.queue.items
-            → IsSearch board.now matching start self.new.visited.members self.new.queue.items }
-        ensures goals { (g : GridCell) → Has board.now.goals g → Has relays.now.reach.members g → Has self.new.visited.members g }
-        ensures within { (q : GridCell) → Has self.new.visited.members q → Has self.old.visited.members q ⊎ Has relays.now.reach.members q }
-    {
-        for goal in MembersOf::new(board.goals()) {
-            if relays.reaches(goal) {
-                self.enqueue(Visit {
-                    cell: goal,
-                    via: None,
-                });
-            }
-        }
-    }
-
-    /// Runs the search until a visit reaches a free goal, and returns the last visit of the augmenting path. If there is none, the visited
-    /// cells are a Hall violator.
+    /// Looks for an augmenting path from a box, and returns the free goal at its end. If there is none, the visited cells are a Hall
+    /// violator.
     pub(super) fn find_free_goal<S: CellSet>(
         &mut self,
         board: &Board<S>,
-        matching: &[Option<Cell>],
-        relays: &Relays<'_>,
+        matching: &mut Matching,
+        start: Cell,
     ) -> Option<Visit>
         requires formed { IsWellFormed board.now }
-        requires ready { IsReady board.now.shape self.old.visited.extent (vec_capacity self.old.queue) }
-        requires entries { HasEntries board.now.shape matching.now }
-        requires valid { (matched : Cells) × IsMatchingOf board.now matched matching.now }
-        requires search { (start : GridCell) × IsSearch board.now matching.now start self.old.visited.members self.old.queue.items }
-        requires free { HasFreeGoal board.now matching.now relays.now }
-        ensures ready { IsReady board.now.shape self.new.visited.extent (vec_capacity self.new.queue) }
-        ensures exact { (start : GridCell) → IsSearch board.now matching.now start self.old.visited.members self.old.queue.items
-            → MatchOption result
-            (IsHallViolator board.now (Pairs board.now.shape matching.now) start self.new.visited.members)
-            (EndsPath board.now matching.now start self.new.visited.members self.new.queue.items) }
+        requires ready { IsReady board.now self.old }
+        requires matching { IsTableWithHubs board.now matching.old }
+        requires valid { (matched : Cells) × IsMatchingOf board.now matched matching.old.table.items }
+        requires start { Has board.now.boxes start }
+        ensures ready { IsReady board.now self.new }
+        ensures matching { IsTableWithHubs board.now matching.new }
+        ensures same { matching.new.table ≡ matching.old.table }
+        ensures exact { MatchOption result
+            (IsHallViolator board.now (Pairs board.now.shape matching.old.table.items) start self.new.visited.members)
+            (EndsPath board.now matching.old.table.items start self.new.found.items) }
     {
+        self.visited.clear();
+        self.found.clear();
+        self.left.copy_from(&self.goals);
+        self.visit_reach(board, start, None);
+        if let Some(end) = self.end_of_path(board, matching, 0) {
+            return Some(end);
+        }
         let mut at = 0;
-        while at < self.queue.len() {
-            if let Some(found) = self.expand(board, matching, relays, at) {
-                return Some(found);
+        while at < self.found.len() {
+            let known = self.found.len();
+            self.visit_matched(board, matching, at);
+            if let Some(end) = self.end_of_path(board, matching, known) {
+                return Some(end);
             }
             at += 1;
         }
         None
     }
 
-    // Expands a visit. If the visit is at a free goal, or a box can be pushed from it to the last relay and on to a free goal, returns the
-    // visit at that goal instead.
-    fn expand<S: CellSet>(
-        &mut self,
+    // Visits the reach of the box that is matched to a goal.
+    fn visit_matched<S: CellSet>(&mut self, board: &Board<S>, matching: &Matching, at: usize)
+        requires ready { IsReady board.now self.old }
+        requires listing { IsListing board.now self.old }
+        requires matching { IsTableWithHubs board.now matching.now }
+        requires boxes { (g b : GridCell) → Pairs board.now.shape matching.now.table.items g b → IsFloor board.now b }
+        requires at { at < length self.old.found.items }
+        requires paired { IsPaired board.now.shape matching.now.table.items (cell_visited self.old.found.items at) }
+        ensures ready { IsReady board.now self.new }
+        ensures listing { IsListing board.now self.new }
+        ensures further { IsFurther self.old self.new }
+        ensures here { (b : GridCell) → Pairs board.now.shape matching.now.table.items (cell_visited self.old.found.items at) b
+            → Has self.new.visited.members b }
+        ensures search { (start : GridCell) → IsSearch board.now matching.now.table.items start self.old
+            → IsSearch board.now matching.now.table.items start self.new }
+    {
+        if let Some(cell) = matching.table[board.shape().index_of(self.found[at].cell)] {
+            self.visit_reach(board, cell, Some(at));
+        }
+    }
+
+    // Visits the cells to which a box can be pushed, and lists the goals among them.
+    fn visit_reach<S: CellSet>(&mut self, board: &Board<S>, cell: Cell, via: Option<usize>)
+        requires ready { IsReady board.now self.old }
+        requires listing { IsListing board.now self.old }
+        requires floor { IsFloor board.now cell }
+        ensures ready { IsReady board.now self.new }
+        ensures listing { IsListing board.now self.new }
+        ensures further { IsFurther self.old self.new }
+        ensures here { Has self.new.visited.members cell }
+        ensures search { VisitsBox board.now self.old cell via self.new }
+    {
+        let leads_on = leads_on(board.room_rows(), &self.visited, cell);
+        self.visited.insert(cell);
+        if leads_on || self.left.has(cell) {
+            self.visited.grow::<ByPush>(board.room_rows());
+            self.list_goals(via);
+        }
+    }
+
+    // Lists the goals that are visited and left.
+    fn list_goals(&mut self, via: Option<usize>)
+        requires extent { self.old.left.extent ≡ self.old.visited.extent }
+        requires on { (c : GridCell) → Has self.old.visited.members c → IsOn self.old.visited.extent c }
+        requires space { length self.old.found.items + set.len self.old.left.members ≤ vec_capacity self.old.found }
+        ensures extent { self.new.left.extent ≡ self.old.left.extent }
+        ensures same { (self.new.visited ≡ self.old.visited) × (self.new.goals ≡ self.old.goals) }
+        ensures capacity { vec_capacity self.new.found ≡ vec_capacity self.old.found }
+        ensures none { (c : GridCell) → Has self.old.visited.members c → Has self.new.left.members c → ⊥ }
+        ensures kept { (c : GridCell) → Has self.new.left.members c → Has self.old.left.members c }
+        ensures listed { (goals : Cells) → AreListed goals self.old.found.items self.old.left.members
+            → AreListed goals self.new.found.items self.new.left.members }
+        ensures longer { IsLonger self.old.visited.members self.old.left.members via self.old.found.items self.new.found.items }
+    {
+        for row in 1..self.left.shape().height() as u16 + 1 {
+            while let Some(cell) = common_cell_of_row(&self.visited, &self.left, row as u8) {
+                self.left.remove(cell);
+                self.found.push_reserved(Visit { cell, via });
+            }
+        }
+    }
+
+    // Returns the end of an augmenting path by one of the goals from an index on, if there is one: such a goal if it is free, or a goal
+    // to which the box matched to it can be pushed by way of a hub.
+    fn end_of_path<S: CellSet>(
+        &self,
         board: &Board<S>,
-        matching: &[Option<Cell>],
-        relays: &Relays<'_>,
-        at: usize,
+        matching: &mut Matching,
+        from: usize,
     ) -> Option<Visit>
-        requires ready { IsReady board.now.shape self.old.visited.extent (vec_capacity self.old.queue) }
-        requires entries { HasEntries board.now.shape matching.now }
-        requires matching { (g b : GridCell) → Pairs board.now.shape matching.now g b → IsFloor board.now b }
-        requires free { HasFreeGoal board.now matching.now relays.now }
-        requires search { (start : GridCell) × IsSearch board.now matching.now start self.old.visited.members self.old.queue.items }
-        requires at { at < length self.old.queue.items }
-        ensures ready { IsReady board.now.shape self.new.visited.extent (vec_capacity self.new.queue) }
-        ensures further { IsFurther board.now self.old.visited.members self.old.queue.items self.new.visited.members self.new.queue.items }
-        ensures search { (start : GridCell) → IsSearch board.now matching.now start self.old.visited.members self.old.queue.items
-            → IsSearch board.now matching.now start self.new.visited.members self.new.queue.items }
+        requires matching { IsTableWithHubs board.now matching.old }
+        requires on { (i : ℕ) → i < length self.now.found.items → IsOn board.now.shape (cell_visited self.now.found.items i) }
+        requires goals { (i : ℕ) → i < length self.now.found.items → Has board.now.goals (cell_visited self.now.found.items i) }
+        ensures matching { IsTableWithHubs board.now matching.new }
+        ensures same { matching.new.table ≡ matching.old.table }
         ensures exact { MatchOption result
-            (IsExpanded board.now matching.now self.new.visited.members (cell_visited self.old.queue.items at))
-            (λ found. IsFreeGoal board.now matching.now found.cell) }
-        ensures traced { IfSome result (λ found. (start : GridCell) → IsSearch board.now matching.now start self.old.visited.members self.old.queue.items
-            → IsTraced board.now matching.now start self.new.queue.items (length self.new.queue.items) found.cell found.via) }
+            ((i : ℕ) → from ≤ i → i < length self.now.found.items
+            → IsPaired board.now.shape matching.old.table.items (cell_visited self.now.found.items i))
+            (λ end. IsFreeGoal board.now matching.old.table.items end.cell) }
+        ensures traced { IfSome result (λ end. (start : GridCell) → IsSearch board.now matching.old.table.items start self.now
+            → IsTraced board.now matching.old.table.items start self.now.found.items (length self.now.found.items) end.cell end.via) }
     {
-        let here = self.queue[at];
-        if let Some(goal) = relays.goal_for(here.cell) {
-            return Some(Visit {
-                cell: goal,
-                via: here.via,
-            });
+        for k in from..self.found.len() {
+            let goal = self.found[k];
+            let Some(matched) = matching.table[board.shape().index_of(goal.cell)] else {
+                return Some(goal);
+            };
+            if let Some(cell) = matching.goal_by_hub(board, matched) {
+                return Some(Visit { cell, via: Some(k) });
+            }
         }
-        if self.enqueue_matched(board, matching, at) {
-            return Some(here);
-        }
-        self.enqueue_pushes(board, at);
         None
-    }
-
-    // If the visit is at a matched goal, queues the box matched to it. Returns whether the visit is at a free goal.
-    fn enqueue_matched<S: CellSet>(
-        &mut self,
-        board: &Board<S>,
-        matching: &[Option<Cell>],
-        at: usize,
-    ) -> bool
-        requires ready { IsReady board.now.shape self.old.visited.extent (vec_capacity self.old.queue) }
-        requires entries { HasEntries board.now.shape matching.now }
-        requires matching { (g b : GridCell) → Pairs board.now.shape matching.now g b → IsFloor board.now b }
-        requires search { (start : GridCell) × IsSearch board.now matching.now start self.old.visited.members self.old.queue.items }
-        requires at { at < length self.old.queue.items }
-        ensures ready { IsReady board.now.shape self.new.visited.extent (vec_capacity self.new.queue) }
-        ensures further { IsFurther board.now self.old.visited.members self.old.queue.items self.new.visited.members self.new.queue.items }
-        ensures search { (start : GridCell) → IsSearch board.now matching.now start self.old.visited.members self.old.queue.items
-            → IsSearch board.now matching.now start self.new.visited.members self.new.queue.items }
-        ensures exact { MatchBool result
-            (IsFreeGoal board.now matching.now (cell_visited self.old.queue.items at))
-            (VisitsMatchedBox board.now matching.now self.new.visited.members (cell_visited self.old.queue.items at)) }
-    {
-        let cell = self.queue[at].cell;
-        if !board.goals().contains(cell) {
-            return false;
-        }
-        let Some(matched_box) = matching[board.shape().index_of(cell)] else {
-            return true;
-        };
-        self.enqueue(Visit {
-            cell: matched_box,
-            via: Some(at),
-        });
-        false
-    }
-
-    // Queues each cell to which a relaxed push from a visit leads.
-    fn enqueue_pushes<S: CellSet>(&mut self, board: &Board<S>, at: usize)
-        requires ready { IsReady board.now.shape self.old.visited.extent (vec_capacity self.old.queue) }
-        requires search { IsSomeSearch board.now self.old.visited.members self.old.queue.items }
-        requires at { at < length self.old.queue.items }
-        ensures ready { IsReady board.now.shape self.new.visited.extent (vec_capacity self.new.queue) }
-        ensures further { IsFurther board.now self.old.visited.members self.old.queue.items self.new.visited.members self.new.queue.items }
-        ensures search { KeepsSearches board.now self.old.visited.members self.old.queue.items self.new.visited.members self.new.queue.items }
-        ensures around { (d : GridDir) → IsRelaxedPush board.now (cell_visited self.old.queue.items at) d
-            → Has self.new.visited.members (neighbor (cell_visited self.old.queue.items at) d) }
-    {
-        self.enqueue_push(board, at, Dir::L);
-        self.enqueue_push(board, at, Dir::U);
-        self.enqueue_push(board, at, Dir::R);
-        self.enqueue_push(board, at, Dir::D);
-    }
-
-    // Queues the cell to which a relaxed push in the direction leads, on the same alternating path.
-    fn enqueue_push<S: CellSet>(&mut self, board: &Board<S>, at: usize, dir: Dir)
-        requires ready { IsReady board.now.shape self.old.visited.extent (vec_capacity self.old.queue) }
-        requires search { IsSomeSearch board.now self.old.visited.members self.old.queue.items }
-        requires at { at < length self.old.queue.items }
-        ensures ready { IsReady board.now.shape self.new.visited.extent (vec_capacity self.new.queue) }
-        ensures further { IsFurther board.now self.old.visited.members self.old.queue.items self.new.visited.members self.new.queue.items }
-        ensures search { KeepsSearches board.now self.old.visited.members self.old.queue.items self.new.visited.members self.new.queue.items }
-        ensures ahead { IsRelaxedPush board.now (cell_visited self.old.queue.items at) dir
-            → Has self.new.visited.members (neighbor (cell_visited self.old.queue.items at) dir) }
-    {
-        let here = self.queue[at];
-        if let Some(ahead) = push_target(board, &self.visited, here.cell, dir) {
-            self.enqueue(Visit {
-                cell: ahead,
-                via: here.via,
-            });
-        }
-    }
-
-    // Queues a visit if its cell wasn't visited before.
-    fn enqueue(&mut self, visit: Visit)
-        requires on { IsOn self.old.visited.extent visit.cell }
-        requires visited { (q : GridCell) → Has self.old.visited.members q → IsOn self.old.visited.extent q }
-        requires count { length self.old.queue.items ≤ set.len self.old.visited.members }
-        requires room { self.old.visited.extent.width * self.old.visited.extent.height ≤ vec_capacity self.old.queue }
-        ensures ready { (shape : Extent) → IsReady shape self.old.visited.extent (vec_capacity self.old.queue)
-            → IsReady shape self.new.visited.extent (vec_capacity self.new.queue) }
-        ensures queued { IsQueued visit self.old.visited.members self.old.queue.items self.new.visited.members self.new.queue.items }
-    {
-        if !self.visited.has(visit.cell) {
-            self.visited.insert(visit.cell);
-            self.queue.push_reserved(visit);
-        }
     }
 }
 
-// Returns the cell to which a relaxed push in the direction leads, unless it was visited already.
-fn push_target<S: CellSet>(board: &Board<S>, visited: &Rows, cell: Cell, dir: Dir) -> Option<Cell>
-    requires visited { visited.now.extent ≡ board.now.shape }
-    requires on { IsOn board.now.shape cell }
-    ensures { MatchOption result
-        (IsRelaxedPush board.now cell dir → Has visited.now.members (neighbor cell dir))
-        (λ ahead. (ahead ≡ neighbor cell dir) × IsRelaxedPush board.now cell dir) }
+// Returns whether a push leads from a cell to one that wasn't visited.
+fn leads_on(room: &Rows, visited: &Rows, cell: Cell) -> bool
+    requires { IsOn room.now.extent cell × IsOn visited.now.extent cell }
+    ensures { result ≡ false → (c : GridCell) → PushesTo (Has room.now.members) cell c → Has visited.now.members c }
 {
-    let ahead = board.shape().step(cell, dir)?;
-    if visited.has(ahead) {
-        return None;
+    let free = room.ring(cell);
+    let seen = visited.ring(cell);
+    (free.left & free.right & !(seen.left & seen.right))
+        | (free.up & free.down & !(seen.up & seen.down))
+}
+
+// Returns the first cell of a row that both have.
+fn common_cell_of_row(cells: &Rows, others: &Rows, row: u8) -> Option<Cell>
+    requires extent { others.now.extent ≡ cells.now.extent }
+    requires on { (c : GridCell) → Has cells.now.members c → IsOn cells.now.extent c }
+    requires row { row ≤ cells.now.extent.height }
+    ensures { MatchOption result
+        ((c : GridCell) → Has cells.now.members c → Has others.now.members c → c.row ≡ row → ⊥)
+        (λ c. Has cells.now.members c × Has others.now.members c) }
+{
+    let shape = cells.shape();
+    for part in 0..shape.width() / 64 + 1 {
+        let bits = cells.row(row, part) & others.row(row, part);
+        if bits != 0 {
+            return shape.cell(64 * part as u16 + bits.trailing_zeros() as u16, row as u16);
+        }
     }
-    let behind = board.shape().step(cell, dir.opposite())?;
-    if board.room().contains(behind) && !board.walls().contains(ahead) {
-        Some(ahead)
-    } else {
-        None
-    }
+    None
 }

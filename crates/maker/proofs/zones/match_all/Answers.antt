@@ -14,9 +14,8 @@ loop-cell-init g c =
       is_finite = tt;
       all = rw c.into_iter-cell-iterator.ensures.into_iter_gives (rw (c.boxes.ensures.members, c.boxes.ensures.extent) at c.new-cell-items.ensures);
       ready = c.requires.ready;
-      entries = c.requires.entries;
-      relays = c.requires.relays;
-      so_far = matched_none level c.args.matching.now (pairs_none level.shape c.args.matching.now c.requires.unmatched);
+      matching = c.requires.matching;
+      so_far = matched_none level c.args.matching.now.table.items (pairs_none level.shape c.args.matching.now.table.items c.requires.unmatched);
     }
 
 pub match_box-requires : goal.match_box-requires
@@ -26,17 +25,16 @@ match_box-requires g c =
     let whole = rw c.in-Some.ensures.steps at inv.all in
     record {
       ready = inv.ready;
-      entries = inv.entries;
+      matching = inv.matching;
       valid = (inv.so_far.matched, inv.so_far.valid);
       start = (next_has c.loop-cell.yielded c.next.new.self c.in-Some.cell whole).0;
-      relays = inv.relays;
     }
 
 pub returns-then-not-match_box-clause-exact : goal.returns-then-not-match_box-clause-exact
 returns-then-not-match_box-clause-exact g c =
     let level = c.args.board.now in
     let whole = rw c.in-Some.ensures.steps at c.loop-cell.invariant.all in
-    violator_here level c.loop-cell.yielded c.next.new.self c.in-Some.cell c.loop-cell.matching whole c.loop-cell.invariant.so_far
+    violator_here level c.loop-cell.yielded c.next.new.self c.in-Some.cell c.loop-cell.matching.table.items whole c.loop-cell.invariant.so_far
     c.match_box.new.search.visited.members c.if-not-match_box.ensures.exact
 
 pub loop-cell-preserved : goal.loop-cell-preserved
@@ -48,13 +46,12 @@ loop-cell-preserved g c =
       is_finite = tt;
       all = next_came c.loop-cell.yielded c.next.new.self c.in-Some.cell whole;
       ready = c.match_box.ensures.ready;
-      entries = c.match_box.ensures.entries;
-      relays = c.match_box.ensures.relays;
-      so_far = matched_more level c.loop-cell.yielded c.next.new.self c.in-Some.cell c.loop-cell.matching whole c.loop-cell.invariant.so_far
-          c.match_box.new.matching c.if-not-match_box.ensures.exact;
+      matching = c.match_box.ensures.matching;
+      so_far = matched_more level c.loop-cell.yielded c.next.new.self c.in-Some.cell c.loop-cell.matching.table.items whole c.loop-cell.invariant.so_far
+          c.match_box.new.matching.table.items c.if-not-match_box.ensures.exact;
     }
 
 pub returns-clause-exact : goal.returns-clause-exact
 returns-clause-exact g c =
     let level = c.args.board.now in
-    matched_end level c.loop-cell.matching c.loop-cell.yielded (rw c.in-None.ensures.steps.0 at c.loop-cell.invariant.all) c.loop-cell.invariant.so_far
+    matched_end level c.loop-cell.matching.table.items c.loop-cell.yielded (rw c.in-None.ensures.steps.0 at c.loop-cell.invariant.all) c.loop-cell.invariant.so_far

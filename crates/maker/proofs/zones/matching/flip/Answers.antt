@@ -12,24 +12,21 @@ use Rattle.maker.proofs.zones.matching.flip.Goals as goal
 
 pub loop-freed-init : goal.loop-freed-init
 loop-freed-init g c =
-    let (visited, found) = c.requires.found in
     record {
       entries = c.requires.entries;
-      flipping = flipping_start c.args.board.now c.args.matching.now c.args.start visited c.args.queue.now c.args.found found;
+      flipping = flipping_start c.args.board.now c.args.matching.now c.args.start c.args.found.now c.args.end c.requires.end;
     }
 
 pub loop-freed-smaller : goal.loop-freed-smaller
 loop-freed-smaller g c =
-    let (visited, found) = c.requires.found in
     let inv = c.loop-freed.invariant in
-    flipping_falls c.args.board.now c.args.matching.now c.args.start visited c.args.queue.now c.loop-freed.matching c.loop-freed.freed found.search inv.entries
+    flipping_falls c.args.board.now c.args.matching.now c.args.start c.args.found.now c.loop-freed.matching c.loop-freed.freed c.requires.end.path inv.entries
     inv.flipping c.in-Some.via c.in-Some.is
 
 pub loop-freed-preserved : goal.loop-freed-preserved
 loop-freed-preserved g c =
-    let (visited, found) = c.requires.found in
     let level = c.args.board.now in
-    let queue = c.args.queue.now in
+    let queue = c.args.found.now in
     let inv = c.loop-freed.invariant in
     let to : c.index_of-in-Some.result ≡ index level.shape c.loop-freed.freed.cell =
     c.index_of-in-Some.ensures.value ∙ ap (λ (x : Extent). index x c.loop-freed.freed.cell) c.shape-shape.ensures.value in
@@ -37,18 +34,17 @@ loop-freed-preserved g c =
     c.index_of.ensures.value ∙ ap (λ (x : Extent). index x (cell_visited queue c.in-Some.via)) c.shape-shape.ensures.value in
     record {
       entries = length-set c.loop-freed.matching c.index_of-in-Some.result _ ∙ inv.entries;
-      flipping = rw (to, of) (flipping_next level c.args.matching.now c.args.start visited queue c.loop-freed.matching c.loop-freed.freed found.search
+      flipping = rw (to, of) (flipping_next level c.args.matching.now c.args.start queue c.loop-freed.matching c.loop-freed.freed c.requires.end.path
           inv.entries inv.flipping c.in-Some.via c.in-Some.is);
     }
 
 pub returns-clause-valid : goal.returns-clause-valid
 returns-clause-valid g c =
-    let (visited, found) = c.requires.found in
     let level = c.args.board.now in
     let inv = c.loop-freed.invariant in
     let to : c.index_of-2.result ≡ index level.shape c.loop-freed.freed.cell =
     c.index_of-2.ensures.value ∙ ap (λ (x : Extent). index x c.loop-freed.freed.cell) c.shape-shape.ensures.value in
-    rw to (flipping_end level c.args.matching.now c.args.start visited c.args.queue.now c.loop-freed.matching c.loop-freed.freed found.search inv.entries
+    rw to (flipping_end level c.args.matching.now c.args.start c.args.found.now c.loop-freed.matching c.loop-freed.freed c.requires.end.path inv.entries
     inv.flipping c.in_default.is)
 
 pub returns-clause-entries : goal.returns-clause-entries
