@@ -312,6 +312,11 @@ class Checks(Check):
                 self.assertIn(f"check: {said}", result.err)
             self.assertEqual(self.report()[0], "level 1 missing")
             self.remove_files()
+            # the reason needs no --verbose
+            result = self.solve(f"print('so be it\\nunsolvable\\n{lines}end')")
+            self.assertIn(f"check: level 1: the solver found nothing; a certificate was refused: "
+                          f"{why} (1 of 1 done, 0 found)", result.err)
+            self.remove_files()
 
     @needs_copies
     def test_limits_of_its_own(self) -> None:

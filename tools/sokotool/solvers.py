@@ -67,6 +67,7 @@ class Run(Job):
     def __init__(self, solver: Solver, words: Sequence[str], level: Level, seconds: float) -> None:
         self.solver, self.level, self.seconds = solver, level, seconds
         self.fault, self.what = "", NOTHING
+        self.refused = ""  # why the first certificate was refused
         self.ended: Optional[float] = None  # when it was asked to end
         self.output = tempfile.TemporaryFile()
         self.folder = tempfile.TemporaryDirectory(prefix="sokotool-")
@@ -116,6 +117,8 @@ class Run(Job):
         elif (code := self.group.process.returncode) and self.ended is None:
             said.append(f"ended by signal {-code}" if code < 0 else f"ended with status {code}")
         words = "the solver " + _WORDS[what].format(self.seconds)
+        if not record and self.refused:
+            words += f"; a certificate was refused: {self.refused}"
         return Result(self.level, what, record, self.seconds, words,
                       said if self.solver.is_told else [])
 
@@ -131,6 +134,7 @@ class Run(Job):
             if not (why := self.solver.refusal(self.level, lines)):
                 return REFUTED, answers.certificate(self.level.number, lines), said
             said.append(f"refused: {why}")
+            self.refused = self.refused or why
         return self.what, b"", said
 
     def _written(self) -> Iterator[bytes]:
