@@ -59,6 +59,45 @@ class Table(Case):
             "\tben\t\t\t\t\t\t\tanswers line 9 unclosed"])
         self.assertEqual(result.status, 1)
 
+    def test_entrants_with_exports(self) -> None:
+        """Exports with boards, lists by number, and a file with a byte order mark count like
+        answers files. What the levels' own file has below a level is nobody's answer."""
+        self.write("levels.xsb", LEVELS + "Solution\nRurD\n")
+        first, second = LEVELS.split("\n\n")
+        turned = "\n".join(row[::-1] for row in second.split("\n")[1:])
+        self.write("emil.sok", f"{turned}\nSolution\nLulD\n\n{first}\n\nrRR\n")
+        self.write("fred.txt", "2: RurD\n1: rRR\n")
+        self.write("gina.answers", "\ufeff" + solutions("rRR", "RurD"))
+        self.write("hugo.txt", "Sorry\n")
+        result, rows, standings = self.table("emil.sok", "fred.txt", "gina.answers", "hugo.txt",
+                                             "--page", "table.html")
+        said = "no answers file, and no solution of these levels is read in it"
+        self.assertEqual(standings[1:], [f"1\t{name}\t2\t0\t0\t0\t2\t2\t" for name in (
+            "emil.sok", "fred.txt", "gina")] + [f"\thugo.txt\t\t\t\t\t\t\t{said}"])
+        self.assertEqual(rows[1], f"\thugo.txt\t{said}\t\t\t\t\t")
+        self.assertEqual((result.status, result.err),
+                         (1, "table: hugo.txt line 1: no level in this file\n"))
+        self.assertEqual(len(data_of(self.read("table.html"))["levels"]), 6)
+
+    def test_records_in_any_order(self) -> None:
+        """Records out of order count, of several for a level the best, and one of a level that
+        isn't there costs no other."""
+        first, second = solutions("rRR", "RurD").split("level 2\n")
+        one, two = first[18:], "level 2\n" + second
+        longer = one.replace("rRR", "rlrRR")
+        for name, text in (("emil", two + one), ("fred", longer + one + two + longer),
+                           ("gina", one + two + one.replace("level 1", "level 12"))):
+            self.write(f"{name}.answers", "sokoban-answers 1\n" + text)
+        result, _, standings = self.table("emil.answers", "fred.answers", "gina.answers")
+        self.assertEqual(standings[1:], [f"1\t{name}\t2\t0\t0\t0\t2\t2\t"
+                                         for name in ("emil", "fred", "gina")])
+        self.assertEqual((result.status, result.err.splitlines()), (0, [
+            "table: emil.answers line 6: the records aren't in order, or several are for a level: "
+            "they count as if they were sorted, the best one of each level",
+            "table: fred.answers line 6: the records aren't in order, or several are for a level: "
+            "they count as if they were sorted, the best one of each level",
+            "table: gina.answers line 10: there is no level 12: this record doesn't count"]))
+
     def test_equal_entrants_share_a_place(self) -> None:
         os.mkdir("other")
         self.write("other/anna.answers", self.read("anna.answers"))
@@ -113,7 +152,8 @@ class Table(Case):
                          [["1", "anna", "2"], ["2", "cleo", "1"]])
         faults = {row.split("\t")[1]: row.split("\t")[8] for row in standings[3:]}
         self.assertEqual(faults, {"ben": "answers line 9 unclosed", "eve": "out of memory",
-                                  "frank": "answers line 1 header"})
+                                  "frank": "no answers file, and no solution of these levels is "
+                                           "read in it"})
 
     @needs_a_memory_limit
     def test_limits(self) -> None:
@@ -132,7 +172,8 @@ class Table(Case):
     def test_errors(self) -> None:
         self.assertEqual(self.tool("table", "gone", "anna.answers").status, 2)
         result, rows, _ = self.table("gone.answers")
-        self.assertEqual((result.status, rows[1]), (1, "\tgone\tcannot read answers\t\t\t\t\t"))
+        self.assertEqual((result.status, rows[1]), (
+            1, "\tgone\tcannot read gone.answers: No such file or directory\t\t\t\t\t"))
 
     # ---- the page
 

@@ -1,5 +1,7 @@
 """Prints the table of a contest: one collection, and an answers file from each entrant. Each file
-is audited by itself, within limits of time and memory, so a bad file affects only its entrant.
+is audited by itself, within limits of time and memory, so a bad file affects only its entrant. A
+file that is no answers file is read as convert reads exports: its solutions are for the levels with
+the same boards, titles or numbers.
 
 Tab-separated rows have the level, the entrant, what the report says, and for solutions the moves,
 pushes and changes. The solution of a level with the fewest moves is marked as best by moves; if
@@ -17,8 +19,11 @@ import tempfile
 from collections import Counter
 from typing import Callable, Dict, Iterator, List, NamedTuple, Sequence, Tuple
 
-from .. import answers, auditor, levels, output, report, texts
-from . import above_zero, page
+from .. import answers, auditor, builder, forms, levels, output, report, sources, texts
+from ..board import board_of
+from ..carrying import carried
+from ..places import Place
+from . import above_zero, convert, page
 
 SECONDS, MEGABYTES = 60, 1000
 STATUSES = "solved", "unsolvable", "refused", "missing"
@@ -31,7 +36,8 @@ STANDINGS_HEAD = ("place", "entrant", "solved", "unsolvable", "refused", "missin
 def arguments(parser: argparse.ArgumentParser) -> None:
     parser.add_argument("levels", metavar="LEVELS", help="the levels; - is standard input")
     parser.add_argument("entrants", metavar="ENTRANT.answers", nargs="+",
-                        help="the answers of an entrant, who is named after the file")
+                        help="the answers of an entrant, who is named after the file, or an export "
+                             "with solutions")
     parser.add_argument("--page", metavar="FILE", help="write a web page with tables and answers")
     parser.add_argument("--seconds", metavar="S", type=above_zero(float), default=SECONDS,
                         help=f"end an audit after S seconds (default {SECONDS})")
@@ -40,10 +46,10 @@ def arguments(parser: argparse.ArgumentParser) -> None:
 
 
 class Entrant(NamedTuple):
-    """An entrant: the name, the file, its report lines, or the reason why there are none."""
+    """An entrant: the name, the answers, their report lines, or the reason why there are none."""
 
     name: str
-    file: str
+    answers: bytes
     lines: Sequence[report.Line]
     fault: str
 
@@ -58,7 +64,7 @@ def run(options: argparse.Namespace) -> int:
         raise texts.Stop("an entrant is named after a file, so - is none")
     data = texts.read(options.levels)
     found = levels.read_within(data, options.levels)
-    entrants = [*audited(data, len(found), options)]
+    entrants = [*audited(data, found, options)]
     best = [marks(entrants, lambda counts: counts[:2]),
             marks(entrants, lambda counts: counts[1::-1])]
     tables = [*rows(entrants, best, len(found))], standings(entrants, best)
@@ -69,20 +75,99 @@ def run(options: argparse.Namespace) -> int:
     return int(any(entrant.fault for entrant in entrants))
 
 
-def audited(data: bytes, count: int, options: argparse.Namespace) -> Iterator[Entrant]:
-    """Yields the entrants, each file audited by itself. `count` is the number of levels."""
+def audited(data: bytes, found: Sequence[levels.Level], options: argparse.Namespace
+            ) -> Iterator[Entrant]:
+    """Yields the entrants, each file audited by itself."""
     program = auditor.find()
     if program.is_reference and not auditor.is_quiet():
         print(f"table: {auditor.REFERENCE_NOTE}", file=sys.stderr)
     with tempfile.TemporaryDirectory() as folder:
-        path = os.path.join(folder, "levels")
+        path, given = (os.path.join(folder, name) for name in ("levels", "answers"))
         output.write_files([(path, data)])
         for name, file in zip(names_of(options.entrants), options.entrants):
-            ran = program.run("audit", path, os.path.abspath(file), seconds=options.seconds,
+            try:
+                mine = answers_of(file, found)
+            except texts.Stop as stop:
+                yield Entrant(name, b"", [], str(stop))
+                continue
+            output.write_files([(given, mine)])
+            ran = program.run("audit", path, given, seconds=options.seconds,
                               megabytes=options.memory)
             read = report.read(ran.out)
-            fault = read.fault(count) and (ran.fault or "no report")
-            yield Entrant(name, file, [] if fault else read.lines, fault or "")
+            fault = read.fault(len(found)) and (ran.fault or "no report")
+            yield Entrant(name, mine, [] if fault else read.lines, fault or "")
+
+
+def answers_of(file: str, found: Sequence[levels.Level]) -> bytes:
+    """Returns the answers of an entrant's file for these levels: as they are there, or from an
+    export. What isn't read there is reported."""
+    data = texts.read(file)
+
+    def say(place: Place, why: str, _: bool) -> None:
+        if place.file == file:
+            print(f"table: {place.said(why)}", file=sys.stderr)
+
+    if answers.is_begun(data):
+        return sorted_records(texts.in_utf8(data), found,
+                              lambda line, why: say(Place(file, file, line), why, True))
+
+    # only the boards and titles, for solutions may be beside the levels
+    bare = b"".join(b"\n".join([b"Title: " + level.title.encode(), *level.rows, b"", b""])
+                    for level in found)
+    collection = builder.Collection(builder.MOVES, True, "", say)
+    convert.read_files(collection, [sources.Export("levels", lambda: bare, False),
+                                    sources.Export(file, lambda: data, False)])
+    old: List[levels.Level] = []
+    read: List[answers.Record] = []
+    for text, written in collection.parts():
+        first = len(old)
+        old += levels.read(text)
+        read += [it._replace(level=first + it.level) for it in answers.read(written).records]
+    kept = carried(read, forms.forms_of(old), forms.forms_of(found))
+    if not kept:
+        raise texts.Stop("no answers file, and no solution of these levels is read in it")
+    best = {number: min((it for _, it in several), key=lambda it: len(it.letters))
+            for number, several in kept.items()}
+    return answers.text([it.record(number) for number, it in sorted(best.items())])
+
+
+def sorted_records(data: bytes, found: Sequence[levels.Level], say: Callable[[int, str], None]
+                   ) -> bytes:
+    """Returns an answers file as it is if its records are in order, and otherwise sorted: of
+    several for a level the best one, and none of a level that isn't there. The audit reports all
+    other faults."""
+    try:
+        answers.read(data, len(found))
+        return data
+    except answers.Fault as fault:
+        if fault.why not in ("order", "unknown"):
+            return data
+    try:
+        read = answers.read(data, rising=False)
+    except answers.Fault:
+        return data
+    by_level = texts.grouped((it.level, it) for it in read.records if it.level <= len(found))
+    for record in read.records:
+        if record.level > len(found):
+            say(record.line, f"there is no level {record.level}: this record doesn't count")
+    orders = [it.level for it in read.records if it.level <= len(found)]
+    if orders != sorted(by_level):
+        line = next(two.line for one, two in zip(read.records, read.records[1:])
+                    if two.level <= one.level)
+        say(line, "the records aren't in order, or several are for a level: they count as if they "
+            "were sorted, the best one of each level")
+    return answers.text([min(several, key=lambda it: _rank(it, found[level - 1])).text
+                         for level, several in sorted(by_level.items())], read.version)
+
+
+def _rank(record: answers.Record, level: levels.Level) -> Tuple[int, int, int]:
+    """Orders the records of a level: solutions that solve it, by their counts, before all others.
+    """
+    board = board_of(level)
+    if record.kind != "solution" or board.player is None:
+        return (1, 0, 0)
+    replay = board.replay(record.letters)
+    return (2 if replay.fault else 0, replay.moves, replay.pushes)
 
 
 def names_of(files: Sequence[str]) -> List[str]:
@@ -162,7 +247,7 @@ def entries_of(entrants: Sequence[Entrant], found: Sequence[levels.Level]
     count: Dict[str, int] = Counter()
     written = 1  # the lines of the answers so far
     for entrant in (it for it in entrants if not it.fault):
-        for record in answers.read(texts.read(entrant.file), len(found)).records:
+        for record in answers.read(entrant.answers, len(found)).records:
             level, line = found[record.level - 1], entrant.lines[record.level - 1]
             number = numbers[str(level.number), entrant.name] = len(numbers) + 1
             title = f"Title: {entrant.name}, level {level.number}, {level.title}".rstrip(" ,")
