@@ -245,6 +245,28 @@ class Older(Check):
             self.assertEqual((result.status, result.err), (2, f"check: mine.answers {why}\n"))
             self.assertEqual(files, {name: self.read(name) for name in os.listdir()})
 
+    def test_other_versions(self) -> None:
+        """What a program that synchronizes folders leaves isn't read, and the summary says so."""
+        self.write("a.txt", CORNER)
+        others = ["mine (Anna's conflicted copy 2026-11-30).xsb",
+                  "mine.sync-conflict-20261130-101010-ABCDEFG.xsb", "mine (1).answers"]
+        for name in (*others, "mine2.xsb", "mine.other.answers~", "mine-conflict"):
+            self.write(name, "")
+        said = self.lines(self.check("mine", "a.txt"))
+        self.assertEqual([line for line in said if line.startswith("not read")],
+                         [f"not read: {name} seems to be another version: take over what it has, "
+                          "and remove it" for name in others])
+
+    def test_levels_in_utf_16(self) -> None:
+        """An editor may save so; what was typed stays, in UTF-8."""
+        self.write("a.txt", "A\n" + CORNER)
+        self.check("mine", "a.txt")
+        typed = self.read("mine.xsb").decode().replace("\nA\n", "\nGr\u00f6\u00dfe\n")
+        for codec in ("utf-16-le", "utf-16-be"):
+            self.write("mine.xsb", ("\ufeff" + typed).encode(codec))
+            self.assertLess(self.check("mine", "a.txt").status, 2)
+            self.assertEqual(self.read("mine.xsb").decode(), typed)
+
     def test_letters_in_the_wrong_case(self) -> None:
         """They are put right in the answers and in other files, with their lines and comments."""
         self.write("a.txt", CORNER)

@@ -3,6 +3,7 @@ and how they become."""
 import contextlib
 import glob
 import os
+import re
 import time
 from itertools import zip_longest
 from typing import IO, Callable, Dict, Iterator, List, Optional, Sequence
@@ -24,6 +25,8 @@ EVERY = (*ENDS, SHEET, MEMORY, JOURNAL)
 LISTED = (PAGE, *(end for end in (*ENDS, SHEET) if end != PAGE), MEMORY)
 _PAGE = b"<title>sokoaudit report</title>"
 _BEAT = 0.1
+# what programs that synchronize folders put between NAME and the end of another version
+_VERSION = re.compile(r"[ ._-]?(?:\(.+\)|(?:sync-)?conflict.*|[^.]*conflicted copy.*)", re.I)
 _NOTE = f"; {auditor.REFERENCE_NOTE}".encode()
 
 
@@ -44,8 +47,10 @@ class Files:
         return {end: data for end, data in found.items() if data is not None}
 
     def levels(self) -> Optional[bytes]:
-        """Returns NAME.xsb without the note of the reference, or None if there is none."""
+        """Returns NAME.xsb without the note of the reference, or None if there is none. An editor
+        may have saved it in UTF-16."""
         data = self.before.get(XSB)
+        data = texts.in_utf8(data) if data and data[:2] in (b"\xff\xfe", b"\xfe\xff") else data
         return b"\n".join(unnoted(data.split(b"\n"))) if data and _NOTE in data else data
 
     def answers(self, end: str, most: int) -> answers.Answers:
@@ -108,6 +113,14 @@ def unnoted(lines: Sequence[bytes]) -> List[bytes]:
 def bytes_of(name: str) -> Optional[bytes]:
     """Returns the contents of a file, or None if there is none."""
     return texts.read(name, MOST_BYTES) if os.path.exists(name) else None
+
+
+def versions(name: str) -> List[str]:
+    """Returns the files beside NAME.xsb and NAME.answers that seem to be other versions of them,
+    which a program that synchronizes folders has left. They aren't read."""
+    return [file for end in (XSB, ANSWERS)
+            for file in sorted(glob.glob(f"{glob.escape(name)}*{end}"))
+            if _VERSION.fullmatch(file[len(name):-len(end)])]
 
 
 def own(name: str, has_parts: bool = False) -> Callable[[str], bool]:

@@ -27,6 +27,9 @@ def lines(run: Run, state: State, problems: Sequence[str]) -> Iterator[str]:
     if run.program.is_reference and not auditor.is_quiet():
         yield auditor.REFERENCE_NOTE
     yield from _some("problem: ", problems, MOST_PROBLEMS)
+    yield from _some("not read: ", [
+        f"{texts.shown(file)} seems to be another version: take over what it has, and remove it"
+        for file in own_files.versions(run.name)])
     sources = run.conversion.origins.sources(state.merged.written.places)
     places = {number: str(place) for number, (place, _) in sources.items()}
     yield from _some("no answer: ", [
