@@ -83,7 +83,7 @@ def _solutions() -> None:
     reported("of another level", f"{C}Solution: rRR\n")
     reported("no letters", f"{A}Solution:\n\n{B}")
     reported("other letters", f"{A}Solution: EEE\n")
-    reported("arrows", f"{A}Solution: \u2192\u2192\u2192\n")
+    right("arrows", f"{A}Solution: \u2192\u2192\u2192\n", s1="rRR")
     reported("long letters that don't play", f"{A}rrrrrrrrrrrr\n")
     reported("long letters among words", f"{A}Moves so far: rrrrrrrrrrrr\n")
     reported("above the level", f"Solution: rRR\n{A}")

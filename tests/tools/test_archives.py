@@ -1,11 +1,12 @@
-"""Archives that can't be read, and what .sokoignore says."""
+"""Archives within others or that can't be read, and what .sokoignore says."""
+import gzip
 import io
 import os
 import unittest.mock
 import zipfile
 from typing import List
 
-from sokotool import report, sources
+from sokotool import report, sources, texts
 from tests.tools.helping import ONE, Case
 
 
@@ -33,6 +34,45 @@ class Archives(Case):
                 unittest.mock.patch.object(sources, "MOST_UNPACKED", 3 * len(ONE)):
             self.assertEqual(self.complaints(), ["convert: 3 levels, 0 solutions, 0 left out"])
         self.assertEqual(self.read("out.xsb").count(b"@"), 3)
+
+    def packed(self, **files: bytes) -> bytes:
+        """The bytes of an archive with these files, each of whose names ends after '_'."""
+        data = io.BytesIO()
+        with zipfile.ZipFile(data, "w") as archive:
+            for name, content in files.items():
+                archive.writestr(name.replace("_", "."), content)
+        return data.getvalue()
+
+    def test_archives_in_others(self) -> None:
+        """A zip in a zip and what gzip packed are read, each file by its whole name."""
+        inner = self.packed(b_txt=ONE.encode(), c_txt_gz=gzip.compress(ONE.encode()))
+        self.write("a.zip", self.packed(d_zip=inner, e_txt=ONE.encode()))
+        self.write("f.xsb.gz", gzip.compress(ONE.encode()))
+        self.assertEqual([it.name for it in sources.listed(["a.zip", "f.xsb.gz"])], [
+            "a.zip/d.zip/b.txt", "a.zip/d.zip/c.txt.gz/c.txt", "a.zip/e.txt", "f.xsb.gz/f.xsb"])
+        result = self.tool("convert", "out", "a.zip", "f.xsb.gz")
+        self.assertEqual((result.status, result.err), (
+            0, "convert: 4 levels, 0 solutions, 0 left out\n"))
+
+    def test_too_deep_or_large(self) -> None:
+        """What isn't unpacked is reported, and no bomb takes the memory."""
+        data = ONE.encode()
+        for _ in range(sources.MOST_NESTED + 1):
+            data = self.packed(a_zip=data)
+        self.write("a.zip", data)
+        self.assertIn("a.zip line 1: a damaged zip archive, or one too deep in others",
+                      self.complaints()[0])
+        bomb = gzip.compress(b"\0" * (texts.MOST_BYTES + 1))
+        for name, content in (("a.zip", self.packed(b_gz=bomb, c_txt=ONE.encode())),
+                              ("a.zip", self.packed(b_gz=gzip.compress(b"PK\3\4" + b"\0"
+                                                                       * texts.MOST_BYTES),
+                                                    c_txt=ONE.encode()))):
+            self.write(name, content)
+            self.assertIn(f"is longer than {texts.MOST_BYTES} bytes", self.complaints()[0])
+        with unittest.mock.patch.object(sources, "MOST_IN_ARCHIVE", 3):
+            self.write("a.zip", self.packed(b_zip=self.archive("1.txt", "2.txt"),
+                                            c_zip=self.archive("3.txt")))
+            self.assertIn("cannot read a.zip/b.zip: more than 3 files", self.complaints()[0])
 
     def test_encrypted(self) -> None:
         data = bytearray(self.archive("1.txt"))

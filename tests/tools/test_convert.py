@@ -128,6 +128,22 @@ class Levels(Case):
                                  (0, [ONE.strip(), OTHER.strip()]))
         self.takes_less(10, converts)
 
+    def test_forms_that_are_no_text(self) -> None:
+        unread = ", which is not read: unpack it first"
+        for data, why in ((b"7z\xbc\xaf\x27\x1c", "a 7-Zip archive" + unread),
+                          (b"PK\3\4\0", "a damaged zip archive, or one too deep in others"
+                           + unread),
+                          (ONE.encode() + b"\0" * 9, "zero bytes at the end, from line 4")):
+            result = self.convert(data)[0]
+            self.assertEqual(result.status, 1)
+            self.assertIn(f"mine.txt line 1: {why}\n", result.err)
+        os.mkdir("folder")
+        self.write("folder/a.xsb.xz", b"\xfd7zXZ\0")
+        self.write("folder/b.txt", ONE)
+        result = self.tool("convert", "two", "folder")
+        self.assertEqual(result.status, 1)
+        self.assertIn("folder/a.xsb.xz line 1: an xz file", result.err)
+
     def test_what_is_no_text_is_reported(self) -> None:
         for data in (b"\0\1\2\3" + ONE.encode(), b"\xff\xfe\x00", b"", b"Nothing here\n"):
             result, _, _ = self.convert(data)
@@ -198,6 +214,30 @@ class Solutions(Case):
         self.assertEqual((letters_of(solved), result.status), ({1: "r"}, 1))
         self.assertIn("line 5: the solution of level 1 cannot be played: move 1 (u) wall",
                       result.err)
+
+    def test_best_of_several_among_words(self) -> None:
+        """Solutions in lines with other words count like those under headings of their own."""
+        text = LONG + "Best pushes (5/2): rlrRR\nBest moves (3/2): rRR\n"
+        result, _, solved = self.convert(text)
+        self.assertEqual((letters_of(solved), result.status), ({1: "rlrRR"}, 1))
+        self.assertIn("line 5: another solution of level 1, 3 moves and 2 pushes, is left out",
+                      result.err)
+        self.write("a.txt", text)
+        result = self.tool("convert", "out", "a.txt", "--replace", "--best", "moves")
+        self.assertEqual((letters_of(self.read("out.answers")), result.status), ({1: "rRR"}, 0))
+
+    def test_arrows(self) -> None:
+        for line in ("\u2192\u2192\u2192", "Solution: \u2192 \u2192 \u2192",
+                     "solved: \u27a1\ufe0f\u27a1\ufe0f\u27a1\ufe0f"):
+            result, _, solved = self.convert(f"{LONG}{line}\n")
+            self.assertEqual((letters_of(solved), result.status), ({1: "rRR"}, 0), line)
+
+    def test_many_letters_beside_another(self) -> None:
+        """A sign in a wrong encoding may end in a letter of ASCII."""
+        many = "lr" * 4 + "rRR"
+        for line in (f"F{many}", f"\u00b0\u00b8F{many}", f"{many}\u00e9"):
+            result, _, solved = self.convert(f"#########\n#  @ $ .#\n#########\n{line}\n")
+            self.assertEqual((letters_of(solved), result.status), ({1: many}, 0), line)
 
     def test_parts_of_words_are_none(self) -> None:
         for line in ("rRange", "some rRange", "barR", "rR\u00e9"):

@@ -191,7 +191,7 @@ class Collection:
 
     def end_level(self) -> None:
         """Ends the last level, and adds the solution of it that is kept."""
-        solving = [it for it in self._tries if it.attempt.why is None] or self._spares[:1]
+        solving = [it for it in self._tries if it.attempt.why is None] or self._spares
         failing = [it for it in self._tries if it.attempt.why is not None]
         playing = [it for it in failing if it.attempt.plays]
         kept, other = (self.choose(self.count, solving) if solving

@@ -7,7 +7,7 @@ from . import answers, changes, forms, texts
 
 _CELLS = rb"([0-9]{1,5},[0-9]{1,5}(?: [0-9]{1,5},[0-9]{1,5})*)"
 _LINE = re.compile(rb"pattern %b @ (?:\*|%b)|zone %b" % (_CELLS, _CELLS, _CELLS))
-_CELL = re.compile(rb"([0-9]+),([0-9]+)")
+_CELL = re.compile(rb"([0-9]{1,5}),([0-9]{1,5})")
 
 
 def carried(records: Sequence[answers.Record], old: Sequence[forms.Form],

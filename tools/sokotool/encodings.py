@@ -12,6 +12,8 @@ CODECS = {CP1252: "cp1252", "Windows-1251": "cp1251", "KOI8-R": "koi8-r", "GB180
 MOST = 1 << 16
 # what counts against pairs of bytes, which letters of one byte often are as well
 _DOUBT = 0.93
+# how plausible a letter of Shift-JIS of one byte is, which many letters of other encodings are too
+_NARROW = 0.6
 # how good words have to be, and how much better than those of Windows-1252
 _LEAST, _MARGIN = 0.5, 0.1
 # the letters of Latin languages come before this one
@@ -100,8 +102,8 @@ def _of_pairs(codec: str, *usual: range) -> Callable[[str], float]:
     one part of the table, and the signs in another."""
     def judge(word: str) -> float:
         pairs = (c.encode(codec) for c in word if not c.isascii())
-        marks = [1 if any(pair[0] in part for part in usual) else 0.2
-                 for pair in pairs if len(pair) == 2]
+        marks = [_NARROW if len(pair) == 1 else 1 if any(pair[0] in part for part in usual) else 0.2
+                 for pair in pairs if len(pair) < 3]
         return _DOUBT * sum(marks) / len(word)
     return judge
 

@@ -1,20 +1,26 @@
-"""The exports that a command reads: files, and the files in folders and zip archives. A file
-.sokoignore in a folder has names and wildcards of files and folders there that aren't read."""
+"""The exports that a command reads: files, and the files in folders, in zip archives and in those
+within them, and what gzip packed. A file .sokoignore in a folder has names and wildcards of files
+and folders there that aren't read."""
 import contextlib
 import fnmatch
+import gzip
+import io
 import os
 import re
 import stat
 import unicodedata
 import zipfile
 from collections import Counter
-from typing import Callable, Dict, Iterator, List, NamedTuple, Optional, Sequence, Set, Tuple
+from typing import (IO, Callable, ContextManager, Dict, Iterator, List, NamedTuple, Optional,
+                    Sequence, Set, Tuple, cast)
 
 from . import texts
 
 MOST_IN_ARCHIVE = 10_000
 MOST_UNPACKED = 8 * texts.MOST_BYTES
-_ZIP = b"PK\3\4"
+# how deep archives are opened in others
+MOST_NESTED = 3
+_ZIP, _GZIP = b"PK\3\4", b"\x1f\x8b"
 # the flag of a name in UTF-8; without it Python takes a name for code page 437
 _UTF8 = 0x800
 IGNORE = ".sokoignore"
@@ -22,6 +28,7 @@ _NUMBER = re.compile("([0-9]+)")
 # Longer numbers in names have any order.
 _MOST_DIGITS = 99
 IsOut = Callable[[str], bool]
+Opened = Callable[[], ContextManager[IO[bytes]]]
 
 
 class Export(NamedTuple):
@@ -175,28 +182,57 @@ def _in_folder(folder: str, seen: Set[Tuple[int, int]], is_out: IsOut) -> Iterat
             yield from (export for export in _in_file(path) if not is_left(export.name))
 
 
+class _Room:
+    """What may still be unpacked of a file on the disk: files, and bytes of archives in others."""
+
+    def __init__(self) -> None:
+        self.files, self.bytes = MOST_IN_ARCHIVE, MOST_UNPACKED
+
+    def take(self, sizes: Sequence[int]) -> bool:
+        """Takes files of these sizes, and returns whether there was room for them."""
+        self.files -= len(sizes)
+        self.bytes -= sum(sizes)
+        return self.files >= 0 and self.bytes >= 0
+
+
 def _in_file(path: str) -> Iterator[Export]:
     """Yields a file, or the files in it if it is an archive."""
+    export = Export(path, lambda: texts.read(path))
+    yield from _unpacked(export, lambda: open(path, "rb"), 0, _Room())
+
+
+def _unpacked(export: Export, opened: Opened, depth: int, room: _Room) -> Iterator[Export]:
+    """Yields an export, or the files in it if it is an archive, around which are `depth` others."""
+    members: List[zipfile.ZipInfo] = []
     try:
-        with open(path, "rb") as file:
-            is_archive = file.read(len(_ZIP)) == _ZIP and zipfile.is_zipfile(file)
-        if not is_archive:
-            yield Export(path, lambda: texts.read(path))
-            return
-        with zipfile.ZipFile(path) as archive:
-            members = [it for it in map(_named, archive.infolist()) if not it.is_dir() and not any(
-                part.startswith((".", "__MACOSX")) and part.strip(".")
-                for part in it.filename.split("/"))]
+        with opened() as file:
+            head = file.read(len(_ZIP)) if depth < MOST_NESTED else b""
+            is_archive = head == _ZIP and zipfile.is_zipfile(file)
+        if is_archive:
+            with opened() as file, zipfile.ZipFile(file) as archive:
+                members = [it for it in map(_named, archive.infolist())
+                           if not it.is_dir() and not _is_hidden(it.filename)]
     except MemoryError:
         raise
     except Exception as error:  # Each form of a damaged archive has errors of its own.
-        yield _unreadable(path, getattr(error, "strerror", None) or str(error))
+        yield _unreadable(export.name, getattr(error, "strerror", None) or str(error))
         return
-    if len(members) > MOST_IN_ARCHIVE or sum(it.file_size for it in members) > MOST_UNPACKED:
-        yield _unreadable(path, f"more than {MOST_IN_ARCHIVE} files or {MOST_UNPACKED} bytes in it")
-        return
-    for member in sorted(members, key=lambda it: _order(it.filename)):
-        yield _packed(path, member)
+    if not room.take([it.file_size for it in members]):
+        yield _unreadable(export.name,
+                          f"more than {MOST_IN_ARCHIVE} files or {MOST_UNPACKED} bytes in it")
+    elif is_archive:
+        for member in sorted(members, key=lambda it: _order(it.filename)):
+            name = f"{export.name}/{member.filename}"
+            yield from _inner(name, _member(opened, member), depth, room)
+    elif head.startswith(_GZIP):
+        name = re.sub(r"(?i)\.gz\Z", "", os.path.basename(export.name))
+        yield from _inner(f"{export.name}/{name}", _gunzipped(opened), depth, room)
+    else:
+        yield export
+
+
+def _is_hidden(name: str) -> bool:
+    return any(part.startswith((".", "__MACOSX")) and part.strip(".") for part in name.split("/"))
 
 
 def _named(member: zipfile.ZipInfo) -> zipfile.ZipInfo:
@@ -208,13 +244,29 @@ def _named(member: zipfile.ZipInfo) -> zipfile.ZipInfo:
     return member
 
 
-def _packed(path: str, member: zipfile.ZipInfo) -> Export:
-    name = f"{path}/{member.filename}"
+def _member(opened: Opened, member: zipfile.ZipInfo) -> Opened:
+    @contextlib.contextmanager
+    def unpacked() -> Iterator[IO[bytes]]:
+        with opened() as file, zipfile.ZipFile(file) as archive, archive.open(member) as inner:
+            yield inner
+    return unpacked
 
+
+def _gunzipped(opened: Opened) -> Opened:
+    @contextlib.contextmanager
+    def unpacked() -> Iterator[IO[bytes]]:
+        with opened() as file, gzip.GzipFile(fileobj=file) as inner:
+            yield cast(IO[bytes], inner)
+    return unpacked
+
+
+def _inner(name: str, opened: Opened, depth: int, room: _Room) -> Iterator[Export]:
+    """Yields a file of an archive, or the files in that if it is an archive too. Such a one is kept
+    in memory, because its list of files is at its end."""
     def read() -> bytes:
         try:
-            with zipfile.ZipFile(path) as archive, archive.open(member) as file:
-                data = file.read(texts.MOST_BYTES + 1)
+            with opened() as file:
+                data = texts.read_up_to(file, texts.MOST_BYTES + 1)
         except MemoryError:
             raise
         except Exception as error:
@@ -222,10 +274,28 @@ def _packed(path: str, member: zipfile.ZipInfo) -> Export:
         if len(data) > texts.MOST_BYTES:
             raise texts.Stop(f"{texts.shown(name)} is longer than {texts.MOST_BYTES} bytes")
         return data
-    return Export(name, read)
+
+    is_packed = False
+    with contextlib.suppress(Exception):  # which `read` reports
+        with opened() as file:
+            is_packed = file.read(len(_ZIP)).startswith((_ZIP, _GZIP))
+    if not is_packed:
+        yield Export(name, read)
+        return
+    try:
+        data = read()
+    except texts.Stop as stop:
+        yield _stopped(name, str(stop))
+        return
+    export = Export(name, lambda: data)
+    yield from _unpacked(export, lambda: io.BytesIO(data), depth + 1, room)
 
 
 def _unreadable(name: str, why: str) -> Export:
+    return _stopped(name, f"cannot read {texts.shown(name)}: {why}")
+
+
+def _stopped(name: str, why: str) -> Export:
     def read() -> bytes:
-        raise texts.Stop(f"cannot read {texts.shown(name)}: {why}")
+        raise texts.Stop(why)
     return Export(name, read)

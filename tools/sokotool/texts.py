@@ -7,8 +7,8 @@ import re
 import sys
 from functools import lru_cache
 from itertools import islice
-from typing import (Any, AnyStr, BinaryIO, Dict, Iterable, List, Match, Optional, Sequence, Set,
-                    Tuple, TypeVar, Union)
+from typing import (IO, Any, AnyStr, Dict, Iterable, List, Match, Optional, Sequence, Set, Tuple,
+                    TypeVar, Union)
 
 from . import encodings
 
@@ -55,7 +55,7 @@ def read(name: str, most: int = MOST_BYTES) -> bytes:
     return data
 
 
-def read_up_to(file: BinaryIO, most: int) -> bytes:
+def read_up_to(file: IO[bytes], most: int) -> bytes:
     """Returns the bytes of a stream, or its first ones. They are read in parts, because a read
     takes memory for all that it may return."""
     parts = [file.read(min(READ_AT_ONCE, most))]

@@ -21,8 +21,12 @@ from ..places import Place
 from . import encoding_argument
 
 MOST_MESSAGES = 1000
-# a piece of a row, between other things
-_DRAWN = re.compile(r"#[-_ #]*[@$.*+][-_ #@$.*+]+#")
+# what no text begins with
+_FORMS = {b"\x1f\x8b": "a gzip file", b"BZh91AY&SY": "a bzip2 file", b"\xfd7zXZ": "an xz file",
+          b"7z\xbc\xaf": "a 7-Zip archive", b"Rar!\x1a\7": "a RAR archive",
+          b"PK\3\4": "a damaged zip archive, or one too deep in others"}
+# a piece of a row, which other things may be beside
+_DRAWN = re.compile("#[-_ #@$.*+]{3,}")
 
 
 def arguments(parser: argparse.ArgumentParser) -> None:
@@ -144,20 +148,24 @@ def _read_answers(collection: Collection, data: bytes, its_levels: Optional[sour
 
 def _read_levels(collection: Collection, data: bytes, is_found: bool, waiting: lists.Lists) -> None:
     name = collection.names[collection.file]
-    text, coding = texts.text_of(data, collection.encoding or slc.encoding_of(data))
+    is_packed = bool(_form_of(data))
+    text, coding = (None, "") if is_packed else texts.text_of(
+        data, collection.encoding or slc.encoding_of(data))
     game = foreign.game_of(text) if text else ""
     lines = dress.lines_of(text) if text and not game else []
     is_slc = slc.is_slc(text or "")
     is_list = not is_slc and entries.is_list(lines)
-    if is_found and (game or not is_slc and not is_list and _is_idle(data, text, lines)):
+    if is_found and not is_packed and (
+            game or not is_slc and not is_list and _is_idle(data, text, lines)):
         collection.idle.setdefault(game, []).append(name)
         return
     if game:
         collection.fault(1, f"a file of {game}, which is not read")
         return
-    _report_coding(collection, text, coding)
     if text is None:
+        collection.fault(1, _why_no_text(collection, data))
         return
+    _report_coding(collection, coding)
     if is_list:
         waiting.add(collection.file, lines, name if is_found else "")
         return
@@ -177,18 +185,37 @@ def _is_idle(data: bytes, text: Optional[str], lines: List[str]) -> bool:
     if text is None:
         return not any(len(line) > 2 and levels.is_row(line)
                        for line in texts.lines(data.replace(b"\0", b"")))
-    if _DRAWN.search(text):
+    if any(map(_is_drawn, _DRAWN.findall(text))):
         return False
     tried = Collection(split=True)
     plain.read(tried, lines)
     return not tried.total and not tried.faults
 
 
-def _report_coding(collection: Collection, text: Optional[str], coding: str) -> None:
-    """Reports a file that is no text, or one in another encoding."""
-    if text is None:
-        collection.fault(1, f"not a text in {collection.encoding or 'UTF-8, UTF-16 or Latin-1'}")
-    elif coding:
+def _is_drawn(piece: str) -> bool:
+    """Returns whether there are more than walls and floor between the walls of a piece."""
+    inner = piece[1:piece.rindex("#")][:-1] if piece.count("#") > 1 else ""
+    return any(c in inner for c in "@$.*+")
+
+
+def _form_of(data: bytes) -> str:
+    """Returns what a file is that has to be unpacked first, or ""."""
+    return next((form for begin, form in _FORMS.items() if data.startswith(begin)), "")
+
+
+def _why_no_text(collection: Collection, data: bytes) -> str:
+    """Returns why a file is no text."""
+    if form := _form_of(data):
+        return f"{form}, which is not read: unpack it first"
+    at = data.find(b"\0")
+    if at >= 0 and not data[at:].strip(b"\0"):
+        return f"zero bytes at the end, from line {data.count(10, 0, at) + 1}"
+    return f"not a text in {collection.encoding or 'UTF-8, UTF-16 or Latin-1'}"
+
+
+def _report_coding(collection: Collection, coding: str) -> None:
+    """Reports a file in another encoding."""
+    if coding:
         collection.note(1, f"not UTF-8: read as {coding}; --encoding names another encoding")
 
 
@@ -196,9 +223,10 @@ def _read_solution(collection: Collection, data: bytes, before: Tuple[str, int],
                    waiting: lists.Lists) -> None:
     """Reads a file of letters alone, for the one level of the file before it, or a list."""
     text, coding = texts.text_of(data, collection.encoding)
-    _report_coding(collection, text, coding)
     if text is None:
+        collection.fault(1, _why_no_text(collection, data))
         return
+    _report_coding(collection, coding)
     lines = dress.lines_of(text)
     found = [at for at, line in enumerate(lines) if letters.are_alone(line)]
     is_alone = all(letters.are_alone(line) or not line.strip() or letters.heads(line)
