@@ -106,6 +106,11 @@ def of_crate(cases: Cases, name: str, is_built: bool) -> None:
         for below in crate.below():
             cases.holds(f"{below.name} is built", not below.build_rlib(["--jobs", "1"], anew=False))
     edits = [read_edit(folder, it) for it in sorted(glob.glob(f"{folder}/broken/*.edit"))]
+    # 'rt ci' gives back what was in out/ before, and leaves no stamp where nothing was
+    if any(os.path.exists(f"{it.folder}/out/rlib/stamp") and not it.is_built()
+           for it in crate.below()):
+        cases.skip(name, "libraries of other sources are in out/", 2 * len(edits))
+        return
     for edit in edits:
         cases.holds(f"{edit.name} can be applied", edit.functions)
     with tempfile.TemporaryDirectory(prefix="sokoaudit-broken-") as kept:
