@@ -59,9 +59,11 @@ def run(part: str) -> Ended:
     """Runs a part, unless it lacks a command. One that ends without numbers, or with another status
     than they say, failed."""
     needs = PARTS[part].split()
-    lacks = [it for it in needs if not shutil.which(it) or not hasattr(os, "fork")]
+    lacks = [f"there is no command {it}" for it in needs if not shutil.which(it)]
+    if needs and not hasattr(os, "fork"):
+        lacks = ["this system has no such shell"]
     if lacks:
-        return Ended(part, f"skipped: all: there is no command {lacks[0]}", [0, 0, 1], 0)
+        return Ended(part, f"skipped: all: {lacks[0]}", [0, 0, 1], 0)
     began = time.monotonic()
     ran = subprocess.run(command_of(part), cwd=TOP, stdin=subprocess.DEVNULL, check=False,
                          stdout=subprocess.PIPE, stderr=subprocess.STDOUT)
