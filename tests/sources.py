@@ -15,7 +15,7 @@ from tests.runner import TOP, Cases, arguments, enter_folder, read, run
 
 LINTERS = {
     "pyflakes3": ["pyflakes3"],
-    "pycodestyle": ["pycodestyle"],
+    "pycodestyle": ["pycodestyle", "--max-line-length=100"],
 }
 MYPY = ["mypy", "--cache-dir"]
 STRICT = "tools/", "reference/", "tests/"
