@@ -1,5 +1,5 @@
 //! The check of lawful patterns: whether the list covers the start and what each push out of its patterns leads to.
-ghost use Rattle.std.specs.Prelude.{◌≡◌, ◌≢◌, ◌<◌, ◌↔◌, ℕ, Bool, IsTrue, IfErr, IfSome, OnOk, Some, length, slice_index_or};
+ghost use Rattle.std.specs.Prelude.{◌≡◌, ◌≢◌, ◌<◌, ◌↔◌, ℕ, Bool, IsTrue, IfErr, OnOk, Some, length, slice_index_or};
 ghost use Rattle.board.specs.{Board.IsWellFormed, Game.start};
 ghost use Rattle.certificates.specs.Pattern.{IsCovered, AreLawful};
 ghost use Rattle.patterns.specs.{GroupPushes.AreNoted, Tables.AreTables, Trap.AreOff};
@@ -51,16 +51,13 @@ fn check_tables<S: CellSet>(alloc: Global, tables: &Tables<S>) -> Result<(), Che
     if are_all(&covered) {
         return Ok(());
     }
-    let tried = vec![in alloc; false; tables.groups.spans.len()]?;
     let lookups = Lookups::new(alloc, tables)?;
     let mut checker = Checker {
         lookups,
         settled: None,
-        tried,
-        pause: 0,
-        wait: 0,
     };
-    checker.check_pushes(alloc, tables, &mut covered)
+    checker.note_settled(alloc, tables, &mut covered)?;
+    checker.check_pushes(alloc, tables, &covered)
 }
 
 // Returns whether the list covers the start.
@@ -102,24 +99,68 @@ struct Checker {
     lookups: Lookups,
     // The group whose pushes were settled last.
     settled: Option<usize>,
-    // By group, whether it was tried as a head.
-    tried: Vec<bool>,
-    // How many groups pass between two tries, and how many of them are left.
-    pause: usize,
-    wait: usize,
 }
 
 impl Checker {
-    // Checks line by line what each push leads to, if the line's group isn't noted as covered. Notes the groups of which no push is left.
-    fn check_pushes<S: CellSet>(
+    // Notes the groups whose pushes the list covers, by rising number of boxes. A group that is noted settles all pushes from a piece of each
+    // group with its boxes, and such groups may come by the thousand before it in the list.
+    fn note_settled<S: CellSet>(
         &mut self,
         alloc: Global,
         tables: &Tables<S>,
         covered: &mut Vec<bool>,
+    ) -> Result<(), AllocError>
+        requires tables { AreTables tables.now }
+        requires covered { AreNoted tables.now.board.now tables.now.groups covered.old.items }
+        requires checker { IsChecker tables.now self.old }
+        ensures covered { OnOk result (AreNoted tables.now.board.now tables.now.groups covered.new.items) }
+        ensures checker { OnOk result (IsChecker tables.now self.new) }
+    {
+        let counts = tables.groups.by_count(alloc)?;
+        for count in 0..counts.first.len() {
+            let mut link = counts.first[count] as usize;
+            while link > 0 {
+                let group = link - 1;
+                self.note(alloc, tables, covered, group)?;
+                link = counts.next[group] as usize;
+            }
+        }
+        Ok(())
+    }
+
+    // Notes a group if the list covers its pushes.
+    fn note<S: CellSet>(
+        &mut self,
+        alloc: Global,
+        tables: &Tables<S>,
+        covered: &mut Vec<bool>,
+        group: usize,
+    ) -> Result<(), AllocError>
+        requires tables { AreTables tables.now }
+        requires covered { AreNoted tables.now.board.now tables.now.groups covered.old.items }
+        requires group { group < length tables.now.groups.spans.items }
+        requires checker { IsChecker tables.now self.old }
+        ensures covered { OnOk result (AreNoted tables.now.board.now tables.now.groups covered.new.items) }
+        ensures checker { OnOk result (IsChecker tables.now self.new) }
+    {
+        if covered[group] || tables.is_trapped(tables.groups.boxes(group)) {
+            return Ok(());
+        }
+        self.settle(alloc, tables, covered, group)?;
+        covered[group] = self.lookups.left.is_empty();
+        Ok(())
+    }
+
+    // Checks line by line what each push leads to, if the line's group isn't noted as covered.
+    fn check_pushes<S: CellSet>(
+        &mut self,
+        alloc: Global,
+        tables: &Tables<S>,
+        covered: &[bool],
     ) -> Result<(), CheckFault>
         requires tables { AreTables tables.now }
         requires start { IsCovered tables.now.board.now (list_of tables.now.groups) (start tables.now.board.now) }
-        requires covered { AreNoted tables.now.board.now tables.now.groups covered.old.items }
+        requires covered { AreNoted tables.now.board.now tables.now.groups covered.now }
         requires checker { IsChecker tables.now self.old }
         ensures ok { OnOk result (Closed tables.now.board.now (list_of tables.now.groups)) }
         ensures exact { IfErr result (λ fault. fault ≢ CheckFault.Memory
@@ -134,11 +175,6 @@ impl Checker {
                 continue;
             }
             self.settle(alloc, tables, covered, group)?;
-            if self.lookups.left.is_empty() {
-                covered[group] = true;
-                self.settle_head(alloc, tables, covered)?;
-                continue;
-            }
             if let Some(push) = self.lookups.first_left(tables, group, line) {
                 return Err(CheckFault::Push {
                     line: tables.groups.arena.lines[line].number,
@@ -147,41 +183,6 @@ impl Checker {
                 });
             }
         }
-        Ok(())
-    }
-
-    // Settles a head: the largest group whose boxes the group at hand has, unless it was tried. Once it is noted, it settles all pushes from a piece
-    // of each group with its boxes, and their lines may come by the thousand before its own. After each try in turn that fails, twice as many
-    // groups pass before the next one.
-    fn settle_head<S: CellSet>(
-        &mut self,
-        alloc: Global,
-        tables: &Tables<S>,
-        covered: &mut Vec<bool>,
-    ) -> Result<(), AllocError>
-        requires tables { AreTables tables.now }
-        requires covered { AreNoted tables.now.board.now tables.now.groups covered.old.items }
-        requires checker { IsChecker tables.now self.old }
-        ensures covered { OnOk result (AreNoted tables.now.board.now tables.now.groups covered.new.items) }
-        ensures checker { OnOk result (IsChecker tables.now self.new) }
-    {
-        if self.wait > 0 {
-            self.wait -= 1;
-            return Ok(());
-        }
-        let inside = &self.lookups.unsettled.inside;
-        let Some(head) = find_head(tables, inside, covered, &self.tried) else {
-            return Ok(());
-        };
-        self.tried[head] = true;
-        self.settle(alloc, tables, covered, head)?;
-        if self.lookups.left.is_empty() {
-            covered[head] = true;
-            self.pause = 0;
-            return Ok(());
-        }
-        self.pause = self.pause.saturating_mul(2).saturating_add(1);
-        self.wait = self.pause;
         Ok(())
     }
 
@@ -217,52 +218,4 @@ impl Checker {
         self.settled = Some(group);
         Ok(())
     }
-}
-
-// Returns the largest of these groups that is worth a try.
-fn find_head<S: CellSet>(
-    tables: &Tables<S>,
-    groups: &[usize],
-    covered: &[bool],
-    tried: &[bool],
-) -> Option<usize>
-    requires tables { AreTables tables.now }
-    requires covered { length covered.now ≡ length tables.now.groups.spans.items }
-    requires tried { length tried.now ≡ length tables.now.groups.spans.items }
-    ensures { IfSome result (λ g. (g < length tables.now.groups.spans.items) × AreOff tables.now.trap.members (boxes_of tables.now.groups g)) }
-{
-    let mut head = None;
-    let mut most = 0;
-    for group in groups {
-        if !is_untried(tables, *group, covered, tried) {
-            continue;
-        }
-        let count = tables.groups.boxes(*group).len();
-        if count > most {
-            most = count;
-            head = Some(*group);
-        }
-    }
-    head
-}
-
-// Returns true only if a group isn't noted as covered, wasn't tried, has no box on the trap, and its region has the root.
-fn is_untried<S: CellSet>(
-    tables: &Tables<S>,
-    group: usize,
-    covered: &[bool],
-    tried: &[bool],
-) -> bool
-    requires tables { AreTables tables.now }
-    requires covered { length covered.now ≡ length tables.now.groups.spans.items }
-    requires tried { length tried.now ≡ length tables.now.groups.spans.items }
-    ensures { IsTrue result → (group < length tables.now.groups.spans.items) × AreOff tables.now.trap.members (boxes_of tables.now.groups group) }
-{
-    if group >= tables.groups.spans.len() || covered[group] || tried[group] {
-        return false;
-    }
-    if tables.is_trapped(tables.groups.boxes(group)) {
-        return false;
-    }
-    tables.has_root(group)
 }

@@ -15,11 +15,12 @@
 //! 3. Lines with the same boxes become groups. The start is covered if all boxes of a group are there and its region has the player.
 //! 4. The trap and hints are asked about each push out of each group. If they settle all pushes, the list is closed. This is so for nearly
 //!    every list that a program writes.
-//! 5. Otherwise the lines are gone through up to the first fault. If the pushes of a line's group aren't settled yet, lookups settle them. If
-//!    one is left, the line gets a flood of its own, and the first push left by a player in it is the fault. If none is left, the largest group
-//!    whose boxes the line has is settled as well, since once it is noted it settles all pushes from a piece of others with its boxes.
+//! 5. Otherwise lookups settle the pushes of each other group, by rising number of boxes. If none is left, the group is noted as covered. Then
+//!    it settles all pushes from a piece of a group with its boxes, and those come after it.
+//! 6. At last the lines are gone through up to the first fault. If a line's group isn't noted, its pushes are settled again. The line gets a
+//!    flood of its own, and the first push left by a player in it is the fault.
 //!
-//! So a list takes at most 2n floods, and one for each piece that is entered. The head of `patterns` says how lookups settle pushes.
+//! So a list takes at most 2n floods, and two for each piece that is entered. The head of `patterns` says how lookups settle pushes.
 //!
 //! `Index` answers lookups alone (`index`), and `Scan` answers the same questions line by line (`coverage`, `scan`). Zones are `zone`'s.
 //! `fault` has the faults, and `laws` what follows from an answer.

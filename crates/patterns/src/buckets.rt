@@ -1,4 +1,4 @@
-//! Buckets: by cell, groups that have a box there. Each group is in the bucket of one of its boxes, the one that the fewest groups have.
+//! Buckets: by cell, groups that have a box there. Each group is in the bucket of one of its boxes, the smallest one when it came.
 ghost use Rattle.std.specs.Prelude.{◌≡◌, ◌*◌, ◌<◌, IfOk, length};
 ghost use Rattle.cellset.specs.{CellSet.Has, Cell.IsOn, SortedList.index, declared.cell.Cell.Cell as GridCell};
 ghost use Rattle.cell_lists.specs.CellLists.{cells_in};
@@ -20,7 +20,7 @@ pub struct Buckets {
     pub chains: Chains,
 }
 
-// Puts each group into the bucket of one of its boxes, the one that the fewest groups have.
+// Puts each group into the bucket of one of its boxes, the smallest one so far.
 #[tactic(auto, using(crate::proofs::Lists::length_more, crate::proofs::InBuckets::bucket_more))]
 pub(crate) fn fill_buckets<S: CellSet>(
     alloc: Global,
@@ -33,61 +33,31 @@ pub(crate) fn fill_buckets<S: CellSet>(
 {
     let shape = board.shape();
     let cells = usize::from(shape.width()) * usize::from(shape.height());
-    let counts = count_groups(alloc, board, groups)?;
+    let mut sizes = vec![in alloc; 0u32; cells]?;
     let mut keys = Vec::with_capacity(alloc, groups.spans.len())?;
     for group in 0..groups.spans.len() {
-        keys.push_reserved(to_u32(rarest_box(shape, &counts, groups.boxes(group)))?);
+        let key = smallest_bucket(shape, &sizes, groups.boxes(group));
+        sizes[key] = sizes[key].saturating_add(1);
+        keys.push_reserved(to_u32(key)?);
     }
     let chains = chain(alloc, &keys, cells)?;
     Ok(Buckets { keys, chains })
 }
 
-// Counts by index of a cell the groups with a box there.
-fn count_groups<S: CellSet>(
-    alloc: Global,
-    board: &Board<S>,
-    groups: &Groups,
-) -> Result<Vec<u32>, AllocError>
-    requires lawful { AreLawful board.now (list_of groups.now) }
-    requires groups { IsGrouped groups.now }
-    ensures { IfOk result (λ counts. length counts.items ≡ board.now.shape.width * board.now.shape.height) }
-{
-    let shape = board.shape();
-    let cells = usize::from(shape.width()) * usize::from(shape.height());
-    let mut counts = vec![in alloc; 0u32; cells]?;
-    for group in 0..groups.spans.len() {
-        count_boxes(shape, groups.boxes(group), &mut counts);
-    }
-    Ok(counts)
-}
-
-// Counts the boxes of a group.
+// Returns the index of the box whose bucket has the fewest groups.
 #[tactic(auto, using(cell_lists::proofs::CellLists::over_cells))]
-fn count_boxes(shape: Shape, boxes: &[Cell], counts: &mut Vec<u32>)
-    requires on { (c : GridCell) → Has (cells_in boxes.now) c → IsOn shape c }
-    requires counts { length counts.old.items ≡ shape.width * shape.height }
-    ensures { length counts.new.items ≡ length counts.old.items }
-{
-    for cell in boxes {
-        let at = shape.index_of(*cell);
-        counts[at] = counts[at].saturating_add(1);
-    }
-}
-
-// Returns the index of the box with the lowest count.
-#[tactic(auto, using(cell_lists::proofs::CellLists::over_cells))]
-fn rarest_box(shape: Shape, counts: &[u32], boxes: &[Cell]) -> usize
+fn smallest_bucket(shape: Shape, sizes: &[u32], boxes: &[Cell]) -> usize
     requires some { 0 < length boxes.now }
     requires on { (c : GridCell) → Has (cells_in boxes.now) c → IsOn shape c }
-    requires counts { length counts.now ≡ shape.width * shape.height }
+    requires sizes { length sizes.now ≡ shape.width * shape.height }
     ensures { (c : GridCell) × Has (cells_in boxes.now) c × (result ≡ index shape c) }
 {
-    let mut rarest = shape.index_of(boxes[0]);
+    let mut smallest = shape.index_of(boxes[0]);
     for cell in boxes {
         let at = shape.index_of(*cell);
-        if counts[at] < counts[rarest] {
-            rarest = at;
+        if sizes[at] < sizes[smallest] {
+            smallest = at;
         }
     }
-    rarest
+    smallest
 }

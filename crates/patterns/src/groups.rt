@@ -1,5 +1,6 @@
 //! Groups: lines with equal boxes.
-ghost use Rattle.std.specs.Prelude.{◌≡◌, ◌<◌, ◌⊎◌, ◌++◌, ◌∷◌, [], IfOk, IfSome, IsTrue, length};
+ghost use Rattle.std.specs.Prelude.{◌≡◌, ◌<◌, ◌⊎◌, ◌++◌, ◌∷◌, [], ℕ, IfOk, IfSome, IsTrue, List, length};
+ghost use Rattle.patterns.specs.Chains.{AreChains};
 ghost use Rattle.patterns.specs.{Spans.AreSpans, Spans.IsWithin, Spans.part as part_of, Spans.span_at, Groups.IsGrouped, Groups.boxes_of};
 
 use crate::arena::{Arena, Span, part, to_u32};
@@ -109,5 +110,21 @@ impl Groups {
         ensures { result.now ≡ boxes_of self.now group }
     {
         part(&self.arena.boxes, self.spans[group])
+    }
+
+    /// Chains the groups by their number of boxes.
+    pub fn by_count(&self, alloc: Global) -> Result<Chains, AllocError>
+        requires { IsGrouped self.now }
+        ensures { IfOk result (λ c. (counts : List ℕ) × (length counts ≡ length self.now.spans.items)
+            × AreChains counts (length c.first.items) c.first.items c.next.items) }
+    {
+        let mut counts = Vec::with_capacity(alloc, self.spans.len())?;
+        let mut most = 0;
+        for group in 0..self.spans.len() {
+            let count = to_u32(self.boxes(group).len())?;
+            most = std::cmp::max(most, count);
+            counts.push_reserved(count);
+        }
+        chain(alloc, &counts, most as usize + 1)
     }
 }

@@ -19,7 +19,7 @@
 //!   when all groups were asked isn't covered.
 //! - **The order in which groups are asked** (`search`, `buckets`): first those that hints name; then, piece by piece, the covered group that
 //!   settled the last piece, the groups found so far whose boxes are all there, and the groups in the buckets of the cells ahead and of the
-//!   boxes, until nothing is open in the piece. Each group is in the bucket of one of its boxes, the one that the fewest groups have.
+//!   boxes, until nothing is open in the piece. Each group is in the bucket of one of its boxes, the smallest one when it came.
 //! - **States** (`lookups`): a group that covers a state is in the bucket of one of the state's boxes.
 //! - **Where a player is** (`place`, `tree`): a region has the player if it is whole. Otherwise the first box of the group on the player's
 //!   path to the root of a spanning tree decides, by the side on which the path meets it. The tree is grown when it is first needed.

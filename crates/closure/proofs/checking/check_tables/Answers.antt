@@ -21,15 +21,21 @@ returns-then-are_all-clause-ok g c = record {
       (rw c.deref.ensures.value at (c.if-are_all.ensures refl));
 }
 
-pub check_pushes-requires : goal.check_pushes-requires
-check_pushes-requires g c = record {
+pub note_settled-requires : goal.note_settled-requires
+note_settled-requires g c = record {
   tables = c.requires;
-  start = c.if-not-is_start_covered.ensures.0 refl;
   covered = c.note_hinted.ensures;
   checker = record {
     are = c.in_ok-lookups.ensures;
     free = λ h is. absurd (none-some h is);
     rest = λ h is. absurd (none-some h is);
-    tried = ap (λ l. length l) (c.in_ok-tried.ensures.items_if_clones_equal (λ _ e. e)) ∙ length-replicate _ _ ∙ c.len-2.ensures ∙ c.args.tables.now.groups.spans.ok.0;
   };
+}
+
+pub check_pushes-requires : goal.check_pushes-requires
+check_pushes-requires g c = record {
+  tables = c.requires;
+  start = c.if-not-is_start_covered.ensures.0 refl;
+  covered = rw c.deref-2.ensures.value c.in_ok-note_settled.ensures.covered;
+  checker = c.in_ok-note_settled.ensures.checker;
 }

@@ -1,9 +1,8 @@
 -- A group whose boxes are all there at the start covers it exactly if its region has the root, which is the player's cell.
 use Rattle.std.proofs.{Common.◌<◌, Common.length, Common.refl, Common.arith, lemmas.Bool.false≢true}
 use Rattle.board.specs.Game.{start}
-use Rattle.cellset.{proofs.Members.not_both}
 use Rattle.patterns.{specs.Groups.list_of}
-use Rattle.patterns.proofs.{Grouped.boxes_on, Grouped.covered_of_group, InBuckets.no_group_covers, Numbered.one_more, Traps.start_trapped}
+use Rattle.patterns.proofs.{Grouped.boxes_on, Grouped.covered_of_group, InBuckets.no_group_covers, Traps.start_trapped}
 use Rattle.closure.proofs.checking.is_start_covered.Goals.{After-boxes-boxes}
 use Rattle.closure.proofs.checking.is_start_covered.Goals as goal
 

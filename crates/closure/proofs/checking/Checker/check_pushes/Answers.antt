@@ -1,17 +1,17 @@
 -- The invariant says that the list covers the pushes out of each line so far. If it covers those out of a group, because its note says so, or a
--- box is on the trap, or no push is left, it covers those out of its lines (`pattern_of_group` in `GroupPushes.antt`). For any other line
+-- box is on the trap, it covers those out of its lines (`pattern_of_group` in `GroupPushes.antt`). For any other line
 -- `first_left` decides. If it returns a push, that is the line's first one whose result isn't covered, and the lines before it are fine, so it is
 -- the first fault of the list (`FirstLines.antt`).
-use Rattle.std.proofs.Common.{◌≡◌, ℕ, true, false, ◌+◌, ◌<◌, length, refl, sym, ◌∙◌, ap, arith}
+use Rattle.std.proofs.Common.{◌≡◌, ℕ, ◌+◌, ◌<◌, length, refl, sym, ◌∙◌, ap, arith}
 use Rattle.std.{specs.Prelude.slice_index, proofs.lemmas.List.get_or-map, proofs.lemmas.List.length-map}
 use Rattle.std.proofs.lemmas.List.{get_or_default}
 use Rattle.answers.specs.Body.{PatternLine}
 use Rattle.certificates.specs.Pattern.{CoversPushesOf, Pattern}
 use Rattle.patterns.specs.{Arena.line_at, Arena.line_in, Arena.lines_in, Arena.pattern_at, Groups.list_of, Groups.position_at}
 use Rattle.closure.specs.FirstFault.{HasFirstUncovered}
-use Rattle.patterns.proofs.{Arenas.list_long, GroupPushes.noted_more, GroupPushes.pattern_of_group, GroupPushes.trapped_pushes}
+use Rattle.patterns.proofs.{Arenas.list_long, GroupPushes.pattern_of_group, GroupPushes.trapped_pushes}
 use Rattle.patterns.proofs.Numbered.{each_pattern, one_more}
-use Rattle.closure.proofs.{FirstLines.first_line, Rests.none_rest}
+use Rattle.closure.proofs.{FirstLines.first_line}
 use Rattle.closure.proofs.checking.Checker.check_pushes.Goals.{After-index}
 use Rattle.closure.proofs.checking.Checker.check_pushes.Goals as goal
 
@@ -41,24 +41,16 @@ boxes-requires-clause-group g c = is_group g (goal.at.boxes-requires-clause-grou
 pub settle-requires-clause-group : goal.settle-requires-clause-group
 settle-requires-clause-group g c = is_group g (goal.at.settle-requires-clause-group g c).After-index
 
-pub index_mut-requires : goal.index_mut-requires
-index_mut-requires g c =
-    let low = is_group g (goal.at.index_mut-requires g c).After-index in
-    let long = c.loop-line.invariant.noted.long in
-    omega arith
-
 -- ---- each way on
-pub loop-line-preserved-then-index : goal.loop-line-preserved-then-index
-loop-line-preserved-then-index g c =
-    let at = (goal.at.loop-line-preserved-then-index g c).After-index in
-    let inv = c.loop-line.invariant in
-    let group = c.index.result.now in
-    let notes = c.loop-line.covered.items in
+pub loop-line-preserved-then-covered-group : goal.loop-line-preserved-then-covered-group
+loop-line-preserved-then-covered-group g c =
+    let at = (goal.at.loop-line-preserved-then-covered-group g c).After-index in
     let within = is_group g at in
-    let long = inv.noted.long in
-    let low : group < length notes = omega arith in
-    let noted = sym (get_or_default notes group c.index-in-loop-line.result.now false low) ∙ (sym c.index-in-loop-line.ensures ∙ c.if-index.true) in
-    record { checker = inv.checker; noted = inv.noted; covered = one_line g at (inv.noted.covers group low noted) }
+    let long = c.requires.covered.long in
+    record {
+      checker = c.loop-line.invariant.checker;
+      covered = one_line g at (c.requires.covered.covers c.index.result.now (omega arith) c.if-covered-group.true);
+    }
 
 pub loop-line-preserved-then-is_trapped : goal.loop-line-preserved-then-is_trapped
 loop-line-preserved-then-is_trapped g c =
@@ -66,25 +58,7 @@ loop-line-preserved-then-is_trapped g c =
     let on = c.if-is_trapped.ensures in
     record {
       checker = c.loop-line.invariant.checker;
-      noted = c.loop-line.invariant.noted;
       covered = one_line g at (trapped_pushes c.args.tables.now c.requires.tables c.index.result.now (is_group g at) on.0 (rw c.boxes.ensures at on.1) on.2);
-    }
-
-pub settle_head-requires-clause-covered : goal.settle_head-requires-clause-covered
-settle_head-requires-clause-covered g c =
-    let at = (goal.at.settle_head-requires-clause-covered g c).After-index in
-    let settled = c.in_ok-settle.ensures in
-    noted_more c.args.tables.now.board.now c.args.tables.now.groups c.loop-line.covered.items c.loop-line.invariant.noted c.index.result.now true
-    (is_group g at) (λ _. none_rest c.args.tables.now c.settle.new.self settled.checker c.index.result.now settled.settled c.if-is_empty.ensures)
-
-pub loop-line-preserved-then-is_empty : goal.loop-line-preserved-then-is_empty
-loop-line-preserved-then-is_empty g c =
-    let settled = c.in_ok-settle.ensures in
-    record {
-      checker = c.in_ok-settle_head.ensures.checker;
-      noted = c.in_ok-settle_head.ensures.covered;
-      covered = one_line g (goal.at.loop-line-preserved-then-is_empty g c).After-index
-          (none_rest c.args.tables.now c.settle.new.self settled.checker c.index.result.now settled.settled c.if-is_empty.ensures);
     }
 
 pub loop-line-preserved : goal.loop-line-preserved
@@ -93,8 +67,7 @@ loop-line-preserved g c =
     let checker = c.in_ok-settle.ensures.checker in
     let tried = c.in_default.ensures in
     record {
-      checker = record { are = tried.are; free = λ h is. rw tried.free (checker.free h is); rest = λ h is. rw tried.left (checker.rest h is); tried = checker.tried };
-      noted = c.loop-line.invariant.noted;
+      checker = record { are = tried.are; free = λ h is. rw tried.free (checker.free h is); rest = λ h is. rw tried.left (checker.rest h is) };
       covered = one_more (λ (j : ℕ). CoversPushesOf c.args.tables.now.board.now patterns (pattern_at patterns j)) c.loop-line.line
           c.loop-line.invariant.covered tried.exact;
     }

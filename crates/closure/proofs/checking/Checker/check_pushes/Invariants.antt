@@ -1,6 +1,6 @@
 use Rattle.std.proofs.Common.{ℕ, ◌<◌}
 use Rattle.certificates.specs.Pattern.{CoversPushesOf}
-use Rattle.patterns.specs.{Arena.pattern_at, GroupPushes.AreNoted, Groups.list_of}
+use Rattle.patterns.specs.{Arena.pattern_at, Groups.list_of}
 use Rattle.closure.specs.Checking.{IsChecker}
 use Rattle.closure.proofs.checking.Checker.check_pushes.Given as goal
 
@@ -10,6 +10,5 @@ invariant-loop-line g l =
     let patterns = list_of l.tables.groups in
     record {
       checker : IsChecker l.tables l.self;
-      noted : AreNoted level l.tables.groups l.covered.items;
       covered : (j : ℕ) → j < l.line → CoversPushesOf level patterns (pattern_at patterns j);
     }

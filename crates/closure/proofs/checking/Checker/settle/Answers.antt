@@ -20,5 +20,4 @@ returns-clause-checker g c =
       are = settled.are;
       free = λ h is. rw (← (same_Some c.args.group h is)) (rw c.boxes-boxes.ensures at settled.free);
       rest = λ h is. rw (← (same_Some c.args.group h is)) settled.rest;
-      tried = c.requires.checker.tried;
     }
