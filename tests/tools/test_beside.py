@@ -264,7 +264,7 @@ class Older(Check):
         typed = self.read("mine.xsb").decode().replace("\nA\n", "\nGr\u00f6\u00dfe\n")
         for codec in ("utf-16-le", "utf-16-be"):
             self.write("mine.xsb", ("\ufeff" + typed).encode(codec))
-            self.assertLess(self.check("mine", "a.txt").status, 2)
+            self.assertIn(self.check("mine", "a.txt").status, (0, 1))
             self.assertEqual(self.read("mine.xsb").decode(), typed)
 
     def test_letters_in_the_wrong_case(self) -> None:
