@@ -16,7 +16,7 @@ use std::alloc::{AllocError, Global};
 // Fills an empty worklist with the cells of a set.
 pub fn list_all<S: CellSet>(cells: &S, work: &mut Vec<Cell>)
     requires empty { work.old.items ≡ [] }
-    requires room { set.len (S.members cells.now) ≤ vec_capacity work.old }
+    requires space { set.len (S.members cells.now) ≤ vec_capacity work.old }
     ensures members { AreMembersOf (S.extent cells.now) (S.members cells.now) work.new.items }
     ensures count { length work.new.items ≡ set.len (S.members cells.now) }
     ensures capacity { vec_capacity work.new ≡ vec_capacity work.old }

@@ -61,7 +61,7 @@ fn is_held<S: CellSet>(board: &Board<S>, dead: &Rows, frozen: &S, cell: Cell) ->
 // Queues the neighbour in a direction if it is a box of the set.
 fn wait_toward<S: CellSet>(frozen: &S, work: &mut Vec<Cell>, cell: Cell, dir: Dir)
     requires on { IsOn (S.extent frozen.now) cell }
-    requires room { length work.old.items < vec_capacity work.old }
+    requires space { length work.old.items < vec_capacity work.old }
     ensures waiting { (q : GridCell) → Contains work.old.items q → Contains work.new.items q }
     ensures listed { (q : GridCell) → Contains work.new.items q → Contains work.old.items q ⊎ Has (S.members frozen.now) q }
     ensures here { Has (S.members frozen.now) (neighbor cell dir) → Contains work.new.items (neighbor cell dir) }
@@ -78,7 +78,7 @@ fn wait_toward<S: CellSet>(frozen: &S, work: &mut Vec<Cell>, cell: Cell, dir: Di
 // Queues each neighbour that is a box of the set.
 fn wait_around<S: CellSet>(frozen: &S, work: &mut Vec<Cell>, cell: Cell)
     requires on { IsOn (S.extent frozen.now) cell }
-    requires room { length work.old.items + 4 ≤ vec_capacity work.old }
+    requires space { length work.old.items + 4 ≤ vec_capacity work.old }
     ensures waiting { (q : GridCell) → Contains work.old.items q → Contains work.new.items q }
     ensures listed { (q : GridCell) → Contains work.new.items q → Contains work.old.items q ⊎ Has (S.members frozen.now) q }
     ensures around { (d : GridDir) → Has (S.members frozen.now) (neighbor cell d) → Contains work.new.items (neighbor cell d) }
@@ -101,7 +101,7 @@ fn review<S: CellSet>(
 )
     requires frozen { S.extent frozen.old ≡ board.now.shape }
     requires on { IsOn board.now.shape cell }
-    requires room { work_left (S.members frozen.old) work.old.items ≤ vec_capacity work.old }
+    requires space { work_left (S.members frozen.old) work.old.items ≤ vec_capacity work.old }
     ensures extent { S.extent frozen.new ≡ board.now.shape }
     ensures reviewed { IsReviewed board.now dead.now.members cell (S.members frozen.old) work.old.items (S.members frozen.new) work.new.items }
     ensures listed { (q : GridCell) → Contains work.new.items q → Contains work.old.items q ⊎ Has (S.members frozen.old) q }
@@ -120,7 +120,7 @@ fn review<S: CellSet>(
 fn thaw<S: CellSet>(board: &Board<S>, dead: &Rows, frozen: &mut S, work: &mut Vec<Cell>)
     requires formed { IsWellFormed board.now }
     requires frozen { S.extent frozen.old ≡ board.now.shape }
-    requires room { work_left (S.members frozen.old) work.old.items ≤ vec_capacity work.old }
+    requires space { work_left (S.members frozen.old) work.old.items ≤ vec_capacity work.old }
     requires boxes { (q : GridCell) → Has (S.members frozen.old) q ↔ Has board.now.boxes q }
     requires waiting { (q : GridCell) → Has (S.members frozen.old) q → Contains work.old.items q }
     requires listed { (q : GridCell) → Contains work.old.items q → Has (S.members frozen.old) q }

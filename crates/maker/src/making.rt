@@ -158,14 +158,14 @@ fn list_off_goals<S: CellSet>(
     Ok(Some(patterns))
 }
 
-// Returns a pattern of one box for each cell. The list has capacity for `room` patterns.
-fn lone_patterns(alloc: Global, cells: &[Coord], room: usize) -> Result<Vec<Pattern>, AllocError>
-    requires { length cells.now ≤ room }
+// Returns a pattern of one box for each cell. The list has capacity for `space` patterns.
+fn lone_patterns(alloc: Global, cells: &[Coord], space: usize) -> Result<Vec<Pattern>, AllocError>
+    requires { length cells.now ≤ space }
     ensures list { IfOk result (λ patterns. map said_pattern patterns.items ≡ lone_patterns cells.now) }
     ensures count { IfOk result (λ patterns. length patterns.items ≡ length cells.now) }
-    ensures capacity { IfOk result (λ patterns. vec_capacity patterns ≡ room) }
+    ensures capacity { IfOk result (λ patterns. vec_capacity patterns ≡ space) }
 {
-    let mut patterns = Vec::with_capacity(alloc, room)?;
+    let mut patterns = Vec::with_capacity(alloc, space)?;
     for cell in cells {
         patterns.push_reserved(lone_pattern(alloc, *cell));
     }

@@ -1,5 +1,5 @@
 -- The invariant says that the worklist has exactly the members seen so far, and keeps its capacity. The members are in reading order, so
--- the next member isn't in the list yet, and the set has more members than the list has cells (`Listing.antt`). So there is room for the
+-- the next member isn't in the list yet, and the set has more members than the list has cells (`Listing.antt`). So there is space for the
 -- next member. At the end every member has been seen (`MemberLists.antt` of `cellset`).
 use Rattle.std.proofs.Common.{List, ◌∷◌, [], ◌++◌, length, sym, ◌∙◌, ap, subst, arith}
 use Rattle.std.proofs.Math.ListN.{length-append}
@@ -17,7 +17,7 @@ push_reserved-requires g c =
     let longer = length-append l.yielded (c.in-Some.cell ∷ c.next.new.self) in
     let same = ap length l.invariant.items in
     let kept = l.invariant.capacity in
-    let room = c.requires.room in
+    let space = c.requires.space in
     omega arith
 
 pub loop-cell-preserved : goal.loop-cell-preserved

@@ -8,10 +8,10 @@ use Rattle.maker.proofs.freezing.review.Goals as goal
 pub returns-then-not-contains-clause-reviewed : goal.returns-then-not-contains-clause-reviewed
 returns-then-not-contains-clause-reviewed g c = grind (arith, not_both)
 
-pub wait_around-requires-clause-room : goal.wait_around-requires-clause-room
-wait_around-requires-clause-room g c =
+pub wait_around-requires-clause-space : goal.wait_around-requires-clause-space
+wait_around-requires-clause-space g c =
     let one = len-remove_member (g.S.CellSet.members c.args.frozen.now) c.args.cell (sym c.if-not-contains.ensures) in
-    let room = c.requires.room in
+    let space = c.requires.space in
     omega arith
 
 pub returns-then-not-is_held-clause-reviewed : goal.returns-then-not-is_held-clause-reviewed

@@ -1,6 +1,6 @@
 -- The invariant is `IsThawing` of `Thawing.antt`: every frozen set lies within the set, and the worklist has the boxes of the set that may
 -- be loose. Each turn takes one box from it. Either the box leaves the set and at most four others are queued, or it stays and none is. So
--- four times the size of the set, plus the length of the list, falls: this bounds the room and the number of turns. With an empty worklist
+-- four times the size of the set, plus the length of the list, falls: this bounds the capacity and the number of turns. With an empty worklist
 -- every box is held, and the set is the largest frozen one.
 use Rattle.std.proofs.Common.{◌≡◌, ℕ, ◌+◌, ◌*◌, length, List, [], ◌∷◌, ◌++◌, sym, ◌∙◌, subst, arith}
 use Rattle.std.specs.FinSet as set
@@ -19,7 +19,7 @@ loop-cell-init g c =
     c.requires.boxes c.requires.waiting in
     record {
       extent = c.requires.frozen;
-      room = c.requires.room;
+      space = c.requires.space;
       listed = λ q h. (c.requires.formed.boxes q (start.boxes q (c.requires.listed q h))).0;
       thawing = start;
     }
@@ -41,13 +41,13 @@ loop-cell-preserved g c =
     let dead = c.args.dead.now.members in
     let cell = c.in-Some.cell in
     let before = rw c.in-Some.ensures.items at l.invariant.thawing in
-    let room = c.loop-cell.invariant.room in
+    let space = c.loop-cell.invariant.space in
     let weight = 4 * set.len (g.S.CellSet.members c.loop-cell.frozen) in
     let all = taken weight c.pop.new.self.items c.loop-cell.work.items c.in-Some.cell c.in-Some.ensures.items in
     let less = c.review.ensures.reviewed.less in
     record {
       extent = c.review.ensures.extent;
-      room = rw (c.review.ensures.capacity, c.pop.ensures.capacity) (omega arith);
+      space = rw (c.review.ensures.capacity, c.pop.ensures.capacity) (omega arith);
       listed = λ q h. either (c.review.ensures.listed q h)
           (λ old.
           let was = rw (← c.in-Some.ensures.items) at (Contains-append_left c.pop.new.self.items (cell ∷ []) q old) in

@@ -11,7 +11,7 @@ invariant-loop-cell g l =
     let members = g.S.CellSet.members in
     record {
       extent : g.S.CellSet.extent l.frozen ≡ l.board.shape;
-      room : work_left (members l.frozen) l.work.items ≤ vec_capacity l.work;
+      space : work_left (members l.frozen) l.work.items ≤ vec_capacity l.work;
       listed : (q : Cell) → Contains l.work.items q → IsOn l.board.shape q;
       thawing : IsThawing l.board l.dead.members (members l.frozen) l.work.items;
     }

@@ -8,5 +8,5 @@ abbrev pub invariant-loop-cell : goal.invariant-loop-cell
 invariant-loop-cell l = record {
   list : map said_pattern l.patterns.items ≡ lone_patterns (take l.cell-index l.cells);
   count : length l.patterns.items ≡ l.cell-index;
-  capacity : vec_capacity l.patterns ≡ l.room;
+  capacity : vec_capacity l.patterns ≡ l.space;
 }
