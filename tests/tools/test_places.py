@@ -108,8 +108,9 @@ class Sources(test_check.Check):
             left = [it["left"] for it in self.sources(*words).values()]
             self.assertEqual(left, [[], []], words)
             said = self.check("mine", *words).out.decode()
-            for name in ("a.zip", "c.txt"):
-                self.assertIn(f"problem: {name} line 1: no level in this file\n", said)
+            for why in ("c.txt line 1: no level in this file",
+                        "a.zip line 1: a damaged zip archive"):
+                self.assertIn(f"problem: {why}", said)
 
 
 class Shown(viewing.Page, test_check.Check):
