@@ -58,7 +58,8 @@ class Disk:
         if number in self.bytes or not is_begun:
             return self.bytes.get(number, b"")
         handle = next(it for it in self.handles if os.fstat(it).st_ino == number)
-        return os.pread(handle, os.fstat(handle).st_size // 2, 0)
+        os.lseek(handle, 0, os.SEEK_SET)
+        return os.read(handle, os.fstat(handle).st_size // 2)
 
     def mix(self) -> None:
         """Notes what a power cut would leave of changes in another order."""

@@ -7,7 +7,7 @@ import unittest
 from typing import Dict, Set
 
 from sokotool import main
-from tests.tools.helping import TOP
+from tests.tools.helping import TOP, not_on_windows
 
 FOLDER = os.path.join(TOP, "tools", "sokotool")
 SEARCHING = {"find"}
@@ -31,6 +31,7 @@ def modules() -> Dict[str, str]:
             path = os.path.join(folder, name)
             if name.endswith(".py"):
                 inner = os.path.relpath(path, os.path.dirname(FOLDER))[:-3].replace(os.sep, ".")
+                inner = inner.replace("/", ".")  # a system that only has another os.sep
                 found[inner.replace(".__init__", "")] = path
     return found
 
@@ -61,6 +62,7 @@ class Imports(unittest.TestCase):
             self.assertTrue(leaves, f"a cycle in {sorted(left)}")
             left = {name: used for name, used in left.items() if name not in leaves}
 
+    @not_on_windows
     def test_search_is_loaded_to_search(self) -> None:
         said = subprocess.run([sys.executable, "-B", "-c", LOADED, *sorted(main.COMMANDS)],
                               stdout=subprocess.PIPE, check=True, cwd=os.path.dirname(FOLDER))
