@@ -41,18 +41,22 @@ class Ended(NamedTuple):
 
 
 def command_of(part: str) -> List[str]:
-    """The command of a part. Where there is a shell, it gets the variables that any machine has,
-    and those that stand for another system (tests/lacking)."""
+    """The command of a part. Where there is a shell, it gets the variables that any machine has."""
     name, *words = part.split()
-    lacking = {it: os.environ[it] for it in ("LACKING", "LACKING_TESTS") if it in os.environ}
-    paths = ["tools", "reference", "include", *(["tests/lacking"] if lacking else [])]
-    given = {**lacking, "PYTHONPATH": os.pathsep.join(os.path.join(TOP, it) for it in paths),
-             "SOKOAUDIT_QUIET": "1", "RT_JOBS": "1"}
-    os.environ.update(given)
-    bare = [f"{TOP}/tests/bare", "env", *(f"{name}={it}" for name, it in given.items())]
+    bare = [f"{TOP}/tests/bare", "env", *(f"{name}={it}" for name, it in given_to(part).items())]
     words = [os.path.join(TOP, it) if os.path.exists(os.path.join(TOP, it)) else it for it in words]
     return [*(bare if hasattr(os, "fork") else []), sys.executable, "-B", "-m", f"tests.{name}",
             *words]
+
+
+def given_to(part: str) -> Dict[str, str]:
+    """The variables that a part gets beside those of any machine: what stands for another system
+    (tests/lacking), and where the script stands for the program, no note of the reference."""
+    given = {it: os.environ[it] for it in ("LACKING", "LACKING_TESTS") if it in os.environ}
+    paths = ["tools", "reference", "include", *(["tests/lacking"] if given else [])]
+    quiet = {"SOKOAUDIT_QUIET": "1"} if "sokoaudit" in part.split() else {}
+    return {**given, **quiet, "RT_JOBS": "1",
+            "PYTHONPATH": os.pathsep.join(os.path.join(TOP, it) for it in paths)}
 
 
 def run(part: str) -> Ended:
@@ -66,7 +70,8 @@ def run(part: str) -> Ended:
         return Ended(part, f"skipped: all: {lacks[0]}", [0, 0, 1], 0)
     began = time.monotonic()
     ran = subprocess.run(command_of(part), cwd=TOP, stdin=subprocess.DEVNULL, check=False,
-                         stdout=subprocess.PIPE, stderr=subprocess.STDOUT)
+                         stdout=subprocess.PIPE, stderr=subprocess.STDOUT,
+                         env={**os.environ, **given_to(part)})
     said = ran.stdout.decode(errors="replace")
     last = NUMBERS.fullmatch((said.splitlines() or [""])[-1])
     numbers = [int(it or 0) for it in last.groups()] if last else [0, 1, 0]

@@ -76,7 +76,7 @@ def imports(cases: Cases, name: str, tree: ast.AST) -> Iterator[str]:
                         importlib.import_module(f"{module.__name__}.{it.name}")
         except ImportError as error:
             yield f"line {getattr(node, 'lineno', 0)}: {error}"
-        except OSError:  # include/sokoaudit.py needs the library for C
+        except (OSError, AttributeError):  # include/sokoaudit.py needs the library for C
             cases.skip(f"what {name} imports", "there is no library for C here")
 
 
