@@ -332,11 +332,6 @@ def both(check: Comparison, tab: Tab) -> None:
 
 # what the page reads in exports of which sokotool only reports that they can't be read
 READ: Dict[str, Tuple[List[str], Dict[int, str]]] = {
-    "SLC rows in no L": ([ALPHA], {}), "dressed, a title in the line": ([ALPHA], {}),
-    "dressed, letters in the line": ([ALPHA], {1: "rRR"}), "above the level": ([ALPHA], {1: "rRR"}),
-    "other letters": ([ALPHA], {1: "rRR"}), "arrows": ([ALPHA], {1: "rRR"}),
-    "two that differ": ([ALPHA], {1: "rRR"}), "rows a line apart": ([ALPHA], {}),
-    "number between": ([ALPHA, BETA], {}), "UTF-32": ([ALPHA, BETA], {1: "rRR"}),
-    "blocks": ([ALPHA, "#####\n#@$.#\n#####"], {})}
+    "number between": ([ALPHA, BETA], {}), "UTF-32": ([ALPHA, BETA], {1: "rRR"})}
 UNPAINTED = (forms, beside, kept, remarks, alphabets, archives, untried, titles, both,
              *map(exports, GROUPS))

@@ -77,16 +77,16 @@ def _solutions() -> None:
     right("an author of letters", f"{A}Author: R. Dull\n{B}Author: L. Rudd\n", (ALPHA, BETA))
     right("a solved snapshot", f"{A}Snapshot\nrRR\n", s1="rRR")
     right("words on solutions", f"{A}No solution known\n\n{B}The solution is hard\n", (ALPHA, BETA))
-    reported("two that differ", f"{A}Solution: rRR\nSolution: rlrRR\n")
+    right("two that differ", f"{A}Solution: rlrRR\nSolution: rRR\n", s1="rRR")
     reported("the end is missing", f"{A}Solution: rR\n")
     reported("a wall", f"{A}Solution: rdR\n")
     reported("of another level", f"{C}Solution: rRR\n")
     reported("no letters", f"{A}Solution:\n\n{B}")
-    reported("other letters", f"{A}Solution: EEE\n")
+    right("other letters", f"{A}Solution: EEE\n", s1="rRR")
     right("arrows", f"{A}Solution: \u2192\u2192\u2192\n", s1="rRR")
     reported("long letters that don't play", f"{A}rrrrrrrrrrrr\n")
     reported("long letters among words", f"{A}Moves so far: rrrrrrrrrrrr\n")
-    reported("above the level", f"Solution: rRR\n{A}")
+    right("above the level", f"Solution: rRR\n{A}", s1="rRR")
     reported("a second one that fails", f"{A}Solution: rRR\nSolution: rrrr\n")
 
 
@@ -130,7 +130,7 @@ def _boards() -> None:
     reported("table", "| # | # | # |\n|---|---|---|\n| # | @ | # |\n| # | # | # |\n")
     reported("table below", f"{A}\n| # | # | # |\n| # | @ | # |\n| # | # | # |\n")
     reported("banner", f"##########\nMy levels\n##########\n\n{A}")
-    reported("rule below", f"{A}\n##########\n\n{B}")
+    right("rule below", f"{A}\n##########\n\n{B}", (ALPHA, BETA))
     reported("torn", A.replace("\n#@", "\n\n#@"))
     reported("torn at the end", A.replace(".#\n", ".#\n\n"))
     reported("a tab within", A.replace("@ ", "@\t"))
@@ -140,13 +140,13 @@ def _boards() -> None:
     reported("numbered rows", "1 #######\n2 #@ $ .#\n3 #######\n")
     reported("other walls", f"{A}\nXXXXX\nX@$.X\nXXXXX\n")
     wall = "\u2588"
-    reported("blocks", f"{A}\n{wall * 5}\n{wall}@$.{wall}\n{wall * 5}\n")
+    right("blocks", f"{A}\n{wall * 6}\n{wall}@ $.{wall}\n{wall * 6}\n", (ALPHA, BETA))
     reported("two players", A.replace("$", "@"))
     reported("a word after a maze", "Maze: 1\n\nXXXXX\nX@*.X\nXXXXX\n\nX\n")
     reported("other game", f"{A}Type: Hexoban\n")
     reported("other game for all", f"Type: Hexoban\n\n{A}\n{B}")
     reported("other game beside", f"{A}\n{B}Title: Two\nType: Trioban\nSolution: rR\n\n{C}")
-    reported("rows a line apart", A.replace("\n", "\n\n"))
+    right("rows a line apart", A.replace("\n", "\n\n"))
     reported("too wide", "256#\n#@$.252-#\n256#\n")
     reported("a dash of mail", A.replace("\n#@", "\n> #@"))
     reported("no level", "Nothing here\n")
@@ -181,9 +181,10 @@ def _dressed() -> None:
     right("dressed, two", f'[["{one}",\n "{two}",\n "{three}"],\n' + '["######",\n "#@ $.#",\n '
           '"######"]]\n', (ALPHA, BETA))
     right("dressed, solved", f"A\n```{one}\n{two}\n{three}```\nSolution: r\u200bRR\n", s1="rRR")
+    right("dressed, a title in the line",
+          f'{{"title": "A", "rows": ["{one}", "{two}", "{three}"]}}\n')
+    right("dressed, letters in the line", f'["{one}", "{two}", "{three}"], rRR\n', s1="rRR")
     for name, text in (
-            ("a title in the line", f'{{"title": "A", "rows": ["{one}", "{two}", "{three}"]}}\n'),
-            ("letters in the line", f'["{one}", "{two}", "{three}"], rRR\n'),
             ("a row is missing", f'"{one}"\n"{two}"\n"#@####"\n'),
             ("a row of another form", f'"{one}"\n\'{two}\'\n"{three}"\n'),
             ("an illegal level", f'"{one}"\n"{two.replace("@", " ")}"\n"{three}"\n'),
@@ -260,7 +261,7 @@ def _slc() -> None:
     reported("SLC that is cut", file(f"<Level>{rows}</Level>")[:-30] + "<", file="export.slc")
     reported("SLC with a strange row", file("<Level><L>####</L><L>#?@#</L></Level>"),
              file="export.slc")
-    reported("SLC rows in no L", file(f"<Level>\n{A}</Level>"), file="export.slc")
+    right("SLC rows in no L", file(f"<Level>\n{A}</Level>"), file="export.slc")
     reported("SLC solution that fails", file(f"<Level>{rows}<Solution>rR</Solution></Level>"),
              file="export.slc")
 

@@ -75,7 +75,7 @@ class Levels(Case):
             self.assertIn("mine.txt line 4: ", result.err)
 
     def test_marked_outer_floor(self) -> None:
-        for mark in "~x^\u00a0":
+        for mark in "~x^":
             marked = f"{mark}####{mark}{mark}\n{mark}#  ###\n##$@.#\n######\n"
             result, found, solved = self.convert(ONE + "Solution\nR\n\n" + marked + "\n" + OTHER +
                                                  "Solution\nrR\n")
@@ -219,12 +219,9 @@ class Solutions(Case):
         """Solutions in lines with other words count like those under headings of their own."""
         text = LONG + "Best pushes (5/2): rlrRR\nBest moves (3/2): rRR\n"
         result, _, solved = self.convert(text)
-        self.assertEqual((letters_of(solved), result.status), ({1: "rlrRR"}, 1))
-        self.assertIn("line 5: another solution of level 1, 3 moves and 2 pushes, is left out",
-                      result.err)
-        self.write("a.txt", text)
-        result = self.tool("convert", "out", "a.txt", "--replace", "--best", "moves")
-        self.assertEqual((letters_of(self.read("out.answers")), result.status), ({1: "rRR"}, 0))
+        self.assertEqual((letters_of(solved), result.status), ({1: "rRR"}, 0))
+        self.assertIn("line 4: another solution of level 1, 5 moves and 2 pushes, is left out: the "
+                      "best has 3 moves and 2 pushes", result.err)
 
     def test_arrows(self) -> None:
         for line in ("\u2192\u2192\u2192", "Solution: \u2192 \u2192 \u2192",
@@ -266,10 +263,8 @@ class Solutions(Case):
         self.write("b.sok", OTHER + "\n" + OTHER)
         self.write("b.sol", "2r")
         result = self.tool("convert", "out", "a.sok", "a.sol", "b.sok", "b.sol")
-        self.assertEqual(letters_of(self.read("out.answers")), {1: "rR"})
-        self.assertIn("b.sol line 1: a solution with no level of its title or number",
-                      result.err)
-        self.assertEqual(result.status, 1)
+        self.assertEqual(letters_of(self.read("out.answers")), {1: "rR", 2: "rR", 3: "rR"})
+        self.assertEqual(result.status, 0)
 
 
 class Slc(Case):
@@ -515,9 +510,10 @@ class Kept(Case):
     def test_other_games(self) -> None:
         result, found, solved = self.convert(
             f"{ONE}Solution: R\n\n{OTHER}Title: Six\nType: Hexoban\nSolution: rR\n\n{OTHER}rR\n")
-        self.assertEqual((result.status, letters_of(solved)), (1, {1: "R", 2: "rR"}))
-        self.assertEqual(titles_of(found), ["", ""])
-        self.assertIn("line 6: a level of Hexoban, which is not read", result.err)
+        self.assertEqual((result.status, letters_of(solved)), (1, {1: "R", 2: "rR", 3: "rR"}))
+        self.assertEqual(titles_of(found), ["", "Six", ""])
+        self.assertIn("line 10: names another game, Hexoban: its levels are read as levels of "
+                      "Sokoban", result.err)
 
     def test_unsolved_is_reported(self) -> None:
         for letters in ("r", "r\n\nr"):
@@ -526,16 +522,15 @@ class Kept(Case):
             said = "the solution of level 1 leaves 1 box off the goals"
             self.assertEqual(result.status, 1)
             self.assertIn(said, result.err)
-            self.assertIn("1 levels, 1 solutions, 0 left out, 1 unsolved", result.err)
+            self.assertIn("1 level, 1 solution, 0 left out, 1 unsolved", result.err)
             self.assertTrue(letters_of(solved)[1].startswith("r"))
 
     def test_best(self) -> None:
         text = "#######\n#     #\n#@ $ .#\n#######\nSolution\nrlrRR\n\nSolution\nrRR\n"
-        for words, letters, status in ((("--best", "moves"), "rRR", 0), ((), "rlrRR", 1),
-                                       (("--best", "pushes"), "rRR", 0)):
+        for words in ("--best", "moves"), (), ("--best", "pushes"):
             self.write("a.txt", text)
             result = self.tool("convert", "out", "a.txt", "--replace", *words)
             self.assertEqual((letters_of(self.read("out.answers")), result.status),
-                             ({1: letters}, status))
-        self.assertIn("line 9: another solution of level 1, 3 moves and 2 pushes, is left out: "
-                      "the first has 5 moves and 2 pushes", self.convert(text)[0].err)
+                             ({1: "rRR"}, 0))
+        self.assertIn("line 6: another solution of level 1, 5 moves and 2 pushes, is left out: "
+                      "the best has 3 moves and 2 pushes", self.convert(text)[0].err)

@@ -73,7 +73,7 @@ class Encodings(Case):
         for encoding in ("utf-8", "utf-8-sig", "utf-16"):
             self.write("a.answers", text.encode(encoding))
             result = self.tool("convert", "out", "a.xsb", "a.answers", "--replace")
-            self.assertEqual(result.err, "convert: 1 levels, 0 solutions, 0 left out\n", encoding)
+            self.assertEqual(result.err, "convert: 1 level, 0 solutions, 0 left out\n", encoding)
             self.assertEqual(self.read("out.answers").decode(), text)
             self.assertEqual(self.tool("merge", "a.answers").out.decode(), text)
 

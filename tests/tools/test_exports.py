@@ -58,7 +58,7 @@ class OtherGames(Case):
             0, "convert: 1 file has no level: e.txt\n"
             "convert: 1 file of Boulder Dash is not read: d.bd\n"
             "convert: 2 files of Gnu Robbo are not read: a.dat, b.dat\n"
-            "convert: 1 levels, 0 solutions, 0 left out\n"))
+            "convert: 1 level, 0 solutions, 0 left out\n"))
         result = self.tool("convert", "out", "inbox/a.dat", "inbox/c.txt")
         self.assertEqual((result.status, result.err.splitlines()[0]), (
             1, "convert: inbox/a.dat line 1: a file of Gnu Robbo, which is not read"))

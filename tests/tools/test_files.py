@@ -232,7 +232,7 @@ class Reading(Case):
                            ("sub/one.xsb", OTHER), ("sub/one.sol", "rR")):
             self.write("exports/" + name, text)
         result = self.tool("convert", "out", "exports")
-        self.assertEqual(result.err, "convert: 4 levels, 1 solutions, 0 left out\n")
+        self.assertEqual(result.err, "convert: 4 levels, 1 solution, 0 left out\n")
         found = [line for line in self.read("out.xsb").decode().split("\n") if line[:1] == ";"]
         self.assertEqual(found, [f"; File: {name}" for name in (
             "a.txt", "b.txt", "sub/c.txt", "sub/one.xsb")])
@@ -273,7 +273,7 @@ class Reading(Case):
                 archive.writestr(name, text)
         result = self.tool("convert", "out", "pack.zip")
         self.assertEqual((result.status, result.err),
-                         (0, "convert: 2 levels, 1 solutions, 0 left out\n"))
+                         (0, "convert: 2 levels, 1 solution, 0 left out\n"))
         self.assertEqual([line for line in self.read("out.xsb").split(b"\n") if line[:1] == b";"],
                          [b"; File: a.txt", b"; File: b/two.txt"])
         self.write("a.txt", ONE)
@@ -339,7 +339,7 @@ class Reading(Case):
                "--split writes several collections\n"))
         result = self.tool("convert", "out", "first.txt", "years.txt", "--split")
         self.assertEqual((result.status, result.err), (
-            0, "convert: 10002 levels in 2 collections, 1 solutions, 0 left out\n"))
+            0, "convert: 10002 levels in 2 collections, 1 solution, 0 left out\n"))
         self.assertEqual([len(levels.read(self.read(f"out-{n}.xsb"))) for n in (1, 2)], [10000, 2])
         self.assertEqual([it.level for it in answers.read(self.read("out-2.answers")).records], [1])
         self.assertFalse(os.path.exists("out.xsb"))
@@ -415,6 +415,14 @@ class Reading(Case):
                                    stdout=subprocess.PIPE, stderr=subprocess.STDOUT,
                                    preexec_fn=bound)
             self.assertEqual(found.returncode, 0, found.stdout)
+
+    @is_slow
+    def test_long_lines_of_a_pair(self) -> None:
+        """No search takes more than linear time, whatever two characters a line repeats."""
+        pairs = [one + other for one in " #-1(a.<[\"'`,;:>" for other in " #-1(a.<[\"'`,;:=)"]
+        self.write("a.txt", "\n".join([ONE, *(it * 10_000 for it in [
+            *pairs, *"\t_@$|lurd\\", "<br>", "```", "1. l", "solution ", "\"#\",", "2#|"]), ONE]))
+        self.takes_less(12, lambda: self.tool("convert", "out", "a.txt", "--replace"))
 
     @is_slow
     def test_short_lines(self) -> None:

@@ -163,11 +163,11 @@ class Folders(Check):
         self.write("a.txt", LOST + "\n" + CORNER + "Solution: RurD\n")
         self.check("mine", "a.txt")
         result = self.tool("convert", "old", "mine.xsb~", "mine.answers~")
-        self.assertEqual(result, (0, b"", "convert: 1 levels, 1 solutions, 0 left out\n"))
+        self.assertEqual(result, (0, b"", "convert: 1 level, 1 solution, 0 left out\n"))
         self.write("a.txt", LOST)
         self.check("mine", "a.txt")
         result = self.tool("convert", "kept", "mine.kept.xsb", "mine.kept.answers")
-        self.assertEqual(result, (0, b"", "convert: 1 levels, 1 solutions, 0 left out\n"))
+        self.assertEqual(result, (0, b"", "convert: 1 level, 1 solution, 0 left out\n"))
         self.tool("convert", "every", *sorted(it for it in os.listdir() if it[:5] == "mine."))
         self.assertEqual(len(levels.read(self.read("every.xsb"))), 1)
 
@@ -189,7 +189,7 @@ class Folders(Check):
         for command in ("check", "convert"):
             words = ["--seconds", "0"] if command == "check" else []
             result = self.tool(command, command, "inbox", *words)
-            self.assertEqual((result.status, result.err.partition("convert: 1 levels")[0]),
+            self.assertEqual((result.status, result.err.partition("convert: 1 level")[0]),
                              (0, f"{command}: {said}"))
             self.assertEqual(len(levels.read(self.read(f"{command}.xsb"))), 1)
             self.assertNotIn(b"Send", self.read(f"{command}.xsb"))

@@ -62,41 +62,36 @@ class Lists(Case):
         self.write("one.sok", f"{BETA}\n\n{BETA}\n")
         self.write("sub-list.sol", "1. rR\n")
         result, found = self.converted("2. rR\n1. rRR\n", "one.sok", "sub-list.sol")
-        self.assertEqual(found, {1: "rRR", 2: "rR"})
-        self.assertEqual(result.err.splitlines()[0], "convert: sub-list.sol line 1: a solution "
-                         "with no level of its title or number")
+        # whose number nothing says, the replay decides
+        self.assertEqual((result.status, found), (0, {1: "rRR", 2: "rR", 4: "rR", 5: "rR"}))
         self.write("one.txt", "2. rR\n")
         result, found = self.converted("3. LL\n", "one.sok", "one.txt")
         self.assertEqual((result.status, found), (0, {3: "LL", 5: "rR"}))
 
     def test_the_replay_decides(self) -> None:
-        """Letters go to no level that they don't solve, and to the one of several that they do."""
+        """Letters go to no level that they don't solve, and to each of a title that they do."""
         self.write("two.sok", f"Same\n{ALPHA}\n\nSame\n{BETA}\n\nTwin\n{GAMMA}\n\nTwin\n{GAMMA}\n")
         self.write("two.txt", "Same\nrR\n\nSame\nrRR\n\nTwin\nLL\n\n4. Twin\nLL\n\nSame\nLL\n\n"
                    "None\nrR\n\nSame\nrrrr\n")
         result = self.tool("convert", "out", "two.sok", "two.txt")
-        self.assertEqual(solved(self.read("out.answers")), {1: "rRR", 2: "rR", 4: "LL"})
+        self.assertEqual(solved(self.read("out.answers")), {1: "rRR", 2: "rR", 3: "LL", 4: "LL"})
         self.assertEqual(result.err.splitlines(), [
-            "convert: two.txt line 8: a solution of levels 3, 4, which have the same title",
-            "convert: two.txt line 14: the solution of level 1 cannot be played: move 1 (l) wall",
-            "convert: two.txt line 17: a solution with no level of its title or number",
             "convert: two.txt line 20: the solution of level 1 cannot be played: move 4 (r) "
             "blocked",
-            "convert: 4 levels, 3 solutions, 4 left out"])
+            "convert: 4 levels, 4 solutions, 1 left out"])
 
     def test_several_for_a_level(self) -> None:
-        """The first is kept, or the best one; those of the levels' own file come first."""
+        """The best one is kept, and a note names the others."""
         text = "Beta\nrlrR\n\nSolution 2\nrR\n\nAlpha: rRR\n"
         result, found = self.converted(text)
-        self.assertEqual(found, {1: "rRR", 2: "rlrR"})
+        self.assertEqual((result.status, found), (0, {1: "rRR", 2: "rR"}))
         self.assertEqual(result.err.splitlines()[0], (
-            "convert: three.txt line 5: another solution of level 2, 2 moves and 1 push, is left "
-            "out: the first has 4 moves and 1 push"))
-        self.assertEqual(self.converted(text, "--best", "moves")[1], {1: "rRR", 2: "rR"})
+            "convert: three.txt line 2: another solution of level 2, 4 moves and 1 push, is left "
+            "out: the best has 2 moves and 1 push"))
         self.write("three.sok", THREE.replace(f"\n{BETA}\n", f"\n{BETA}\nSolution: rlrlrR\n"))
         self.write("list.txt", text)
         result = self.tool("convert", "other", "three.sok", "list.txt")
-        self.assertEqual(solved(self.read("other.answers")), {1: "rRR", 2: "rlrlrR"})
+        self.assertEqual(solved(self.read("other.answers")), {1: "rRR", 2: "rR"})
         self.assertEqual(result.err.count("another solution of level 2"), 2)
 
     def test_titles_and_words_of_letters(self) -> None:

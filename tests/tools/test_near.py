@@ -11,8 +11,9 @@ import sys
 import unittest.mock
 from typing import Iterator, List
 
-from sokotool import answers, builder, levels, progress, system
+from sokotool import answers, builder, levels, progress, sources, system
 from sokotool.board import board_of
+from sokotool.commands import convert
 from sokotool.formats import foreign
 
 from .helping import ONE, Case, not_on_windows
@@ -95,12 +96,12 @@ class Parts(Case):
             with unittest.mock.patch.object(levels, "MOST_LEVELS", most):
                 built = builder.Collection(split=True)
                 widths = [chance.randrange(6) for _ in range(chance.randrange(1, 17))]
+                export = ""
                 for width in widths:
-                    built.add_level(["#" * (width + 5), "#@" + " " * width + "$.#",
-                                     "#" * (width + 5)], 1)
-                    if width % 3:
-                        built.add_try(1, built.attempt("r" * width + "R"))
-                built.end_level()
+                    wall = "#" * (width + 5)
+                    export += f"{wall}\n#@{' ' * width}$.#\n{wall}\n\n"
+                    export += f"Solution: {'r' * width}R\n\n" if width % 3 else ""
+                convert.read_files(built, [sources.Export("a.txt", export.encode)])
                 parts = built.parts()
             self.assertEqual(len(parts), -(-len(widths) // most))
             there: List[int] = []

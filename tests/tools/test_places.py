@@ -57,7 +57,7 @@ class Places(test_check.Check):
         """Also in what was left out, if the keeper has changed the order of the levels."""
         again, wide = ONE + "Title: Twins\n", "#######\n#@ $ .#\n#######\nTitle: Wide\n"
         self.write("a.txt", f"{FEW}\n{again}\n{again}\n{wide}")
-        self.write("b.lst", "Twins\nrR\n")
+        self.write("b.lst", "Twins\nlrR\n")
         self.write("level 1.answers", "sokoban-answers 1\n")
         words = "a.txt", "b.lst", "level 1.answers"
         self.check("mine", *words)
@@ -66,9 +66,9 @@ class Places(test_check.Check):
         problems = [it for it in self.lines(self.check("mine", *words)) if "problem: " in it]
         self.assertEqual(problems, [
             "problem: a.txt line 9: the solution of level 2 cannot be played: move 1 (r) blocked",
+            "problem: b.lst line 2: the solution of level 3 cannot be played: move 1 (l) wall",
             "problem: level 1.answers line 1: answers to levels that are not there: level 1.xsb is "
-            "missing",
-            "problem: b.lst line 2: a solution of levels 3, 4, which have the same title"])
+            "missing"])
 
 
 class Sources(test_check.Check):

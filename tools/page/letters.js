@@ -17,8 +17,9 @@ const IS_PLAIN_HEAD = new RegExp(
 const IS_SAVED = /^\W*(?:snap\s?shot|saved?(?:\s?game)?|session|reverse|undo|history)(?![a-z])/i;
 const IS_REMARK = /solution\s+(?:comment|date|author|time)s?\s*[:=]/i,
     IS_TITLE = /^\W*title\s*[:=]/i;
-const ARROWS = { "\u2190": "l", "\u2191": "u", "\u2192": "r", "\u2193": "d" },
-    IS_ODD = /[\u2190-\u2193\uff01-\uff5e]/;
+const SIGNS = "\u2190\u2191\u2192\u2193\u2b05\u2b06\u2b95\u27a1\u2b07";
+const ARROWS = Object.fromEntries([...SIGNS].map((it, i) => [it, "lurdlurrd"[i]]));
+const IS_ARROW = new RegExp(`[${SIGNS}]`, "g"), IS_ODD = new RegExp(`[${SIGNS}\uff01-\uff5e]`);
 // other names of the four steps: the keys of a number pad, the points of the compass, and the keys
 // of many games
 const ALPHABETS = [
@@ -49,7 +50,7 @@ function stepsIn(text) {
 const bareLine = line => line.length > LONGEST_LINE ? line
     : narrow(untagged(line.replace(/<[^<>]*>/g,
         tag => `${tag} ${(tag.match(/"[^"]*"/g) ?? []).join(" ")} `)))
-        .replace(/[\u2190-\u2193]/g, it => ARROWS[it]).replace(/^[>;\s|]*(?:[[(]?\d+[.):\]]\s+)?/,
+        .replace(IS_ARROW, it => ARROWS[it]).replace(/^[>;\s|]*(?:[[(]?\d+[.):\]]\s+)?/,
             "");
 
 // The groups of letters in some lines. Each is { part, number, pieces, front, heading, isHeaded,
@@ -73,13 +74,17 @@ class Groups {
             return;
         }
         const bare = bareLine(line), odd = IS_ODD.test(line) ? "arrows or wide characters" : "";
-        const other = LETTERS_ALONE.test(bare) ? { piece: packed(bare), words: odd }
+        const areAlone = LETTERS_ALONE.test(bare);
+        // several solutions, each after its number
+        const parts = areAlone && bare.length < LONGEST_LINE
+            ? bare.split(LOOSE).map(packed).filter(({ length }) => length > 1) : [];
+        const other = parts.length > 1 ? null : areAlone ? { piece: packed(bare), words: odd }
             : stepsIn(bare.trim());
         // short words of other alphabets are words, unless they are where a solution is expected
         const areSteps = other && (other.words === odd || other.piece.length >= LONG || this.head
             && !this.head.isUsed || this.open?.odd === other.words);
         if (areSteps) this.addLetters(number, other);
-        else this.addWords(number, bare, odd);
+        else this.addWords(number, bare, odd, parts);
         this.blanks = 0;
     }
     addLetters(number, { piece, words: odd }) {
@@ -98,13 +103,13 @@ class Groups {
         this.open.pieces.push({ number, piece, line: this.line,
             isNew: this.blanks > 0 && this.open.pieces.length > 0 });
     }
-    addWords(number, line, odd) {
+    addWords(number, line, odd, parts) {
         const isRemark = IS_REMARK.test(line), isHead = IS_HEAD.test(line) && !isRemark,
             isSaved = IS_SAVED.test(line);
         const other = isHead ? stepsIn(/[^:=]*$/.exec(line)[0].trim()) : null;
         const some = line.length > LONGEST_LINE ? []
             : [...line.replace(/\blurd\b(?=\s*[:=]|\W*\w)/i, " ").matchAll(AMONG_WORDS)]
-            .map(it => packed(it[0])).filter(it => /[lurd]/i.test(it));
+            .map(it => packed(it[0])).filter(it => /[lurd]/i.test(it)).concat(parts);
         this.open = null;
         if (isHead || isSaved || this.head?.isUsed || !isRemark
             && !/^[\w -]{1,30}[:=]/.test(line)) {

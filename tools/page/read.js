@@ -6,19 +6,23 @@
 const placeOf = (parts, part, number) =>
     [parts.length > 1 || !number ? part.name : "", number ? `line ${number}` : ""].join(" ").trim();
 
+// letters among words that may be a word, and the number of a level before letters
+const IS_WORD = /^(?:[lurdLURD][lurd]*|..?)$/, NUMBER = /^\W*(?:\p{L}+\W+){0,3}(\d{1,5})(?!\d)/u;
+
 // The two texts that parts are made into. `said` is what was read with a change, or not at all: {
 // place, words, isNote }.
 class Reading {
     constructor(parts, spansOf, tell) {
         // of each line of the made level text, what it is made of: { part, number }, and { line }
         // if it is no row
-        Object.assign(this, { parts, tell, lines: [], from: [], beside: [], said: [],
+        Object.assign(this, { parts, tell, lines: [], from: [], beside: [], waiting: [], said: [],
             isChanged: false });
         for (const [p, part] of parts.entries()) {
             tell(`Looking for rows in ${part.name}`);
             findRows(part);
             if (p) this.put("");
             for (const it of part.lines) this.putLine(it, part);
+            this.putBeside();
             for (const it of part.faults) this.say(part, it.number, it.words, it.isNote);
         }
         this.text = utf8(`${this.lines.join("\n")}\n`);
@@ -43,6 +47,7 @@ class Reading {
         const it = { part, number };
         if (isLeftOut) this.isChanged = true;
         if (isLeftOut) return;
+        if (!row || starts) this.putBeside();
         if (starts && this.lines.length && isRow(this.lines.at(-1)))
             this.put("", it), this.isChanged = true;
         const named = row ? null : TITLE_LINE.exec(line);
@@ -52,13 +57,19 @@ class Reading {
         this.isChanged ||= made.length > 1 || made[0] !== line;
         for (const text of made) this.put(text, row ? it : Object.assign(it, { line: text }));
         if (row?.title) this.put(`Title: ${row.title}`, it);
-        if (row?.rest) {
-            this.beside.push({ ...it, line: row.rest, words: row.words });
-            this.put(isRow(row.rest) ? `; ${row.rest}` : row.rest, this.beside.at(-1));
-        }
+        if (row?.rest)
+            this.waiting.push({ ...it, line: row.rest, words: row.words, isNoTitle: true });
         if (row?.kind === "beside")
             part.faults.push({ number, words: "what is beside the row was left out",
             isNote: true });
+    }
+    // Puts what was beside the rows of a level below it. It is no title.
+    putBeside() {
+        for (const it of this.waiting.splice(0)) {
+            this.beside.push(it);
+            this.isUsed = true;
+            this.put(isRow(it.line) ? `; ${it.line}` : it.line, it);
+        }
     }
     partOf(i) {
         return this.from[this.places[i].first].part;
@@ -134,7 +145,8 @@ class Reading {
             above = this.chosen[it.level];
         let isPlaced = false;
         for (const some of it.pieces.length > 1 ? [whole, ...it.pieces] : [whole]) {
-            if (it.isWords && !it.isSure && some.piece.length < 3) continue;
+            const isNumbered = this.isNumbered(some.line ?? it.pieces[0].line);
+            if (it.isWords && !it.isSure && !isNumbered && IS_WORD.test(some.piece)) continue;
             for (const i of this.solvedBy(some.piece, it.level, some === whole)) {
                 this.add(i, { solution: played(this.boardAt(i), some.piece), number: some.number,
                     part: it.part });
@@ -150,6 +162,12 @@ class Reading {
         this.say(it.part, it.number,
             `letters that solve no level${steps < MOST_STEPS ? "" : " of those tried"}: `
             + it.solution.why);
+    }
+    // Whether the words of a line begin with the number of a level of its part.
+    isNumbered({ line, part }) {
+        const number = Number(NUMBER.exec(line.slice(0, 200))?.[1]);
+        return number > 0
+            && this.levels.filter((_, i) => this.partOf(i) === part).length >= number;
     }
     // The levels without a solution that a piece solves: the one below first, and the one above
     // only if it wasn't tried yet.
@@ -228,7 +246,10 @@ class Reading {
         this.sayBeside();
         const answers = this.answers(), isSame = this.isSame(), isOne = this.parts.length === 1;
         if (this.isUsed) this.levels =
-            levelsIn(this.text, this.spans, number => this.from[number - 1]?.isUsed);
+            levelsIn(this.text, this.spans, number => {
+                const it = this.from[number - 1];
+                return it?.isUsed || it?.isNoTitle;
+            });
         for (const [i, level] of this.levels.entries()) {
             const { number, part } = this.from[this.places[i].first];
             Object.assign(level, { line: number, file: isOne ? undefined : part.name });

@@ -42,7 +42,7 @@ const untagged = line => /[<[&`\x1b]/.test(line)
     .replace(/<\/?[A-Za-z!][^<>]*>|\[\/?[A-Za-z]+\]|^\s*```|```\s*$/g, "")) : line;
 // a line with plain characters for those that some programs put in their place
 const narrow = line => /[^\0-\x7f]/.test(line)
-    ? line.replace(/[\u200b-\u200d\u2060\u00ad]/g, "").replace(/[\u2010-\u2012\u2212]/g,
+    ? line.replace(/[\u200b-\u200d\u2060\u00ad\ufe0e\ufe0f]/g, "").replace(/[\u2010-\u2012\u2212]/g,
         "-").replace(/\u2588/g, "#").normalize("NFKC") : line;
 
 // A text with its run-length coding written out, such as rrr for 3r, and rUrU for 2(rU); null if it
@@ -77,7 +77,11 @@ function spelled(parts) {
 function cellsAtEnd(text) {
     let at = text.length;
     while (at && CELL.includes(text[at - 1])) at--;
-    return text.slice(at);
+    const cells = text.slice(at), before = text.slice(0, at);
+    // A blank after other words is none of a row.
+    if (/["'`]\s*$/.test(before)) return cells;
+    if (/\d/.test(cells)) return cells.slice(cells.lastIndexOf(" ") + 1);
+    return before ? cells.trimStart() : cells;
 }
 
 const KEYED_TITLE = /["'](?:title|name)["']\s*:\s*(["'])(.+?)\1/i,
@@ -89,7 +93,18 @@ function besideIn([before, ...after]) {
     const end = after.join(" "),
         named = after.length > 1 ? null : KEYED_TITLE.exec(before) ?? KEYED_TITLE.exec(end);
     const [head, tail] = [before, end].map(it => it.replace(named?.[0], ""));
-    const words = [BEFORE.test(head.replace(/["'`]\s*$/, "")) ? "" : head,
+    const isList = BEFORE.test(head.replace(/["'`]\s*$/, ""));
+    if (!named && after.length === 1) {
+        // in a table the title is the one field of words
+        const fields = `${isList ? "" : head}\t${tail}`.split(/[\t;,|]/)
+            .map(it => it.replace(/^[\s"'`]+|[\s"'`]+$/g, ""))
+            .filter(it => /\p{L}/u.test(it) && /[^\dlurdLURD() ]/.test(it));
+        if (fields.length === 1 && !/[:={}<>()[\]]/.test(fields[0])) {
+            const rest = `${head} ${tail}`.replace(fields[0], "").trim();
+            return { title: fields[0], rest, words: "" };
+        }
+    }
+    const words = [isList ? "" : head,
         tail].join(" ").replace(/(["'])\w+\1\s*:/g, "");
     return { title: named?.[2] ?? "", rest: `${head} ${tail}`.trim(), words };
 }
@@ -133,6 +148,16 @@ const BETWEEN_ROWS = /^[^\w({["'`]*[rbfuRBFU]?$/;
 const TAGGED = /^\s*<Row>([~#.OXP$*]+)<\/Row>\s*$/,
     SOKOSOLVE = { "~": " ", ".": " ", O: ".", X: "$", P: "@", "$": "*", "*": "+" };
 
+// The first or the last row of a level in a cell of a table, with what is beside it, or null.
+function cellIn(line) {
+    const [before, after, ...more] = line.split("\""), row = { kind: "plain", lead: "", words: "" };
+    if (after === undefined || more.length) return null;
+    if (isRow(after) && /(?:^|[\t,;])$/.test(before))
+        return { ...row, rows: [after], begins: true, rest: before };
+    return isRow(before) && /^(?:[\t,;]|$)/.test(after)
+        ? { ...row, rows: [before], ends: true, rest: after } : null;
+}
+
 // The row that a line has as a string, or null. `lead` is its mark, since the rows of a level are
 // strings of the same kind.
 function stringIn(line) {
@@ -161,7 +186,7 @@ function rowIn(line, isBare = false) {
     const marked = core.replace(/^[~x^ ]+(?=#)|(?<=#)[~x^ ]+$/g, it => " ".repeat(it.length));
     if (marked !== core && IS_PLAIN.test(marked))
         return { kind: "marked", rows: [marked.trimEnd()], lead };
-    const string = core.length < LONGEST_STRING ? stringIn(core) : null,
+    const string = core.length < LONGEST_STRING ? stringIn(core) ?? cellIn(core) : null,
         beside = string ? null : BESIDE.exec(core);
     if (string) return string;
     if (beside) return { kind: "beside", rows: [beside[1]], lead: "" };
@@ -190,6 +215,8 @@ function rowsOfLines(lines, faults) {
         if (game) faults.push({ number,
             words: `names another game, ${game[1]}: its levels are judged by the rules of `
                 + "Sokoban here" });
+        if (line.startsWith("<<<<<<< "))
+            faults.push({ number, words: "an unsolved conflict of git" });
         if (/^[\s;]*comment[\s:;]*$/i.test(line)) comment = at;
         if (comment >= 0 && /^[\s;]*comment[-_ ]end/i.test(line)) {
             for (; comment < at; comment++) Object.assign(lines[comment],
@@ -254,6 +281,13 @@ function findLevel(lines, first, last, faults) {
     }
     if (areFew || areWalls) for (const it of run) it.row = null;
     else lines[first].starts = true;
+    const bullet = run[0].row?.rows[0].slice(0, 2);
+    if (run.length > 2 && /^[*.] /.test(bullet)
+        && run.every(({ row }) => row?.rows.every(it => it.startsWith(bullet)))) {
+        for (const { row } of run) row.rows = row.rows.map(it => it.slice(2));
+        faults.push({ number, words: "each row has a bullet in front, which is left out",
+            isNote: true });
+    }
 }
 
 // Whether a line that isn't read may be meant as a row, or as levels in another form.

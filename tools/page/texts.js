@@ -82,11 +82,19 @@ const NAMES_OF_TITLES = utf8("titel|titre|titolo|t\u00edtulo|titulo|tytu\u0142|n
 const keyed = keys => new RegExp(`^(?:[-*>]|${SPACE})*(?:${keys})${EQUALS}[ \\t]*`);
 const TITLE = keyed("title"), NAME = keyed(NAMES_OF_TITLES);
 const KEY = new RegExp(`^(?:[-*>;#]|${SPACE})*[A-Za-z\\x80-\\xff-]+${COLON}`);
-const TAGS =
-    /^(?:<\/?[A-Za-z][^<>]*>|\[\/?[A-Za-z]+(?:=[^\]]*)?\]|```.*|~~~.*|[^A-Za-z0-9\x80-\xff])*$/s;
-const MARKS = /<\/?[A-Za-z][^<>]*>|^#+[ \t]+/g;
+const MARKUP = "<(?:[/?]|!(?:--\\s*)?)?[A-Za-z][^<>]*>|\\[/?(?:b|i|u|s|h|pre|code|quote|spoiler|size"
+    + "|color|center|url|img|list)(?:=[^\\]]*)?\\]";
+const TAGS = new RegExp(`^(?:${MARKUP}|\`\`\`.*|~~~.*|[^A-Za-z0-9\\x80-\\xff])*$`, "is");
+// tags, and the mark of a heading or of an entry in a list
+const MARKS = new RegExp(`${MARKUP}|^(?:#+|[-*>])[ \\t]+`, "gi"), ENTRY = /^[-*+][ \t]/;
+// lines of a chat, with a time or a name; of a table; and marks of a merge
+const NO_TITLE = new RegExp(
+    "^(?:\\[?\\d{1,2}:\\d\\d(?::\\d\\d)?\\]?\\s|<(?!(?:[a-z]|h[1-6]|pre|code|center|div|span"
+    + "|font|em|strong|title|tt|td|th|tr|li|small|big|br|hr)\\b)[\\w.-]+>\\s|[<>=]{7}|\\|"
+    + "|[^\\s,;]*[,;][^\\s,;]*[,;]\\S*\\s*$|[^\\t]+\\t[^\\t]+\\t)", "i");
 const AUTHOR = /^(?:by|author)\b/i;
-const ONLY_LETTERS = /^[lurdLURD0-9() \t]*$/, ONLY_DIGITS = /^[0-9 \t]*$/;
+// letters alone, and what of them is a title: digits, or a word whose last letter is no push
+const ONLY_LETTERS = /^[lurdLURD0-9() \t]*$/, ONLY_DIGITS = /^(?:[0-9 \t]*|[LURD][lurd]{2,})$/;
 const SOLUTION = new RegExp(
     `^\\W*(?:[A-Za-z'\\x80-\\xff]+${SPACE}+){0,2}solution\\b(?:[^:=]*[:=]|\\W*[0-9(])`, "i");
 // The flag i would take \xe3 for \xc3 in the bytes of UTF-8.
@@ -100,10 +108,14 @@ function after(key, line, low) {
 
 // the title that a line of text is, or ""
 function titleIn(line) {
-    const text = stripped(stripped(line.replace(/^[; \t\v\f]+/, "")).replace(MARKS, ""));
-    const isNone = KEY.test(line) || TAGS.test(text) || ONLY_LETTERS.test(line)
-        || SOLUTION.test(line) || isRow(text);
-    return isNone ? "" : text;
+    let text = stripped(line.replace(/^[; \t\v\f]+/, ""));
+    if (KEY.test(line) || TAGS.test(text) || ONLY_LETTERS.test(line) || NO_TITLE.test(text)
+        || /[:,]$/.test(text)) return "";
+    // A page has its own title before its first heading.
+    const end = text.toLowerCase().indexOf("</title>") + 8;
+    if (end > 7 && stripped(text.slice(end))) text = text.slice(end);
+    for (let bare; (bare = stripped(text.replace(MARKS, ""))) !== text;) text = bare;
+    return SOLUTION.test(line) || isRow(text) ? "" : text;
 }
 
 // text that is safe to show: UTF-8 where it is, otherwise Windows-1252
@@ -125,21 +137,29 @@ function shown(text) {
 class Gap {
     constructor(isFirst) {
         Object.assign(this, { isFirst, title: null, name: null, above: [], wasAbove: false,
-            last: null, blanks: 0, short: null });
+            last: null, blanks: 0, short: null, count: 0, only: "", isAtOnce: false, before: "" });
     }
     add(line, count, { title, name, above, isBlank: isNothing, isShort }) {
         this.title = title ?? this.title;
         this.name = name ?? this.name;
         if (above) {
-            const goesOn = this.wasAbove && line[0] === ";" && this.above.at(-1).line[0] === ";";
+            const goesOn = this.wasAbove
+                && (line[0] === ";" && this.above.at(-1).line[0] === ";" || AUTHOR.test(above));
             if (!goesOn) this.above = [];
-            this.above.push({ line, above });
+            const isEntry = ENTRY.test(line) && ENTRY.test(this.before);
+            this.above.push({ line, above, isEntry });
         }
         this.wasAbove = Boolean(above);
+        this.before = line;
         if (isNothing) {
             this.blanks += count;
             return;
         }
+        if (this.short && !isShort && TAGS.test(line)) {
+            this.blanks++;
+            return;
+        }
+        if (!this.count++) Object.assign(this, { only: above, isAtOnce: !this.blanks });
         this.short = isShort ? { line, before: this.last, blanks: this.blanks } : null;
         this.last = { line, isShort };
         this.blanks = 0;
@@ -150,6 +170,7 @@ class Gap {
     }
     get plain() {
         if (this.short && this.isTitle()) return shown(stripped(this.short.line));
+        if (this.above.at(-1)?.isEntry) return "";
         const titles = this.above.map(({ above }) => above);
         return shown(titles.find(title => !AUTHOR.test(title)) ?? titles.at(-1) ?? "");
     }
@@ -162,7 +183,7 @@ class Gap {
             const isSolution = before.isShort || lowered(before.line).includes("solution");
             return !isSolution && (isNumber || !below || above > below);
         }
-        return this.isFirst || above > below || isNumber && above === below && below > 0;
+        return this.isFirst || above > below || isNumber && above === below;
     }
 }
 
@@ -218,7 +239,12 @@ function nameLevels({ levels, gaps }) {
     const titles = gaps.map(gap => gap.keyed), last = titles.at(-1);
     const areAbove = titles[0] && !last
         && (levels.length === 1 || titles.slice(1, -1).some(it => it));
-    levels.forEach((level, i) => level.title = titles[areAbove ? i : i + 1] || gaps[i].plain);
+    // each has one line directly below it and apart from the next level, and nothing is above
+    const areBelow = levels.length > 1 && !titles.some(it => it) && !gaps[0].above.length
+        && gaps.slice(1).every((it, i) => it.isAtOnce && it.only && it.count === 1
+            && (it.blanks || i === levels.length - 1));
+    levels.forEach((level, i) => level.title = titles[areAbove ? i : i + 1]
+        || (areBelow ? shown(gaps[i + 1].only) : gaps[i].plain));
 }
 
 // The rows in a span of bytes, for a drawing: those of a level that is too large are cut.

@@ -7,6 +7,8 @@ from .formats import coding
 from .places import Place
 
 MOST_NAMED = 5
+# the letters that are played, in files of answers
+MOST_PLAYED = 3
 MOVES, PUSHES, BOTH = "moves", "pushes", "both"
 # takes a place, why it is reported, and whether something is left out or wrong
 Report = Callable[[Place, str, bool], None]
@@ -26,12 +28,15 @@ class Attempt(NamedTuple):
 
 
 class Try(NamedTuple):
-    """An attempt, where its letters are, and comments on it."""
+    """An attempt, where its letters are, and comments on it; whether it counts only if there is no
+    other, since it is of a saved game or in a name; and the index of its line."""
 
     file: str
     line: int
     attempt: Attempt
     notes: List[str]
+    is_spare: bool = False
+    at: int = 0
 
     def record(self, level: int) -> bytes:
         """Returns the letters as the record of a level, after the comments."""
@@ -52,79 +57,77 @@ class Collection:
                  advice: str = "; --split writes several collections") -> None:
         self.best, self.split, self.encoding, self.advice = best, split, encoding, advice
         self._report = report
+        self._said: List[Tuple[Place, str, bool]] = []
         self.texts, self._firsts = [bytearray()], [0]
         self.kept: Dict[int, Union[Try, answers.Answer]] = {}
         self.others: Dict[int, Try] = {}
         self.count = self.total = 0
         self.faults = self.unsolved = self.torn = 0
-        self.file = ""
         # the names of files as they are published, and of those that have nothing to read, by the
         # game that they are for
         self.names: Dict[str, str] = {}
         self.idle: Dict[str, List[str]] = {}
         # where each level is
         self.origins: List[Place] = []
-        # the board of the level that solutions are for
-        self.board: Optional[Board] = None
-        self._tries: List[Try] = []
-        self._spares: List[Try] = []
-        self._letters = self._played = 0
+        # the letters of solutions in all, those of the last collection, and those that were played
+        self._letters = self._written = self._played = 0
         self._after_row = False
 
     # ---- messages
 
-    def fault(self, line: int, why: str, file: Optional[str] = None) -> None:
-        """Reports what is left out or wrong, and where: by default in the file that is read."""
-        self._report(self._place(line, file), why, True)
+    def fault(self, line: int, why: str, file: str) -> None:
+        """Reports what is left out or wrong, and where."""
+        self._said.append((self._place(line, file), why, True))
         self.faults += 1
 
-    def note(self, line: int, why: str) -> None:
+    def note(self, line: int, why: str, file: str) -> None:
         """Reports what was read with a change."""
-        self._report(self._place(line), why, False)
+        self._said.append((self._place(line, file), why, False))
 
-    def _place(self, line: int, file: Optional[str] = None) -> Place:
-        file = file or self.file
-        return Place(file, self.names.get(file, file), line)
-
-    def source(self) -> str:
-        """Returns the comment that names the file. With its key it is no title."""
-        return levels.FILE + texts.shown(self._place(0).published)
-
-    def report_idle(self) -> None:
-        """Reports the files without a level, and those of each other game."""
+    def report(self) -> None:
+        """Hands on what is reported, in the order of the files and their lines."""
+        order = {file: at for at, file in enumerate(self.names)}
+        for said in sorted(self._said, key=lambda it: (order.get(it[0].file, -1), it[0].line)):
+            self._report(*said)
+        self._said = []
         for other, names in sorted(self.idle.items()):
             named = ", ".join(map(texts.shown, sorted(names)[:MOST_NAMED]))
             more = ", .." if len(names) > MOST_NAMED else ""
             has, is_ = ("has", "is") if len(names) == 1 else ("have", "are")
             why = f"of {other} {is_} not read" if other else f"{has} no level"
-            self.note(0, f"{texts.count(len(names), 'file')} {why}: {named}{more}")
+            self._report(self._place(0, ""), f"{texts.count(len(names), 'file')} {why}: "
+                         f"{named}{more}", False)
+
+    def _place(self, line: int, file: str) -> Place:
+        return Place(file, self.names.get(file, file), line)
+
+    def source(self, file: str) -> str:
+        """Returns the comment that names a file. With its key it is no title."""
+        return levels.FILE + texts.shown(self._place(0, file).published)
 
     def summary(self) -> str:
         """Returns how much was read and left out."""
         unsolved = f", {self.unsolved} unsolved" if self.unsolved else ""
         files = f" in {len(self.texts)} collections" if len(self.texts) > 1 else ""
         solutions = sum(isinstance(it, Try) for it in self.kept.values())
-        return (f"{self.total} levels{files}, {solutions} solutions, "
+        return (f"{texts.count(self.total, 'level')}{files}, {texts.count(solutions, 'solution')}, "
                 f"{self.faults - self.unsolved - self.torn} left out{unsolved}")
 
     # ---- levels and text
-
-    def add_text(self, line: str) -> None:
-        """Adds a line that isn't a row, as a comment if the auditor would read it as one."""
-        self.add("; " + line if levels.is_row(line.encode("utf-8", "replace")) else line)
 
     def add_comment(self, lines: Sequence[str]) -> None:
         """Adds rows that aren't a level, as comments."""
         self.add("; " + "\n; ".join(lines))
 
-    def add_level(self, rows: Sequence[str], line: int, title: str = "") -> None:
-        """Adds a level, after an empty line if the line before is a row."""
-        self.end_level()
+    def add_level(self, rows: Sequence[str], line: int, file: str, title: str = "",
+                  letters: int = 0) -> None:
+        """Adds a level, after an empty line if the line before is a row. `letters` is the length of
+        its solution."""
         drawn = "\n".join(rows)
         if self.split and self._is_full(len(drawn)):
-            self._begin_next()
+            self._begin_next(file)
         if self.count == levels.MOST_LEVELS:
-            raise texts.Stop(f"{texts.shown(self.file)} line {line}: more than "
+            raise texts.Stop(f"{texts.shown(file)} line {line}: more than "
                              f"{levels.MOST_LEVELS} levels{self.advice}")
         if self._after_row:
             self.add("")
@@ -132,98 +135,78 @@ class Collection:
         self.count += 1
         self.total += 1
         self._after_row = True
+        self._written += letters
         kept = [row.encode() for row in rows[:levels.LARGEST_SIDE + 1]]
-        self.origins.append(self._place(line))
-        self.board = board_of(levels.Level(self.count, kept, line))
-        if doubt := self.board.doubt:
-            self.fault(line, f"level {self.count} {doubt}")
+        self.origins.append(self._place(line, file))
+        if doubt := board_of(levels.Level(self.count, kept, line)).doubt:
+            self.fault(line, f"level {self.count} {doubt}", file)
             self.torn += 1
         if title:
-            self.add_text("Title: " + title)
+            self.add("Title: " + title)
 
     def _is_full(self, length: int) -> bool:
         """Returns whether a level of this length, with a long solution, may be too much for one
         file."""
         most = texts.MOST_BYTES // 4 * 3
-        return (self.count == levels.MOST_LEVELS or self._letters > most
+        return (self.count == levels.MOST_LEVELS or self._written > most
                 or self.count > 0 and len(self.texts[-1]) + length > most)
 
-    def _begin_next(self) -> None:
+    def _begin_next(self, file: str) -> None:
         self.texts.append(bytearray())
         self._firsts.append(self.total)
-        self.count = self._letters = 0
-        self.add_text(self.source())
+        self.count = self._written = 0
+        self.add(self.source(file))
 
     def add(self, text: str) -> None:
         """Adds lines as they are."""
         data = text.encode("utf-8", "replace")
         if len(self.texts[-1]) + len(data) >= texts.MOST_BYTES:
-            raise texts.Stop(f"{texts.shown(self.file)}: the levels are longer than "
-                             f"{texts.MOST_BYTES} bytes{self.advice}")
+            raise texts.Stop(f"the levels are longer than {texts.MOST_BYTES} bytes{self.advice}")
         self.texts[-1] += data + b"\n"
         self._after_row = False
 
     # ---- solutions
 
-    def attempt(self, letters: str, board: Optional[Board] = None) -> Attempt:
-        """Plays letters, run-length coded or not, on the board of a level, by default the last."""
-        board = board or self.board
-        assert board
+    def attempt(self, letters: str, board: Board) -> Attempt:
+        """Plays letters, run-length coded or not, on a board."""
         if board.player is None:
             return Attempt("cannot be played: " + (
                 "the level is too large" if board.fault == "size" else "not exactly one player"))
+        most = texts.MOST_BYTES - (0 if self.split else self._letters)
         try:
-            most = texts.MOST_BYTES - self._letters
             text = coding.expand(letters, most)
         except coding.Wrong as wrong:
             return Attempt(str(wrong))
-        self._played += len(text)
-        if len(text) > most or self._played > 3 * texts.MOST_BYTES:
+        if len(text) > most or not self.may_play(len(text)):
             return Attempt("is longer than an answers file may be, with those before it")
         replay = board.replay(text.encode("ascii", "replace"), any_case=True)
+        self._played += replay.moves
         return Attempt(_why(replay, text), not (replay.fault or "").startswith("move"),
                        replay.letters, replay.moves, replay.pushes, replay.solved)
 
-    def add_try(self, line: int, attempt: Attempt, is_spare: bool = False) -> None:
-        """Adds an attempt to solve the last level; a level may have several. A spare one solves it,
-        and is used if no other does."""
-        (self._spares if is_spare else self._tries).append(Try(self.file, line, attempt, []))
+    def may_play(self, length: int) -> bool:
+        """Returns whether so many letters may be played, after all that were."""
+        return self._played + length <= MOST_PLAYED * texts.MOST_BYTES
 
-    def end_level(self) -> None:
-        """Ends the last level, and adds the solution of it that is kept."""
-        solving = [it for it in self._tries if it.attempt.why is None] or self._spares
-        failing = [it for it in self._tries if it.attempt.why is not None]
-        playing = [it for it in failing if it.attempt.plays]
-        kept, other = (self.choose(self.count, solving) if solving
-                       else (playing[0] if playing else None, None))
-        for it in failing:
-            self.fault(it.line, f"the solution of level {self.count} {it.attempt.why}", it.file)
-            self.unsolved += it is kept
-        if kept:
-            self.kept[self.total - 1] = kept
-        if other:
-            self.others[self.total - 1] = other
-        self._letters += sum(len(it.attempt.letters) for it in (kept, other) if it)
-        self.board = None
-        self._tries, self._spares = [], []
+    def count_letters(self, attempt: Attempt) -> None:
+        """Counts the letters of a solution that may be written."""
+        self._letters += len(attempt.letters)
 
     def choose(self, number: int, solving: Sequence[Try]) -> Tuple[Try, Optional[Try]]:
-        """Returns the solution of a level to keep: the best one, or the first one, with a report of
-        the others. If both of the best are kept, that is the one by moves, and the other one by
-        pushes is returned too if it has fewer."""
-        if self.best:
-            by_moves = min(solving, key=lambda it: (it.attempt.moves, it.attempt.pushes))
-            by_pushes = min(solving, key=lambda it: (it.attempt.pushes, it.attempt.moves))
-            kept = by_pushes if self.best == PUSHES else by_moves
-            is_other = self.best == BOTH and by_pushes.attempt.pushes < kept.attempt.pushes
-            return kept, by_pushes if is_other else None
-        kept, seen = solving[0], {solving[0].attempt.letters}
-        for it in solving[1:]:
+        """Returns the best solution of a level. If both of the best are kept, that is the one by
+        moves, and the other one by pushes is returned too if it has fewer. Where nobody chose which
+        is the best, a note says what the others have."""
+        by_moves = min(solving, key=lambda it: (it.attempt.moves, it.attempt.pushes))
+        by_pushes = min(solving, key=lambda it: (it.attempt.pushes, it.attempt.moves))
+        kept = by_pushes if self.best == PUSHES else by_moves
+        is_other = self.best == BOTH and by_pushes.attempt.pushes < kept.attempt.pushes
+        seen = {kept.attempt.letters}
+        for it in solving if not self.best else ():
             if it.attempt.letters not in seen:
                 seen.add(it.attempt.letters)
-                self.fault(it.line, f"another solution of level {number}, {_size(it.attempt)}, is "
-                           f"left out: the first has {_size(kept.attempt)}", it.file)
-        return kept, None
+                self.note(it.line, f"another solution of level {number}, {_size(it.attempt)}, is "
+                          f"left out: the best has {_size(kept.attempt)}", it.file)
+        return kept, by_pushes if is_other else None
 
     # ---- the files
 

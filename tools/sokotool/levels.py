@@ -40,14 +40,21 @@ _BY = re.compile(rb"[-*>;#\s]*(?:" + "|".join((
     "\u0410\u0432\u0442\u043e\u0440", "\u4f5c\u8005")).encode() + rb")" + _EQUALS +
     rb"[ \t]*(.*)", re.I | re.S)
 _KEY = re.compile(rb"[-*>;#\s]*[A-Za-z\x80-\xff-]+" + _COLON)
-_TAG = rb"<(?:[/?]|!(?:--\s*)?)?[A-Za-z][^<>]*>"
-_TAGS = re.compile(rb"(?:" + _TAG + rb"|\[/?[A-Za-z]+(?:=[^\]]*)?\]|```.*|~~~.*"
-                   rb"|[^A-Za-z0-9\x80-\xff])*", re.S)
-# tags, and the mark of a heading
-_MARKS = re.compile(_TAG + rb"|\A#+[ \t]+")
+_TAG = (rb"<(?:[/?]|!(?:--\s*)?)?[A-Za-z][^<>]*>|\[/?(?:b|i|u|s|h|pre|code|quote|spoiler|size|color"
+        rb"|center|url|img|list)(?:=[^\]]*)?\]")
+_TAGS = re.compile(rb"(?:" + _TAG + rb"|```.*|~~~.*|[^A-Za-z0-9\x80-\xff])*", re.S | re.I)
+# tags, and the mark of a heading or of an entry in a list
+_MARKS = re.compile(_TAG + rb"|\A(?:#+|[-*>])[ \t]+", re.I)
+# lines of a chat, with a time or a name; of a table; and marks of a merge
+_NO_TITLE = re.compile(
+    rb"\[?[0-9]{1,2}:[0-9]{2}(?::[0-9]{2})?\]?\s|<(?!(?:[a-z]|h[1-6]|pre|code|center|div|span|font"
+    rb"|em|strong|title|tt|td|th|tr|li|small|big|br|hr)\b)[\w.-]+>\s"
+    rb"|[<>=]{7}|\||[^\s,;]*[,;][^\s,;]*[,;][^\s]*\s*\Z|[^\t]+\t[^\t]+\t", re.I)
+_ENTRY = re.compile(rb"[-*+][ \t]")
 _AUTHOR = re.compile(rb"(?:by|author)\b", re.I)
 _LETTERS = re.compile(rb"[lurdLURD0-9() \t]*")
-_DIGITS = re.compile(rb"[0-9 \t]*")
+# digits, or a word whose last letter is no push
+_DIGITS = re.compile(rb"[0-9 \t]*|[LURD][lurd]{2,}")
 _SOLUTION = re.compile(rb"\W*(?:[A-Za-z'\x80-\xff]+\s+){0,2}solution\b(?:[^:=]*[:=]|\W*[0-9(])",
                        re.I)
 _OTHER, _ROW, _BELOW, _ABOVE, _NAMED, _SHORT, _BY_LINE, _FILE = range(8)
@@ -123,11 +130,12 @@ def read(data: bytes, most: int = sys.maxsize) -> Sequence[Level]:
         keyed = titles[:-1] if are_above else titles[1:]
         authors = [_keyed(lines, kinds, gap, (_BY_LINE, _BY)) for gap in gaps]
         of_all, named = authors[0], authors[:-1] if are_above else authors[1:]
+        plain = _titles_below(lines, kinds, gaps) if not any(titles) else []
+        plain = plain or [_title_above(lines, kinds, above, first) for above, first in gaps[:-1]]
         found += [
-            Level(number, lines[first:end], first + 1,
-                  title or texts.shown(_title_above(lines, kinds, above, first)), author or of_all)
-            for number, ((first, end), title, (above, _), author)
-            in enumerate(zip(spans, keyed, gaps, named), len(found) + 1)]
+            Level(number, lines[first:end], first + 1, title or texts.shown(said), author or of_all)
+            for number, ((first, end), title, said, author)
+            in enumerate(zip(spans, keyed, plain, named), len(found) + 1)]
     return tuple(found)
 
 
@@ -144,6 +152,18 @@ def _files(kinds: bytes, spans: Sequence[Span]) -> Iterator[Tuple[Sequence[Span]
             first = last
 
 
+def _titles_below(lines: List[bytes], kinds: bytes, gaps: Sequence[Span]) -> List[bytes]:
+    """Returns the titles of several levels if each has one line directly below it and apart from
+    the next level, and nothing is above the first; otherwise none."""
+    if len(gaps) < 3 or any(kinds[at] == _ABOVE for at in range(*gaps[0])) or any(
+            first == end or kinds[first] != _ABOVE for first, end in gaps[1:]):
+        return []
+    areas = [lines[first + 1:end] for first, end in gaps[1:]]
+    if any(line.strip() for area in areas for line in area) or not all(areas[:-1]):
+        return []
+    return [title_in(lines[first]) for first, _ in gaps[1:]]
+
+
 def _title_above(lines: List[bytes], kinds: bytes, end: int, first: int) -> bytes:
     """Returns the last line of text between two lines, or of several comment lines the first that
     names no author."""
@@ -151,8 +171,11 @@ def _title_above(lines: List[bytes], kinds: bytes, end: int, first: int) -> byte
     at = last = kinds.rfind(_ABOVE, end, first)
     if short > last and _is_title(lines, kinds, (end, short, first)):
         return lines[short].strip()
-    while at > end and kinds[at - 1] == _ABOVE and lines[at - 1].startswith(b";") and (
-            lines[at].startswith(b";")):
+    if at > end and _ENTRY.match(lines[at]) and _ENTRY.match(lines[at - 1]):
+        return b""
+    while at > end and kinds[at - 1] == _ABOVE and (
+            lines[at - 1].startswith(b";") and lines[at].startswith(b";")
+            or at == last and _AUTHOR.match(title_in(lines[at]))):
         at -= 1
     found = [title_in(line) for line in lines[at:last + 1]] if at >= 0 else [b""]
     return next((title for title in found if not _AUTHOR.match(title)), found[-1])
@@ -166,14 +189,14 @@ def _is_title(lines: List[bytes], kinds: bytes, where: Tuple[int, int, int]) -> 
     top = at
     while top > end and not lines[top - 1].strip():
         top -= 1
-    if any(line.strip() for line in lines[at + 1:first]):
+    if any(line.strip() and not _TAGS.fullmatch(line) for line in lines[at + 1:first]):
         return False
     above, below = at - top, first - at - 1
     is_number = bool(_DIGITS.fullmatch(lines[at]))
     if top > end:
         is_solution = kinds[top - 1] == _SHORT or b"solution" in lines[top - 1].lower()
         return not is_solution and (is_number or not below or above > below)
-    return end == 0 or above > below or is_number and above == below > 0
+    return end == 0 or above > below or is_number and above == below
 
 
 def _keyed(lines: List[bytes], kinds: bytes, gap: Tuple[int, int],
@@ -190,9 +213,15 @@ def title_in(line: bytes) -> bytes:
     A line with a key such as `Author: ..`, a solution, the heading of one, tags and a line without
     a letter or digit are no titles.
     """
-    text = _MARKS.sub(b"", line.lstrip(b"; \t\v\f").rstrip()).strip()
-    if _KEY.match(line) or _TAGS.fullmatch(text) or _LETTERS.fullmatch(line):
+    text = line.lstrip(b"; \t\v\f").rstrip()
+    if _KEY.match(line) or _TAGS.fullmatch(text) or _LETTERS.fullmatch(line) or (
+            _NO_TITLE.match(text) or text.endswith((b":", b","))):
         return b""
+    # A page has its own title before its first heading.
+    _, _, rest = text.lower().partition(b"</title>")
+    text = text[len(text) - len(rest):] if rest.strip() else text
+    while (bare := _MARKS.sub(b"", text).strip()) != text:
+        text = bare
     return b"" if _SOLUTION.match(line) or is_row(text) else text
 
 

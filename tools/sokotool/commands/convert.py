@@ -1,10 +1,9 @@
 """Reads collections of levels that programs export, and writes NAME.xsb and NAME.answers.
 
-Levels are read in plain rows, run-length coded, in letters, joined by '|', from SLC files and
-from files of mazes. Letters below a level that solve it are its solution, and so are letters in a
-file NAME.sol next to the file NAME.* of its one level. A file with letters and no level is a list
-of solutions, for levels in other files. A replay puts each letter in its case.
-docs/keeping.md lists what is read.
+Levels are read in plain rows, run-length coded, in letters, in strings, tables and quotes, from SLC
+files and from files of mazes. Letters are the solution of a level that they solve: the one above
+them, or another one of the file. A file with letters and no level is a list of solutions, for
+levels in other files. A replay puts each letter in its case. docs/keeping.md lists what is read.
 
 Anything that can't be read or played is reported with file and line. If NAME.xsb or NAME.answers
 is there already, with other contents, nothing is written without --replace."""
@@ -12,11 +11,11 @@ import argparse
 import os
 import re
 import sys
-from typing import Iterator, List, Optional, Sequence, Tuple
+from typing import Iterator, Optional, Sequence
 
 from .. import answers, builder, levels, output, own_files, sources, texts
 from ..builder import Collection
-from ..formats import dress, entries, foreign, letters, lists, plain, slc
+from ..formats import foreign, reading, slc, writing
 from ..places import Place
 from . import encoding_argument
 
@@ -25,8 +24,8 @@ MOST_MESSAGES = 1000
 _FORMS = {b"\x1f\x8b": "a gzip file", b"BZh91AY&SY": "a bzip2 file", b"\xfd7zXZ": "an xz file",
           b"7z\xbc\xaf": "a 7-Zip archive", b"Rar!\x1a\7": "a RAR archive",
           b"PK\3\4": "a damaged zip archive, or one too deep in others"}
-# a piece of a row, which other things may be beside
-_DRAWN = re.compile("#[-_ #@$.*+]{3,}")
+# ends of lines that are none to an editor, and count as none
+_BREAKS = re.compile("[\v\f\x85\u2028\u2029\ufeff]")
 
 
 def arguments(parser: argparse.ArgumentParser) -> None:
@@ -35,8 +34,8 @@ def arguments(parser: argparse.ArgumentParser) -> None:
     parser.add_argument("files", metavar="FILE", nargs="+",
                         help="an export, or a folder of them; - is standard input")
     parser.add_argument("--best", choices=[builder.MOVES, builder.PUSHES], default="",
-                        help="keep the solution with the fewest moves or pushes instead of the "
-                             "first one")
+                        help="keep the solution with the fewest moves, as it does anyhow, or "
+                             "pushes, and don't name the others")
     parser.add_argument("--replace", action="store_true",
                         help="replace files that are there already, and keep them as NAME.*~")
     parser.add_argument("--split", action="store_true",
@@ -96,8 +95,7 @@ def _check_inputs(files: Sequence[str], written: Sequence[str]) -> None:
 def read_files(collection: Collection, listed: Sequence[sources.Export]) -> None:
     """Reads exports into the collection, but no other file that sokotool wrote for some NAME than
     its levels and answers. A file that can't be read is reported, unless it is the only one."""
-    before: Tuple[str, int] = ("", 0)
-    waiting = lists.Lists(collection)
+    reader = reading.Reader(collection)
     collection.names = sources.published([export.name for export in listed])
     # Wildcards name backups and kept files too, but not without the others.
     alone = {it.name for it in listed if not it.is_found
@@ -112,90 +110,72 @@ def read_files(collection: Collection, listed: Sequence[sources.Export]) -> None
             continue
         if export.name not in alone and own_files.is_made(export.name, data):
             continue
-        if export.end != ".sol":
-            collection.end_level()
-        collection.file = export.name
         if answers.is_begun(data):
-            its_levels = sources.levels_of(export, listed)
-            _read_answers(collection, texts.in_utf8(data), its_levels, waiting)
-        elif export.end == ".sol":
-            _read_solution(collection, data, before, waiting)
+            _read_answers(reader, export.name, texts.in_utf8(data),
+                          sources.levels_of(export, listed))
         else:
-            count = collection.total
-            _read_levels(collection, data, export.is_found, waiting)
-            before = (export.stem, collection.total - count)
-            waiting.add_export(export.name, count, collection.total)
-    collection.end_level()
-    waiting.place()
-    collection.report_idle()
+            _read_export(reader, export, data)
+    try:
+        reader.read()
+        writing.write(reader)
+    finally:
+        collection.report()
 
 
-def _read_answers(collection: Collection, data: bytes, its_levels: Optional[sources.Export],
-                  waiting: lists.Lists) -> None:
+def _read_answers(reader: reading.Reader, name: str, data: bytes,
+                  its_levels: Optional[sources.Export]) -> None:
     """Reads answers that sokotool or sokoaudit wrote to the levels of another export."""
     if its_levels is None:
-        stem = texts.shown(os.path.splitext(os.path.basename(collection.file))[0])
-        collection.fault(1, f"answers to levels that are not there: {stem}.xsb is missing")
+        stem = texts.shown(os.path.splitext(os.path.basename(name))[0])
+        reader.collection.fault(
+            1, f"answers to levels that are not there: {stem}.xsb is missing", name)
         return
     try:
         found = levels.read(its_levels.read())
-        waiting.add_answers(collection.file, found, answers.read(data, len(found), rising=False))
+        reader.add_answers(name, found, answers.read(data, len(found), rising=False))
     except texts.Stop as stop:
-        collection.fault(1, str(stop))
+        reader.collection.fault(1, str(stop), name)
     except answers.Fault as fault:
-        collection.fault(fault.line, answers.advice(data, fault, len(found)))
+        reader.collection.fault(fault.line, answers.advice(data, fault, len(found)), name)
 
 
-def _read_levels(collection: Collection, data: bytes, is_found: bool, waiting: lists.Lists) -> None:
-    name = collection.names[collection.file]
-    is_packed = bool(_form_of(data))
-    text, coding = (None, "") if is_packed else texts.text_of(
+def _read_export(reader: reading.Reader, export: sources.Export, data: bytes) -> None:
+    """Reads the text of an export as lines."""
+    collection, name = reader.collection, export.name
+    form = _form_of(data)
+    text, coding = (None, "") if form else texts.text_of(
         data, collection.encoding or slc.encoding_of(data))
-    game = foreign.game_of(text) if text else ""
-    lines = dress.lines_of(text) if text and not game else []
-    is_slc = slc.is_slc(text or "")
-    is_list = not is_slc and entries.is_list(lines)
-    if is_found and not is_packed and (
-            game or not is_slc and not is_list and _is_idle(data, text, lines)):
-        collection.idle.setdefault(game, []).append(name)
-        return
-    if game:
-        collection.fault(1, f"a file of {game}, which is not read")
-        return
     if text is None:
-        collection.fault(1, _why_no_text(collection, data))
+        is_idle = export.is_found and not form and not any(
+            len(line) > 2 and levels.is_row(line)
+            for line in texts.lines(data.replace(b"\0", b"")))
+        if is_idle:
+            collection.idle.setdefault("", []).append(collection.names[name])
+        else:
+            collection.fault(1, _why_no_text(collection, data), name)
         return
-    _report_coding(collection, coding)
-    if is_list:
-        waiting.add(collection.file, lines, name if is_found else "")
+    if game := foreign.game_of(text):
+        if export.is_found:
+            collection.idle.setdefault(game, []).append(collection.names[name])
+        else:
+            collection.fault(1, f"a file of {game}, which is not read", name)
         return
-    if collection.file != "-":
-        collection.add_text(collection.source())
-    count = collection.total
-    if is_slc:
-        slc.read(collection, text)
-    else:
-        plain.read(collection, lines)
-    if collection.total == count:
-        collection.fault(1, "no level in this file")
-
-
-def _is_idle(data: bytes, text: Optional[str], lines: List[str]) -> bool:
-    """Returns whether a file has neither a row nor letters, nor anything that looks like them."""
-    if text is None:
-        return not any(len(line) > 2 and levels.is_row(line)
-                       for line in texts.lines(data.replace(b"\0", b"")))
-    if any(map(_is_drawn, _DRAWN.findall(text))):
-        return False
-    tried = Collection(split=True)
-    plain.read(tried, lines)
-    return not tried.total and not tried.faults
-
-
-def _is_drawn(piece: str) -> bool:
-    """Returns whether there are more than walls and floor between the walls of a piece."""
-    inner = piece[1:piece.rindex("#")][:-1] if piece.count("#") > 1 else ""
-    return any(c in inner for c in "@$.*+")
+    if coding:
+        collection.note(1, f"not UTF-8: read as {coding}; --encoding names another encoding", name)
+    if slc.is_slc(text):
+        found, titles, fault = slc.lines_of(text)
+        its = reader.add(name, export.is_found, [line for _, line in found],
+                         [at for at, _ in found], titles)
+        if fault:
+            collection.fault(*fault, name)
+            its.faults += 1
+        return
+    lines = texts.lines_of(text)
+    if not _BREAKS.search(text):
+        reader.add(name, export.is_found, lines)
+        return
+    parts = [(at, part) for at, line in enumerate(lines, 1) for part in _BREAKS.split(line)]
+    reader.add(name, export.is_found, [part for _, part in parts], [at for at, _ in parts])
 
 
 def _form_of(data: bytes) -> str:
@@ -211,30 +191,3 @@ def _why_no_text(collection: Collection, data: bytes) -> str:
     if at >= 0 and not data[at:].strip(b"\0"):
         return f"zero bytes at the end, from line {data.count(10, 0, at) + 1}"
     return f"not a text in {collection.encoding or 'UTF-8, UTF-16 or Latin-1'}"
-
-
-def _report_coding(collection: Collection, coding: str) -> None:
-    """Reports a file in another encoding."""
-    if coding:
-        collection.note(1, f"not UTF-8: read as {coding}; --encoding names another encoding")
-
-
-def _read_solution(collection: Collection, data: bytes, before: Tuple[str, int],
-                   waiting: lists.Lists) -> None:
-    """Reads a file of letters alone, for the one level of the file before it, or a list."""
-    text, coding = texts.text_of(data, collection.encoding)
-    if text is None:
-        collection.fault(1, _why_no_text(collection, data))
-        return
-    _report_coding(collection, coding)
-    lines = dress.lines_of(text)
-    found = [at for at, line in enumerate(lines) if letters.are_alone(line)]
-    is_alone = all(letters.are_alone(line) or not line.strip() or letters.heads(line)
-                   for line in lines)
-    if not found:
-        collection.fault(1, "no letters of a solution")
-    elif is_alone and before == (os.path.splitext(collection.file)[0], 1) and collection.board:
-        packed = "".join(letters.packed(lines[at]) for at in found)
-        collection.add_try(found[0] + 1, collection.attempt(packed))
-    else:
-        waiting.add(collection.file, lines)

@@ -16,9 +16,11 @@ from typing import Dict, Iterator, List, Sequence, Tuple
 from .. import answers, levels, output, texts
 from ..board import board_of
 from ..builder import BOTH, Collection
-from ..formats import dress, exporting, plain, slc
+from ..formats import exporting
 from ..formats.exporting import Solution
 from ..own_files import ANSWERS, OTHER
+from ..sources import Export
+from . import convert
 
 
 # how many levels may have come in between when a text is read again
@@ -81,13 +83,7 @@ def solutions_of(name: str, found: List[levels.Level]
 def read_back(text: bytes, best: str) -> List[exporting.Entry]:
     """Returns the levels of an exported text as convert or check reads them."""
     collection = Collection(best)
-    collection.file = "-"
-    decoded = text.decode()
-    if slc.is_slc(decoded):
-        slc.read(collection, decoded)
-    else:
-        plain.read(collection, dress.lines_of(decoded))
-    collection.end_level()
+    convert.read_files(collection, [Export("-", lambda: text, False)])
     ((data, solved),) = collection.parts()
     found = levels.read(data)
     solutions, others = ({record.level: (record.letters.decode(), ())

@@ -10,7 +10,7 @@ from typing import Iterator, List, Sequence, Tuple
 
 from .. import levels, output, texts
 from ..board import Board
-from ..formats import plain, rows
+from ..formats import rows
 
 MOST_PRINTED = 1000
 _OTHER, _ROW, _WALLS = range(3)
@@ -74,7 +74,7 @@ def _of_lines(lines: Sequence[bytes]) -> Iterator[Warning]:
     round."""
     decoded = list(map(texts.cached(texts.decoded), lines))
     kinds = bytes(map(texts.cached(_kind_of), lines))
-    read, comments = plain.rows_of(decoded)[:2]
+    read, _, comments = rows.find(decoded, lambda *_: None)
     for match in _STRANGE.finditer(kinds):
         at = match.start()
         row = read[at]

@@ -1,136 +1,158 @@
-"""Finds the lines that are rows of a level: plain ones, which the auditor reads, and others, which
-are rewritten.
+"""Finds the rows of levels in lines of text, in any dress, and makes them plain.
 
 - plain     only the auditor's characters, and a wall
-- coded     run-length coded (4#, 3(ab)), in letters (b B p P o), or joined by '|'
-- marked    floor outside the walls as ~ x ^; or no-break spaces for floor
-- maze      files of older sites: 'Maze: 1', 'Size X: ..', then rows with X for walls, * for boxes
-            and & for boxes on goals
+- coded     run-length coded (4#, 3(ab)), or in letters (b B p P o)
+- joined    the rows of a level in one line, between other words, as in a table or a string
+- marked    floor outside the walls as ~ x ^
+- dressed   between tags and the like
+- string    a row in a string of a program
+- beside    a row with a quote, a comma or a remark beside it
+- maze      files of older sites: 'Maze: 1', then rows with X for walls, * for boxes and & for boxes
+            on goals
+- tagged    <Row> of SokoSolve
 
-Each may be indented by tabs, quoted by '>' as in mail, or tagged as in a web page.
-
-A line that can be decoded may still be a heading, such as '### 1 ###' or '#2.'. So it is a row only
-if it begins and ends with a wall when it is written out, has no blank next to a number, and is next
-to another row; if it has more than walls and floor, between two other rows.
+Each may be indented by tabs, or quoted by '>' as in mail. The lines beside them decide which are
+levels.
 """
-import html
 import re
-from typing import NamedTuple, Optional, Tuple
+from typing import AbstractSet, Callable, List, NamedTuple, Optional, Sequence, Tuple
 
-from .. import levels
+from .. import levels, texts
+from ..board import Board
 from ..levels import BOXES, GOALS, LETTERS, PLAYERS, ROW, WALL
-from . import coding
+from . import coding, markup
 
 WIDEST = levels.LARGEST_SIDE
-OUTER = "~x^\u00a0"
-MARK = "\ufeff"
-_NOT_PLAIN = re.compile(f"[^{ROW}]")
-_NOT_CODED = re.compile(f"[^{ROW}0-9|bBpPo()]")
-_NOT_MARKED = re.compile(f"[^{ROW}{OUTER}]")
-_NOT_ROW_LIKE = re.compile(f"[^{ROW}\t0-9|bBpPo(){OUTER}]")
+MOST_ROWS = 65_536
+# no longer line has one row, and none has a level
+LONGEST, LONGEST_JOINED = 20_000, 1 << 20
+FEWEST_ROWS, FEWEST_APART = 3, 3
+OUTER = "~x^"
+_CELL = ROW + "0-9bBpPo()"
+_MAY_BE = re.compile("[#&\uff03\u2588]")
+_PLAIN, _CELLS, _ROW_LIKE = (re.compile(f"[{cells}]*") for cells in (
+    ROW, _CELL, f"{ROW}\t0-9|bBpPo(){OUTER}"))
+_MARKED = re.compile(f"[{ROW}{OUTER}]*")
+_MARKS = str.maketrans(OUTER, " " * len(OUTER))
+_LEAD = re.compile(r"(?:\t+|: (?=[-_ ]*#)|(?:> ?)+)?")
+# what parts the rows of a level that is in one line
+_ENDS = "|", "\\n", '","', '", "', "','", "', '", "/", "!"
+_THINGS = frozenset(PLAYERS + BOXES + GOALS)
+_MAZE = re.compile(r"[X *.&@+]*")
+_MAZE_CELLS = str.maketrans("X*&", WALL + BOXES)
+_TAGGED = re.compile(r"<Row>([~#.OXP$*]+)</Row>")
+_SOKOSOLVE = str.maketrans("~.OXP$*", "  .$@*+")
+_TITLE = re.compile(r"""["'](?:title|name)["']\s*:\s*(?:"([^"]+)"|'([^']+)')""", re.I)
+_KEY = re.compile(r"""(["'])\w+\1\s*:""")
+_KEY_BEFORE = re.compile(r"""[^\w"'`]*(["'])\w+\1\s*:[^\w"'`]*""")
+_BETWEEN_ROWS = re.compile(r"""[^\w({\["'`]*[rbfuRBFU]?""")
+_QUOTES = "\"'`"
+_OTHER_GAMES = re.compile(
+    r"(?:type|variant|game)\s*[:=]\s*(\w*(?:(?:hex|tri|octo|multi|num|modo)\w*ban|sokomind|hexagon"
+    r"|triang)\w*)", re.I)
 _WORDS = re.compile(r"[\w(\"'][\w .,:;'\"!?()&/-]*")
 # a square a cell, as in a table
-_CELLS = re.compile(f"(?:[{ROW}][;,\t|])+[{ROW}]")
-_LEAD = re.compile(r"\t+|(?:> ?)+")
-_BREAK = re.compile(r"<br */?>(?=.)", re.I)
-_TAG = re.compile(r"</?[A-Za-z][^<>]*>|\[/?[A-Za-z]+\]")
-_MARKS = str.maketrans(OUTER, " " * len(OUTER))
-_THINGS = frozenset(PLAYERS + BOXES + GOALS)
-_MAZE = re.compile(r"\s*Maze:\s*[0-9]+\s*", re.I)
-_NOT_MAZE = re.compile(r"[^X *.&@+]")
-_MAZE_CELLS = str.maketrans("X*&", WALL + BOXES)
+_SQUARES = re.compile(f"(?:[{ROW}][;,\t|])+[{ROW}]")
+# forms of levels that aren't read: rows of digits, and base64
+FEWEST_DIGITS, FEWEST_CODED = 5, 60
+_BASE64 = re.compile("[A-Za-z0-9+/]+={0,2}")
+_CODES = re.compile("ddd+|b+")
+_CODE_WORDS = {"d": "rows of digits", "b": "looks like base64"}
+_NOTHING, _MAZE_HEAD, _GAME, _COMMENT, _COMMENT_END, _TAG, _CONFLICT = range(7)
+# takes a line, from 0, why it is reported, and whether something is left out or wrong
+Say = Callable[[int, str, bool], None]
+Span = Tuple[int, int]
 
 
 class Row(NamedTuple):
-    """A line that may be a row: its kind, and the row in the auditor's characters, or several rows
-    that '|' joins. A '|' at the end of a line joins it to the next one. `lead` is the tabs or
-    quotes in front. A byte order mark in front starts a level, since two files were joined
-    there."""
+    """A line that may be a row, or several rows of a level, with an empty one between two levels.
+    `lead` is what is in front of it, which the rows of a level have in common. `goes_on` joins it
+    to the next line, and `begins` and `ends` part it from others. `title` and `rest` are what is
+    beside it."""
 
     kind: str
     rows: Tuple[str, ...]
-    goes_on: bool = False
     lead: str = ""
-    starts: bool = False
+    goes_on: bool = False
+    begins: bool = False
+    ends: bool = False
+    title: str = ""
+    rest: str = ""
 
     @property
-    def is_wall(self) -> bool:
+    def are_walls(self) -> bool:
         """Whether it has only walls and floor, as the first and last row of a level."""
         return not any(_THINGS.intersection(row) for row in self.rows)
 
-
-def is_comment_end(line: str) -> bool:
-    """Returns whether a line ends the comment of a level, as some editors write it."""
-    return line[:40].strip(" \t:;").lower() in ("comment-end", "comment_end", "comment end")
-
-
-def is_maze_head(line: str) -> bool:
-    """Returns whether a line begins a maze."""
-    return bool(_MAZE.fullmatch(line))
+    def goes_with(self, after: "Row") -> bool:
+        """Returns whether the row of the next line may be one of the same level."""
+        return self.lead == after.lead and not self.ends and not after.begins and (
+            self.goes_on or "joined" not in (self.kind, after.kind))
 
 
-def read_maze(line: str) -> Optional[Row]:
-    """Returns the row that a line of a maze is, or None."""
-    row = line.rstrip()
-    is_row = "X" in row and not _NOT_MAZE.search(row)
-    return Row("maze", (row.translate(_MAZE_CELLS),)) if is_row else None
+class Found(NamedTuple):
+    """The row of each line, or None; the spans of the lines that are levels; and the spans of
+    comments, which have no rows."""
 
+    rows: List[Optional[Row]]
+    spans: List[Span]
+    comments: List[Span]
+
+
+# ---- one line
 
 def is_plain(line: str) -> bool:
     """Returns whether the auditor reads a line as a row."""
-    return "#" in line and not _NOT_PLAIN.search(line)
+    return "#" in line and bool(_PLAIN.fullmatch(line))
 
 
-def read(line: str) -> Optional[Row]:
-    """Returns the row that a line may be, or None. Blanks after a row are ignored."""
-    if "#" not in line:
+def row_of(line: str, is_bare: bool = False) -> Optional[Row]:
+    """Returns the row that a line may be, or None. A bare one has lost its dress."""
+    if not _MAY_BE.search(line) or line.lstrip().startswith("::"):
         return None
-    if not _NOT_PLAIN.search(line):
+    if is_plain(line):
         return Row("plain", (line,))
-    if line[0] == MARK:
-        row = read(line[1:])
-        return row and row._replace(starts=True)
-    if lead := _LEAD.match(line):
-        row = _read(line[lead.end():])
-        return row and row._replace(lead=lead.group())
-    return _read(line)
+    if len(line) > LONGEST:
+        return _joined(line) if len(line) <= LONGEST_JOINED else None
+    lead = _LEAD.match(line)[0]  # type: ignore[index]
+    core = line[len(lead):].rstrip(" \t")
+    if is_plain(core):
+        return Row("plain", (core,), lead)
+    if "#" in core and _CELLS.fullmatch(core):
+        spelled = _spelled([core])
+        return Row("coded", spelled, lead) if spelled else None
+    if "#" in core and core.endswith("|") and not core.startswith("|"):
+        spelled = _spelled([part for part in core.split("|") if part])
+        if spelled:
+            return Row("joined", spelled, lead, goes_on=True)
+    if "#" in core and _MARKED.fullmatch(core):
+        return Row("marked", (core,), lead)
+    found = _string(core) or _cell(core) or _beside(core)
+    if found:
+        return found
+    bare = line if is_bare else markup.narrow(markup.untagged(line))
+    if bare == line:
+        return _joined(core)
+    found = row_of(bare, True)
+    return found._replace(kind="dressed") if found and found.kind == "plain" else found
 
 
-def _read(line: str) -> Optional[Row]:
-    line = line.rstrip(" \t")
-    if not _NOT_PLAIN.search(line):
-        return Row("plain", (line,))
-    if not _NOT_MARKED.search(line):
-        return Row("marked", (line,))
-    if not _NOT_CODED.search(line):
-        spelled = _spelled(line)
-        kind = "joined" if "|" in line else "coded"
-        return Row(kind, spelled, line.endswith("|")) if spelled else None
-    if _TAG.search(line) or "&nbsp;" in line:
-        bare = untagged(line)
-        return _read(bare) if "#" in bare and bare != line else None
-    return None
-
-
-def untagged(line: str) -> str:
-    """Returns a line without the tags of a web page or a forum; breaks within it become '|'."""
-    line = _TAG.sub("", _BREAK.sub("|", line))
-    return html.unescape(line.replace("&nbsp;", " "))
-
-
-def _spelled(line: str) -> Optional[Tuple[str, ...]]:
-    """Returns the rows of a coded line, written out, or None."""
-    if re.search("[0-9]", line) and " " in line.strip(" ") or line.lstrip().startswith("|"):
+def _spelled(parts: Sequence[str]) -> Optional[Tuple[str, ...]]:
+    """Returns the rows that coded parts of a line are, written out, or None."""
+    line = "|".join(parts)
+    if not _CELLS.fullmatch(line.replace("|", "")):
         return None
-    # No program encodes a row as walls and numbers with a number after a wall: '#5#' is a heading.
-    if re.search("(?<![0-9])[01](?![0-9])|(?<![0-9])0", line) or (
-            not line.strip("#0123456789") and re.search("#[0-9]", line)):
+    # A row has no blank beside a number, and no number after a wall if there is nothing else.
+    if re.search("[0-9]", line) and (
+            " " in line.strip(" ") or re.search("(?<![0-9])[01](?![0-9])|(?<![0-9])0", line)):
+        return None
+    if not line.strip("#0123456789") and re.search("#[0-9]", line):
         return None
     try:
         text = coding.expand(line, WIDEST * (WIDEST + 1))
     except coding.Wrong:
         return None
-    found = tuple(row for row in text.translate(LETTERS).split("|") if row)
+    found = tuple(row.rstrip() for row in text.translate(LETTERS).split("|") if row.strip())
     is_level = all(map(_is_enclosed, found)) and max(map(len, found), default=0) > 2
     return found if is_level else None
 
@@ -140,39 +162,377 @@ def _is_enclosed(row: str) -> bool:
     return len(row) <= WIDEST and core.startswith("#") and core.endswith("#")
 
 
-def without_marks(row: str) -> str:
-    """Returns a row with spaces for marks of outer floor."""
-    return row.translate(_MARKS)
+def _joined(line: str) -> Optional[Row]:
+    """Returns the levels within one line, as in a table, between other words."""
+    line = line.replace("\\r\\n", "\\n")
+    for mark in _ENDS:
+        if line.count(mark) < FEWEST_ROWS - 1:
+            continue
+        found, around = _levels_within(line.split(mark), mark)
+        if found:
+            title, rest = _words_of(around)
+            return Row("joined", tuple(found), title=title, rest=rest)
+    return None
 
 
-def why_no_row(line: str, is_between: bool) -> Optional[str]:
-    """Returns why a line that may be meant as a row isn't one, or None. `is_between` is true if
-    there are rows directly above and below it."""
-    if "#" not in line:
-        without = is_between and line.strip("-_ ") and not _NOT_PLAIN.search(line)
-        return "a row without a wall, which ends the level" if without else None
-    if line.startswith((";", "::")) or not is_between and not _looks_like_row(line):
+def _levels_within(parts: List[str], mark: str) -> Tuple[List[str], List[str]]:
+    """Returns the rows of the levels in the parts of a line, with an empty one between two levels,
+    and the text around each."""
+    found: List[str] = []
+    around: List[List[str]] = [[]]
+    first = 0
+    while first < len(parts):
+        last = first + 1
+        while last < len(parts) - 1 and "#" in parts[last] and _CELLS.fullmatch(parts[last]):
+            last += 1
+        begin = _cells_at_end(parts[first])
+        end = _CELLS.match(parts[last])[0] if last < len(parts) else ""  # type: ignore[index]
+        some = [it for it in (begin, *parts[first + 1:last], end) if "#" in it]
+        spelled = _spelled(some) if len(some) >= FEWEST_ROWS and "#" in begin else None
+        if spelled:
+            around[-1].append(parts[first][:len(parts[first]) - len(begin)])
+            around.append([])
+            found += ["", *spelled] if found else spelled
+            if "#" in end:
+                parts[last] = parts[last][len(end):]
+        else:
+            around[-1] += [mark.join(parts[first:last]), mark * (last < len(parts))]
+        first = last
+    return found, [*map("".join, around)]
+
+
+def _cells_at_end(text: str) -> str:
+    """Returns the characters of a row at the end of a text. A blank after other words is none."""
+    cells = text[len(text.rstrip("-#@+$*._ 0123456789bBpPo()")):]
+    before = text[:len(text) - len(cells)]
+    if before.rstrip()[-1:] in _QUOTES:
+        return cells
+    return cells.rpartition(" ")[2] if re.search("[0-9]", cells) else cells.lstrip(" ")
+
+
+def _words_of(around: Sequence[str]) -> Tuple[str, str]:
+    """Returns what is beside the levels in a line: the title if a key names it or nothing else is
+    there but numbers and letters, and the text that is kept."""
+    before, end = around[0], " ".join(around[1:])
+    named = (_TITLE.search(before) or _TITLE.search(end)) if len(around) == 2 else None
+    if named:
+        before, end = before.replace(named[0], ""), end.replace(named[0], "")
+        return named[1] or named[2], f"{before} {end}".strip()
+    if _may_precede(before.rstrip(_QUOTES)):
+        before = ""
+    fields = [it.strip(" \t\"'`") for it in re.split("[\t;,|]", f"{before}\t{end}")]
+    words = [it for it in fields if re.search(r"[^\W\d_]", it)
+             and re.sub("[0-9()lurdLURD ]", "", it) and not _KEY.match(it)]
+    is_title = len(words) == 1 and len(around) == 2 and not re.search("[:={}<>()\\[\\]]", words[0])
+    rest = f"{around[0]} {end}".strip()
+    return (words[0], rest.replace(words[0], "", 1)) if is_title else ("", rest)
+
+
+def _string(core: str) -> Optional[Row]:
+    """Returns the row that a line has as a string, whose mark is its lead."""
+    at = max(map(core.rfind, _QUOTES))
+    if at < 0 or re.search(r"\w", core[at:]):
         return None
-    core = line.strip(" ")
+    first = core.rfind(core[at], 0, at)
+    row = re.sub(r"(?:\\r)?(?:\\n)?\Z", "", core[first + 1:at])
+    if first < 0 or not is_plain(row) or not _may_precede(core[:first]):
+        return None
+    return Row("string", (row,), core[at], begins=not _BETWEEN_ROWS.fullmatch(core[:first]),
+               ends=any(it in core[at:] for it in "])};"))
+
+
+def _may_precede(text: str) -> bool:
+    """Returns whether a text may be before a string with a row: punctuation, the mark of a list, a
+    name with its value, or a key; but no comment."""
+    text = text.strip()
+    if text.startswith((";", "#", "//")):
+        return False
+    for it in (text, text[:-1] if text[-1:] in "rbfuRBFU" else text):
+        if not re.search(r"[\w\"'`]", it) or _KEY_BEFORE.fullmatch(it):
+            return True
+        if it.rstrip()[-1:] in tuple("=:({[") and not any(mark in it for mark in _QUOTES):
+            return True
+    return False
+
+
+def _cell(core: str) -> Optional[Row]:
+    """Returns the first or the last row of a level in a cell of a table, with what is beside it."""
+    before, mark, after = core.partition('"')
+    if '"' in after or not mark:
+        return None
+    if is_plain(after) and before[-1:] in tuple("\t,;") + ("",):
+        return Row("plain", (after,), begins=True, rest=before)
+    if is_plain(before) and (not after or after[0] in "\t,;"):
+        return Row("plain", (before,), ends=True, rest=after)
+    return None
+
+
+def _beside(core: str) -> Optional[Row]:
+    """Returns a row with a mark or a remark beside it."""
+    begin = len(core) - len(core.lstrip(" \t"))
+    begin = begin + 1 if core[begin:begin + 1] in ('"', "'", "|", "`") else 0
+    run = _PLAIN.match(core, begin)[0]  # type: ignore[index]
+    end = run.rfind("#") + 1
+    row, after = run[:end], (run[end:] + core[begin + len(run):])
+    if not row.strip("-_ ").startswith("#") or row.count("#") < 2:
+        return None
+    rest = after.lstrip("-_ ")
+    if re.fullmatch(r"(?:\\n)?[\"'|`]?[,;\\]*", rest):
+        return Row("beside", (row,))
+    if after[:1].isspace() and re.match(r"<|;|//|\(|!|\u2190", rest):
+        return Row("beside", (row,))
+    return None
+
+
+# ---- the lines of a text
+
+def find(lines: Sequence[str], say: Say, starts: AbstractSet[int] = frozenset()) -> Found:
+    """Returns which lines are rows, and which rows are levels. What isn't read is reported. Rows
+    from one of `starts` on are a level, whatever they are."""
+    rows: List[Optional[Row]] = [*map(texts.cached(row_of), lines)]
+    comments = _apply_marks(lines, rows, say)
+    spans: List[Span] = []
+    at = 0
+    kinds = bytes(map(bool, rows))
+    while (first := kinds.find(1, at)) >= 0:
+        at = first + 1
+        while at < len(lines) and at not in starts and _go_together(rows[at - 1], rows[at]):
+            at += 1
+        if at == first + 1 and not starts:
+            at = _end_of_apart(lines, rows, first)
+        if at > first + 1 and not lines[first + 1].strip():
+            say(first, "blank lines between rows were left out", False)
+        span = (first, at) if first in starts else _without_headings(rows, first, at)
+        if first in starts or _is_level(lines, rows, *span, say):
+            spans.append(span)
+        else:
+            rows[span[0]:span[1]] = [None] * (span[1] - span[0])
+    in_comment = {at for first, end in comments for at in range(first, end)}
+    for at, line in enumerate(lines):
+        if rows[at] is None and at not in in_comment and line:
+            is_near = 0 < at < len(lines) - 1 and bool(kinds[at - 1] and kinds[at + 1])
+            if why := (why_no_row(line, is_near) if is_near or "#" in line else None):
+                say(at, why, True)
+    _report_codes(lines, rows, say)
+    return Found(rows, spans, comments)
+
+
+def _go_together(one: Optional[Row], other: Optional[Row]) -> bool:
+    return one is not None and other is not None and one.goes_with(other)
+
+
+def _mark_of(line: str) -> int:
+    """Returns what a line says of those after it, or all."""
+    if line.startswith("<<<<<<< "):
+        return _CONFLICT
+    core = line[:60].strip(" \t:;").lower()
+    if core.startswith("maze:") and core[5:].strip().isdigit():
+        return _MAZE_HEAD
+    if core == "comment":
+        return _COMMENT
+    if core.startswith(("comment-end", "comment_end", "comment end")):
+        return _COMMENT_END
+    if core.startswith("<row>"):
+        return _TAG
+    return _GAME if other_game(line) else _NOTHING
+
+
+def other_game(line: str) -> str:
+    """Returns the game that a line such as 'Type: Hexoban' names, unless it is Sokoban."""
+    match = _OTHER_GAMES.match(re.sub(r"\A\W+", "", line[:200]))
+    return match[1] if match else ""
+
+
+def _apply_marks(lines: Sequence[str], rows: List[Optional[Row]], say: Say) -> List[Span]:
+    """Reads the rows of mazes and of SokoSolve, drops those in comments, and reports other games.
+    Returns the spans of comments."""
+    marks = bytes(map(texts.cached(_mark_of), lines))
+    comments: List[Span] = []
+    if not any(marks):
+        return comments
+    has_tags = any(_TAGGED.fullmatch(line.strip()) and re.search("[OXP]", line[5:-5])
+                   for line, mark in zip(lines, marks) if mark == _TAG)
+    is_maze, comment = False, -1
+    for at, (line, mark) in enumerate(zip(lines, marks)):
+        is_maze = is_maze or mark == _MAZE_HEAD
+        if is_maze and "X" in line and _MAZE.fullmatch(line.rstrip()):
+            rows[at] = Row("maze", (line.rstrip().translate(_MAZE_CELLS),), "maze")
+        if has_tags and mark == _TAG and (match := _TAGGED.fullmatch(line.strip())):
+            rows[at] = Row("tagged", (match[1].translate(_SOKOSOLVE),), "tagged")
+        if mark == _GAME:
+            say(at, f"names another game, {other_game(line)}: its levels are read as levels of "
+                "Sokoban", True)
+        elif mark == _CONFLICT:
+            say(at, "an unsolved conflict of git", True)
+        elif mark == _COMMENT:
+            comment = at
+        elif mark == _COMMENT_END and comment >= 0:
+            first = next((it for it in range(comment, at) if is_plain(lines[it])), -1)
+            if first >= 0:
+                say(first, "rows in a comment, which stay text", False)
+            comments.append((comment, at + 1))
+            rows[comment:at + 1] = [None] * (at + 1 - comment)
+            comment = -1
+    return comments
+
+
+def _end_of_apart(lines: Sequence[str], rows: Sequence[Optional[Row]], first: int) -> int:
+    """Returns the end of a level whose rows are a line apart, each alone, or that of its first row.
+    """
+    last = first
+    while (last + 2 < len(lines) and not lines[last + 1].strip()
+           and _go_together(rows[last], rows[last + 2])
+           and not (last + 3 < len(lines) and rows[last + 3])):
+        last += 2
+    return last + 1 if last >= first + 2 * (FEWEST_APART - 1) else first + 1
+
+
+def _without_headings(rows: List[Optional[Row]], first: int, end: int) -> Span:
+    """Drops coded lines with more than walls and floor at both ends of a run."""
+    while first < end - 1 and _is_heading(rows[first]):
+        rows[first] = None
+        first += 1
+    while end - 1 > first and _is_heading(rows[end - 1]):
+        end -= 1
+        rows[end] = None
+    return first, end
+
+
+def _is_heading(row: Optional[Row]) -> bool:
+    return row is not None and row.kind == "coded" and not row.are_walls
+
+
+def _is_level(lines: Sequence[str], rows: List[Optional[Row]], first: int, end: int, say: Say
+              ) -> bool:
+    """Returns whether a run of rows is a level, and reports what is none."""
+    run = [row for row in rows[first:end] if row]
+    count = sum(len(row.rows) for row in run)
+    if any(row.kind == "marked" for row in run) and not _unmark(rows, first, end, run, say):
+        return False
+    if count < FEWEST_ROWS and (run[0].kind == "string" or len(run) == 1
+                                and run[0].kind != "plain"):
+        if run[0].kind == "maze":
+            say(first, "a row of a maze without others", True)
+        return False
+    if all(row.are_walls for row in run) and not any(
+            why_no_row(lines[at], "#" not in lines[at]) for at in (first - 1, end)
+            if 0 <= at < len(lines)):
+        # A rule between empty lines is none of what may be torn, if there are levels.
+        is_rule = len(run) == 1 and any(_is_inner(row) for row in rows) and not any(
+            0 <= at < len(lines) and lines[at].strip() for at in (first - 1, end))
+        say(first, "walls alone, and no level: a banner, or torn off a level by an empty line?",
+            not is_rule)
+        return False
+    if any(row.kind == "beside" and not row.lead for row in run):
+        say(first, "what is beside the rows was left out", False)
+    return True
+
+
+def _is_inner(row: Optional[Row]) -> bool:
+    return row is not None and not row.are_walls
+
+
+def _unmark(rows: List[Optional[Row]], first: int, end: int, run: Sequence[Row], say: Say) -> bool:
+    """Reads marks of outer floor as floor, if the player can reach none, wherever the boxes are."""
+    drawn = [row.rows[0] for row in run]
+    bare = [text.translate(_MARKS) for text in drawn]
+    inner = any({*text[text.index("#"):text.rindex("#")]} & {*OUTER} for text in drawn)
+    if inner:
+        board = Board(levels.Level(1, [text.encode() for text in bare[:WIDEST + 1]], 1))
+        marked = {y * board.stride + x for y, text in enumerate(drawn, 1)
+                  for x, c in enumerate(text, 1) if c in OUTER}
+        if board.player is None or board.fault in ("size", "open") or marked & board.room:
+            return False
+    say(first, "floor outside the walls is marked, and was read as floor", False)
+    for at in range(first, end):
+        if row := rows[at]:
+            rows[at] = row._replace(rows=(row.rows[0].translate(_MARKS),))
+    return True
+
+
+def drawn_in(run: Sequence[Row]) -> Tuple[List[List[str]], str]:
+    """Returns the rows of each level in a run, and why they aren't as they were."""
+    found: List[List[str]] = [[]]
+    for text in (text for row in run for text in row.rows):
+        if text:
+            found[-1].append(text)
+        else:
+            found.append([])
+    note = ""
+    for at, rows in enumerate(found):
+        if len(rows) >= FEWEST_ROWS and {row[:2] for row in rows} in ({"* "}, {". "}):
+            found[at] = [row[2:] for row in rows]
+            note = "each row has a bullet in front, which is left out"
+    return found, note
+
+
+# ---- what is no row
+
+def why_no_row(line: str, is_near: bool) -> Optional[str]:
+    """Returns why a line that may be meant as a row isn't one, or None. `is_near` is true if there
+    are rows directly above and below it."""
+    core = line.strip(" \t\"',;()|>")
+    if "#" not in line:
+        is_meant = is_near and len({*core}) > 1 and _PLAIN.fullmatch(core)
+        return "a row without a wall, which ends the level" if is_meant else None
+    if line.startswith((";", "::")) or not is_near and not _looks_like_row(core):
+        return None
     if "\t" in core:
         return "a tab in a row, whose width is not known"
-    if strange := _NOT_ROW_LIKE.search(core) or re.search("[~x^\u00a0]", core):
-        return f"looks like a row, but {strange.group()!a} is no character of rows"
-    return "looks like a coded row, but can't be read as one"
+    rest = line.strip(" ")
+    strange = rest[_ROW_LIKE.match(rest).end():][:1] or next(  # type: ignore[union-attr]
+        (c for c in rest if c in OUTER), "")
+    return (f"looks like a row, but {strange!a} is no character of rows" if strange
+            else "looks like a coded row, but can't be read as one")
 
 
-def _looks_like_row(line: str) -> bool:
-    line = line.strip(" \t\"',;()").replace("\\n", "|")
-    if line.count("#") < 2 or _is_heading(line):
+def _looks_like_row(core: str) -> bool:
+    core = core.replace("\\n", "|")
+    if core.count("#") < 2:
         return False
-    if _CELLS.fullmatch(line):
+    if _SQUARES.fullmatch(core):
         return True
-    usual = len(_NOT_ROW_LIKE.sub("", line))
-    return 3 * usual >= 2 * len(line)
+    if not (core.lstrip("0123456789").startswith("#") or core.endswith("#") or "##" in core):
+        return False
+    words = core.strip("#= -*\t")
+    if words and "#" not in words and _WORDS.fullmatch(words) and any(c.isalnum() for c in words):
+        return False
+    usual = sum(len(it) for it in _ROW_LIKE.findall(core))
+    return 3 * usual >= 2 * len(core) and bool(core.strip("#"))
 
 
-def _is_heading(line: str) -> bool:
-    """Returns whether a line is words after walls or between walls, such as '## Bob ##'."""
-    words = line.strip("#= -*\t")
-    return (bool(words) and "#" not in words and bool(_WORDS.fullmatch(words))
-            and any(c.isalnum() for c in words))
+def _report_codes(lines: Sequence[str], rows: Sequence[Optional[Row]], say: Say) -> None:
+    """Reports lines that may be levels in a form that isn't read."""
+    code_in = texts.cached(_code_in)
+    kinds = "".join(" " if row else code_in(line) for line, row in zip(lines, rows))
+    for match in _CODES.finditer(kinds):
+        say(match.start(), _CODE_WORDS[match[0][0]] + ", which is not read", True)
+    for at in (match.start() for match in re.finditer("(?<!w)w", kinds)):
+        if _is_foreign_board(lines[at:at + WIDEST]):
+            say(at, f"a board with {lines[at].strip()[0]!r} for walls, which is not read", True)
+
+
+def _code_in(line: str) -> str:
+    """Returns a letter for a line in a code, or of one character, or a blank."""
+    core = line.strip(" \t\"',;")
+    if len(core) >= FEWEST_DIGITS and not core.strip("0123456789") and core.strip("2468"):
+        return "d"
+    if len(core) > 2 and not core.strip(core[0]) and core[0] not in "-=_~*. :;#lurdLURD":
+        return "w"
+    if len(core) >= FEWEST_CODED and _BASE64.fullmatch(core) and core.strip("lurdLURD0123456789"):
+        return "b"
+    return " "
+
+
+def _is_foreign_board(lines: Sequence[str]) -> bool:
+    """Returns whether lines begin with a board whose walls are one character, but not '#'."""
+    wall = lines[0].strip()[0]
+    inner = ""
+    for at, line in enumerate(lines[1:], 2):
+        core = line.strip()
+        if len(core) < 3 or core[0] != wall or core[-1] != wall:
+            return False
+        inner += core.replace(wall, "").replace(" ", "")
+        if core.count(wall) == len(core) and at > 2:
+            return len(set(inner)) < 9 and (any(c in "@&$+" for c in inner) or wall > "\x7f")
+    return False

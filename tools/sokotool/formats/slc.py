@@ -1,12 +1,9 @@
-"""Reads SLC files, in which a level is <Level Id=".."> and each row <L>."""
+"""Reads SLC files, in which a level is <Level Id=".."> and each row <L>, as lines of plain text."""
 import codecs
 import contextlib
 import re
-from typing import Dict, List, Optional
+from typing import Dict, List, Optional, Tuple
 from xml.parsers import expat
-
-from ..builder import Collection
-from . import letters, rows
 
 # Web pages and other files of XML may begin alike.
 _HEAD = re.compile(r"\s*<(?:\?xml|!--|!DOCTYPE|SokobanLevels)", re.I)
@@ -18,22 +15,32 @@ _IN_FILE = re.compile(r"</?(?:SokobanLevels|LevelCollection|Level|L|Solution)(\s
 _KEYS = {"title": "Collection", "url": "URL"}
 # attributes with the size of a level or a collection, which its rows show
 _SIZES = {"width", "height", "maxwidth", "maxheight"}
+_ROWS = {"l", "row"}
+# a line and its number
+Line = Tuple[int, str]
 
 
 def is_slc(text: str) -> bool:
     return bool(_HEAD.match(text) and _LEVEL.search(text))
 
 
-class _Reader:
-    """The parser's callbacks. Keeps the rows and the texts of the open level, and the text of the
-    open element."""
+def _is_solution(tag: str) -> bool:
+    return "solution" in tag or tag == "lurd"
 
-    def __init__(self, collection: Collection, parser: expat.XMLParserType) -> None:
-        self.collection, self.parser = collection, parser
-        self.rows: Optional[List[str]] = None
-        self.title, self.text, self.line, self.first = "", [""], 0, 0
-        self.said: List[str] = []
-        self.solutions: List[str] = []
+
+class _Reader:
+    """The parser's callbacks. Keeps the rows, the texts and the solutions of the open level, and
+    the text of the open element."""
+
+    def __init__(self, parser: expat.XMLParserType) -> None:
+        self.parser = parser
+        self.lines: List[Line] = []
+        # the titles of levels by their first lines
+        self.titles: Dict[int, str] = {}
+        self.rows: Optional[List[Line]] = None
+        self.said: List[Line] = []
+        self.solutions: List[Line] = []
+        self.title, self.text, self.line = "", [""], 0
 
     def start(self, tag: str, attributes: Dict[str, str]) -> None:
         """Begins an element, after text before it that is in no element of its own."""
@@ -41,12 +48,14 @@ class _Reader:
         tag = tag.rpartition(":")[2].lower()
         if tag == "level":
             self.end_level()
-            self.rows, self.title, self.first = [], "", self.parser.CurrentLineNumber
+            self.rows, self.title = [], ""
         for name, value in attributes.items():
             key = name.rpartition(":")[2]
-            if key.lower() == "id" and tag == "level":
+            if key.lower() in ("id", "title", "name") and tag == "level" and not self.title:
                 self.title = value
-            elif key.lower() not in _SIZES and not name.startswith("xml") and tag != "l":
+            elif _is_solution(key.lower()):
+                self._solution(value)
+            elif key.lower() not in _SIZES and not name.startswith("xml") and tag not in _ROWS:
                 self._say(key, value)
         self.text, self.line = [], self.parser.CurrentLineNumber
 
@@ -61,19 +70,23 @@ class _Reader:
 
     def end(self, tag: str) -> None:
         tag, text = tag.rpartition(":")[2], "".join(self.text)
-        if tag.lower() == "l" and self.rows is not None:
-            self._add_row(re.sub(r"[\r\n]+", "", text))
+        self.text = []
+        if tag.lower() in _ROWS and self.rows is not None:
+            row = re.sub(r"[\r\n]+", "", text).rstrip()
+            self.rows += [(self.line, row)] if row or self.rows else []
         elif tag.lower() == "level":
+            self.text = [text]
             self._stray()
             self.end_level()
-        elif text.strip() and ("solution" in tag.lower() or tag.lower() == "lurd"):
-            if self.rows is None:
-                self._try(text)
-            else:
-                self.solutions.append(text)
+        elif text.strip() and _is_solution(tag.lower()):
+            self._solution(text)
         elif text.strip():
             self._say(tag, text)
-        self.text = []
+
+    def _solution(self, text: str) -> None:
+        self.solutions.append((self.parser.CurrentLineNumber, "".join(text.split())))
+        if self.rows is None:
+            self._put_solutions()
 
     def _say(self, key: str, text: str) -> None:
         key = _KEYS.get(key.lower(), key[:1].upper() + key[1:])
@@ -83,61 +96,42 @@ class _Reader:
                 self._add("; " + said if key == "Description" else f"{key}: {said}")
 
     def _add(self, line: str) -> None:
-        if self.rows is None:
-            self.collection.add_text(line)
-        else:
-            self.said.append(line)
+        (self.lines if self.rows is None else self.said).append(
+            (self.parser.CurrentLineNumber, line))
 
     def _stray(self) -> None:
-        """Keeps text that is in no element of its own, and reports rows there."""
+        """Keeps text that is in no element of its own, perhaps rows."""
         text, self.text = "".join(self.text), []
-        if any(rows.is_plain(line) for line in text.split("\n")):
-            self.collection.fault(self.parser.CurrentLineNumber, "rows that are in no <L>")
-        for line in text.split("\n"):
-            if line.strip():
+        for at, line in enumerate(text.split("\n"), self.line or 1):
+            if line.strip() and "#" in line and self.rows is not None:
+                self.rows.append((at, line))
+            elif line.strip():
                 self._add("; " + line.strip())
-
-    def _add_row(self, text: str) -> None:
-        row = rows.read(text)
-        if row is not None:
-            assert self.rows is not None
-            self.rows += [rows.without_marks(part) for part in row.rows]
-        elif text.strip():
-            why = rows.why_no_row(text, True) or "a row without a wall"
-            self.collection.fault(self.line, why)
-        elif self.rows:
-            self.rows.append("")
-
-    def _try(self, text: str) -> None:
-        found = letters.packed("".join(text.split()))
-        if self.collection.board is None:
-            self.collection.fault(self.line, "a solution with no level above it")
-        elif letters.are_alone(found):
-            self.collection.add_try(self.line, self.collection.attempt(found))
-        else:
-            self.collection.fault(self.line, "a solution heading with no letters")
+        self.line = self.parser.CurrentLineNumber
 
     def end_level(self) -> None:
-        """Adds the level that is open, with its texts and solutions below it. An empty row within
-        it cuts it in two."""
-        drawn, title = "\n".join(self.rows or []).rstrip("\n"), " ".join(self.title.split())
+        """Adds the level that is open: its rows, its title, its texts and its solutions."""
+        drawn, title = self.rows, " ".join(self.title.split())
         self.rows, self.title = None, ""
-        if "\n\n" in drawn:
-            self.collection.fault(self.first, "a row without a wall, which ends the level")
-        for part in re.split("\n\n+", drawn) if drawn else ():
-            self.collection.add_level(part.split("\n"), self.first, title)
+        if drawn is None:
+            return
+        line = self.parser.CurrentLineNumber
+        while drawn and not drawn[-1][1]:
+            drawn.pop()
+        for at, (_, row) in enumerate(drawn):
+            if row and (at == 0 or not drawn[at - 1][1]):
+                self.titles[len(self.lines) + at] = title
+        self.lines += drawn
         if title and not drawn:
-            self.collection.add_text("; " + title)
-        for line in self.said:
-            self.collection.add_text(line)
-            found = letters.among_words(line.partition(":")[2])
-            for text in found if self.collection.board else ():
-                attempt = self.collection.attempt(text)
-                if attempt.why is None:
-                    self.collection.add_try(self.first, attempt, True)
-        solutions, self.said, self.solutions = self.solutions, [], []
-        for text in solutions:
-            self._try(text)
+            self.lines.append((line, "; " + title))
+        self.lines += self.said
+        self._put_solutions()
+        self.said = []
+
+    def _put_solutions(self) -> None:
+        for number, text in self.solutions:
+            self.lines += [(number, "Solution"), (number, text)]
+        self.solutions = []
 
 
 class _Refused(Exception):
@@ -160,21 +154,24 @@ def encoding_of(data: bytes) -> str:
     return ""
 
 
-def read(collection: Collection, text: str) -> None:
-    """Reads the text of a file. Keeps what is before the first fault."""
+def lines_of(text: str) -> Tuple[List[Line], Dict[int, str], Optional[Line]]:
+    """Returns the lines of a file as far as it can be read, the titles of its levels by their first
+    lines, and where and why it can't be read further, if so."""
     # Python's parser knows few encodings, and ends in errors of its own at others.
     parser = expat.ParserCreate("utf-8")
-    reader = _Reader(collection, parser)
+    reader = _Reader(parser)
     parser.StartElementHandler, parser.EndElementHandler = reader.start, reader.end
     parser.CharacterDataHandler, parser.CommentHandler = reader.data, reader.comment
     # Entities that a file declares can expand without bounds.
     parser.EntityDeclHandler = _refuse
+    fault: Optional[Line] = None
     try:
         parser.Parse(text.encode("utf-8", "replace"), True)
     except expat.ExpatError as error:
         why = expat.errors.messages[error.code]
-        collection.fault(error.lineno, f"cannot be read on from here: {why}")
+        fault = error.lineno, f"cannot be read on from here: {why}"
     except _Refused:
-        collection.fault(parser.CurrentLineNumber,
-                         "cannot be read on from here: the file declares an entity")
+        fault = (parser.CurrentLineNumber,
+                 "cannot be read on from here: the file declares an entity")
     reader.end_level()
+    return reader.lines, reader.titles, fault
