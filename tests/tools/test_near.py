@@ -129,6 +129,14 @@ def on_terminal(columns: int) -> Iterator[int]:
     os.close(ours)
 
 
+def read_until(terminal: int, end: str) -> str:
+    """What a terminal gets until it ends so: what was written twice may come in two parts."""
+    said = ""
+    while not said.endswith(end):
+        said += os.read(terminal, 999).decode()
+    return said
+
+
 @not_on_windows
 class Terminals(Case):
     def test_width_of_the_status_line(self) -> None:
@@ -140,8 +148,8 @@ class Terminals(Case):
                 first = os.read(terminal, 999).decode()
                 self.assertEqual(len(first), min(columns - 1, len("find: level 12 of 345")))
                 shown.show("other 13")
-                self.assertTrue(os.read(terminal, 999).decode().startswith(
-                    "\r" + " " * len(first) + "\r"))
+                other = "find: other 13"[:columns - 1]
+                self.assertEqual(read_until(terminal, other), f"\r{' ' * len(first)}\r{other}")
                 shown.clear()
                 shown.clear()
                 wiped = os.read(terminal, 999).decode()
