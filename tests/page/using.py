@@ -9,7 +9,7 @@ import threading
 from itertools import permutations, product
 from typing import Iterator, List, Sequence, Tuple
 
-from bench.measured import NOOK
+from bench.worst import corridors
 from tests.page.comparing import Comparison, in_words
 from tests.page.driving import IDLE, Tab
 from tests.runner import TOP, encode, read, write
@@ -352,7 +352,7 @@ def hostile(check: Comparison, tab: Tab) -> None:
 
 def stopping(check: Comparison, tab: Tab) -> None:
     """A run that is cancelled, and a memory that doesn't grow."""
-    write("slow.xsb", text(f"{NOOK}//" * 10000))
+    write("slow.xsb", text(f"{corridors(side=255, count=120).levels}//" * 4))
     tab.give("slow.xsb")
     tab.ask("make(), 0")
     check.same("the page answers while the program runs", [False, True], tab.ask(
