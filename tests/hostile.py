@@ -141,7 +141,7 @@ def names(cases: Cases) -> None:
             with open(path, "wb") as file:
                 file.write(data + ONE.encode())
             attack(cases, f"{what}a file named {name!r}", ["convert", "out", f"in{at}"], status,
-                   "1 levels")
+                   "1 level")
 
 
 def texts(cases: Cases) -> None:
@@ -175,9 +175,9 @@ def devices(cases: Cases) -> None:
     write("in/a.xsb", ONE)
     attack(cases, "a link to itself", ["convert", "out", "loop"], 2, "cannot read loop")
     attack(cases, "a device without an end", ["convert", "out", "zero.xsb"], 2, "zero.xsb")
-    attack(cases, "a pipe in a folder", ["convert", "out", "in"], 0, "1 levels")
+    attack(cases, "a pipe in a folder", ["convert", "out", "in"], 0, "1 level")
     with subprocess.Popen(["bash", "-c", f"echo {quote(PLAIN)} >pipe"]):
-        attack(cases, "a pipe that is named", ["convert", "out", "pipe"], 0, "1 levels")
+        attack(cases, "a pipe that is named", ["convert", "out", "pipe"], 0, "1 level")
 
 
 def full_disk(cases: Cases) -> None:
@@ -237,7 +237,7 @@ def many_files(cases: Cases) -> None:
         os.chdir("d")
     write("a.txt", PLAIN)
     os.chdir(here)
-    attack(cases, "a file in 300 folders", ["convert", "out", "d"], 0, "1 levels")
+    attack(cases, "a file in 300 folders", ["convert", "out", "d"], 0, "1 level")
 
 
 def system_calls(cases: Cases) -> None:
