@@ -1,4 +1,4 @@
-use Rattle.std.proofs.Common.{arith}
+use Rattle.std.proofs.Common.{arith, ◌≡◌, length}
 use Rattle.patterns.{specs.Arena.list_in, proofs.Arenas.listed_at}
 use Rattle.closure.proofs.Entries.{entries_more}
 use Rattle.closure.proofs.scan.enter_each.Goals as goal
@@ -28,3 +28,11 @@ push_reserved-requires g c =
     let test = c.loop-line-test.true in
     let len = c.len-line-end.ensures in
     omega arith
+
+pub returns : goal.returns
+returns g c =
+    let test = c.loop-line-test.false in
+    let most = c.loop-line.auto.line-end in
+    let len = c.len-line-end.ensures in
+    let end : c.loop-line.line ≡ length c.args.arena.now.lines.items = omega arith in
+    rw end at c.loop-line.invariant.entries
