@@ -119,13 +119,16 @@ def beside(check: Comparison, tab: Tab) -> None:
 
 def kept(check: Comparison, tab: Tab) -> None:
     """Certificates among levels, and what 'sokotool check' wrote."""
-    with open("whole.zip", "wb") as file:
-        file.write(zipped({"a.xsb": CORNER.encode(),
-                           "a.answers": HEADER + b"level 1\nunsolvable\npattern 2,2 @ *\nend\n"}))
-    tab.give("whole.zip")
-    check.same("certificates in an archive", ["a.answers: its certificates aren't read from here"],
-               [it[:49] for it in tab.told()])
-    write("whole.xsb", f"{CORNER}\n{HEADER.decode()}level 1\nunsolvable\npattern 2,2 @ *\nend\n")
+    answers = HEADER + b"level 1\nunsolvable\npattern 2,2 @ *\nend\n"
+    whole = CORNER.encode() + b"\n" + answers
+    for name, data in (("a.answers", answers), ("b.xsb", whole)):
+        with open("whole.zip", "wb") as file:
+            file.write(zipped({"a.xsb": CORNER.encode(), name: data}))
+        tab.give("whole.zip")
+        check.same(f"certificates in an archive, in {name}",
+                   [f"{name}: its certificates aren't read from here"],
+                   [it[:40 + len(name)] for it in tab.told() if "certificates" in it])
+    write("whole.xsb", whole.decode())
     tab.give("whole.xsb")
     check.same("certificates below levels", "level 1 unsolvable patterns 1",
                tab.text("lines").splitlines()[0])

@@ -37,7 +37,8 @@ def judging(check: Comparison, tab: Tab) -> None:
         check.same(f"not drawn: {change}", 0, len(tab.seen(".level svg")))
 
 
-# Each read of a file of some length, each message of a thread and each start of one comes late.
+# Each read of a file of some length, each message of a thread and each start of one comes late. The
+# thread that audited the example ends, so this holds from now on.
 SLOW = """{
     const parts = $("thread"), Plain = globalThis.Worker;
     parts.textContent = `{
@@ -52,6 +53,7 @@ SLOW = """{
             super.onmessage = event => setTimeout(() => does(event), 40);
         }
     };
+    runner.stop();
 } 0"""
 PASTED = (f"$('levels').value = {CORNER!r}; $('levels').dispatchEvent("
           "new Event('paste', { bubbles: true })); 0")
