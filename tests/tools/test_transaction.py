@@ -5,6 +5,7 @@ import json
 import os
 import random
 import signal
+import sys
 import unittest.mock
 from typing import Any, Callable, Dict, Iterator, List
 
@@ -12,7 +13,7 @@ from sokotool import system, texts, transaction
 
 from . import disk
 from .ending import Killed
-from .helping import Case, not_on_windows
+from .helping import LACKING, Case, not_on_windows
 
 OLD = {"a": b"old a\n", "b": b"old b\n", "gone": b"old\n"}
 NEW = {"a": b"new a\n", "b": b"new b\n", "fresh": b"new\n"}
@@ -343,6 +344,7 @@ class Transactions(Case):
         self.assertEqual(modes, [0o600] * 3)
 
 
+@unittest.skipIf(LACKING or sys.platform != "linux", "only Linux renames without replacing there")
 class WithoutLinks(Transactions):
     """A file system without hard links, as FAT."""
 
