@@ -3,7 +3,6 @@ a word, and what is counted is right at its edge."""
 import contextlib
 import itertools
 import os
-import pty
 import random
 import signal
 import struct
@@ -120,6 +119,7 @@ class Parts(Case):
 def on_terminal(columns: int) -> Iterator[int]:
     """Standard error is a terminal of this width, whose other end is yielded."""
     import fcntl
+    import pty
     import termios
     ours, theirs = pty.openpty()
     fcntl.ioctl(theirs, termios.TIOCSWINSZ, struct.pack("HHHH", 5, columns, 0, 0))
