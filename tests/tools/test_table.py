@@ -8,7 +8,8 @@ from typing import List, Optional, Tuple
 from sokotool import auditor
 from tests.tools import helping
 from tests.tools.browser import PROGRAM as BROWSER
-from tests.tools.helping import Case, Result, is_slow, needs_a_memory_limit, used
+from tests.tools.helping import (Case, Result, is_slow, needs_a_memory_limit, needs_program,
+                                 used)
 from tests.tools.test_page import data_of
 from tests.tools.viewing import shared
 
@@ -59,6 +60,7 @@ class Table(Case):
             "\tben\t\t\t\t\t\t\tanswers line 9 unclosed"])
         self.assertEqual(result.status, 1)
 
+    @needs_program
     def test_entrants_with_exports(self) -> None:
         """Exports with boards, lists by number, and a file with a byte order mark count like
         answers files. What the levels' own file has below a level is nobody's answer."""
@@ -79,6 +81,7 @@ class Table(Case):
                          (1, "table: hugo.txt line 1: no level in this file\n"))
         self.assertEqual(len(data_of(self.read("table.html"))["levels"]), 6)
 
+    @needs_program
     def test_records_in_any_order(self) -> None:
         """Records out of order count, of several for a level the best, and one of a level that
         isn't there costs no other."""
