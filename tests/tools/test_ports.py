@@ -42,6 +42,12 @@ class Retarget(Case):
         self.assertEqual(re.findall(r"(?:load|store) \w+", made), ["load i64", "store i64"])
         self.assertEqual(re.findall(r"\w+toptr i64 \S+|ptrto\w+ ptr \S+", made),
                          ["inttoptr i64 %q.wide", "ptrtoint ptr %q"])
+        text = ("@s = private constant <{ ptr, [16 x i8] }> <{ ptr getelementptr "
+                '(i8, ptr @s, i64 16), [16 x i8] c"\\03" }>, align 8\n')
+        self.assertIn("@s = private constant <{ i32, i32, [16 x i8] }> <{ i32 ptrtoint (ptr "
+                      "getelementptr (i8, ptr @s, i64 16) to i32), i32 0, [16 x i8] ",
+                      self.made("wasm32", text)[1])
+        self.assertIn(text, self.made("arm64", text)[1])
         said = self.made("wasm32", "  store { i8, i8, ptr } %v, ptr %p, align 8\n")[0]
         self.assertRegex(said, "retarget: line 11 keeps a pointer in an unknown form: (.|\n)*"
                                "status 1")
