@@ -43,9 +43,10 @@
 extern "C" {
 #endif
 
-/* The version of the program and of this header, and the same as a number: 10000, 100 and 1 times its three parts. */
+/* The version of the program and of this header, and the same as a number: 10000, 100 and 1 times its three parts. A version that ends in -dev
+   has the number of the release that it becomes. */
 #define SOKOAUDIT_VERSION "0.3.0-dev"
-#define SOKOAUDIT_VERSION_NUMBER 200
+#define SOKOAUDIT_VERSION_NUMBER 300
 
 /* The limits. */
 #define SOKOAUDIT_MOST_BYTES 33554432 /* of a level text, and of an answers text, the lines around a body included */

@@ -149,8 +149,8 @@ def constants(cases: Cases, program: str) -> None:
     header = read(f"{TOP}/include/sokoaudit.h")
     module = Library("out/lib/libsokoaudit.so").module
     version = run([program, "--version"]).split()[1]
-    number = "".join(it.zfill(2) for it in version.split(".")).lstrip("0")
-    found = *re.findall(r"VERSION(?:_NUMBER)? \"?([0-9.]+)", header), module.VERSION
+    number = "".join(it.zfill(2) for it in version.split("-")[0].split(".")).lstrip("0")
+    found = *re.findall(r"VERSION(?:_NUMBER)? \"?([0-9a-z.-]+)", header), module.VERSION
     cases.same("the version", f"{version} {number} {version}", " ".join(found))
     for name, prefix in (("status", "SOKOAUDIT_"), ("why", "SOKOAUDIT_WHY_"),
                          ("kind", "SOKOAUDIT_")):
