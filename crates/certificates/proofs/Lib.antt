@@ -1,1 +1,4 @@
+pub mod CellLists
+pub mod Counts
 pub mod RegionCells
+pub mod Sets

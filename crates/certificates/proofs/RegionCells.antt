@@ -6,7 +6,7 @@ use Rattle.std.specs.FinSet as set
 use Rattle.cellset.specs.{Cell.IsOn, CellSet.Cells, CellSet.Has, CellSet.Lacks, declared.cell.Cell.Cell}
 use Rattle.reach.specs.{Region.InRegion, Region.at_seed, Region.beside}
 use Rattle.board.specs.{Game.Level, Board.IsWellFormed}
-use Rattle.cell_lists.proofs.Sets.{has_difference, in_difference}
+use Rattle.certificates.proofs.Sets.{has_difference, in_difference}
 use Rattle.certificates.specs.Pattern.{Pattern, whole_room, InPatternRegion}
 
 -- A region has no box.

@@ -1,3 +1,4 @@
+pub mod CellLists
 pub mod Pattern
 pub mod Closed
 pub mod Zone
@@ -9,4 +10,3 @@ pub use Rattle.reach.specs.Pushes
 pub use Rattle.board.specs.Game
 pub use Rattle.board.specs.Board
 pub use Rattle.answers.specs.Body
-pub use Rattle.cell_lists.specs.CellLists

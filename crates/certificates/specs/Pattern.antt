@@ -15,7 +15,7 @@ use Rattle.cellset.specs.{Cell.IsOn, CellSet.Cells, CellSet.Has, CellSet.Lacks, 
 use Rattle.reach.specs.{Region.InRegion, Pushes.IsPushOut, Pushes.PushBefore, declared.pushes.Push.Push}
 use Rattle.board.specs.Game.{Level, State, moved}
 use Rattle.answers.specs.{declared.pattern.Coord.Coord, Body.PatternLine}
-use Rattle.cell_lists.specs.CellLists.{cells_of}
+use Rattle.certificates.specs.CellLists.{cells_of}
 
 -- where the region of a pattern begins
 pub data Seeds : Type 0 where

@@ -9,7 +9,7 @@ use Rattle.cellset.proofs.{ReadingOrder.before_or_after, Truth.either}
 use Rattle.reach.{specs.Pushes.dir_rank, proofs.PushOrder.same_dir, proofs.PushOrder.push_before_or_after}
 use Rattle.board.specs.Game.{Level}
 use Rattle.answers.specs.Body.{PatternLine, ZoneLine}
-use Rattle.cell_lists.specs.CellLists.{cells_of}
+use Rattle.certificates.specs.CellLists.{cells_of}
 use Rattle.closure.specs.declared.fault.LineWhy.{LineWhy, TheVariants.Board, TheVariants.Wall, TheVariants.Seed, TheVariants.Goals}
 use Rattle.closure.specs.declared.fault.CheckFault.{CheckFault, TheVariants.Line, TheVariants.Start, TheVariants.Push, TheVariants.Memory}
 use Rattle.certificates.specs.Zone.{IsZoneOnBoard, IsZoneOffWalls, IsRefuting}

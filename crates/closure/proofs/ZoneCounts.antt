@@ -8,8 +8,8 @@ use Rattle.cellset.specs.{Cell.neighbor, Cell.opposite, CellSet.Cells, CellSet.H
 use Rattle.cellset.proofs.Members.{has_or_lacks, not_both, kept_by_insert, kept_by_remove, has_remove, lacks_where}
 use Rattle.cellset.proofs.Neighbors.{neighbor_back}
 use Rattle.board.specs.{Game.Level, Game.State, Game.IsFloor, Game.moved, Game.start, Game.Walks, Game.Pushes, Game.Plays, Game.Solvable, Board.IsWellFormed}
-use Rattle.cell_lists.proofs.Counts.{common_more, len-within}
-use Rattle.cell_lists.proofs.Sets.{has_intersection, in_intersection, put_back, removed_lacks}
+use Rattle.certificates.proofs.Counts.{common_more, len-within}
+use Rattle.certificates.proofs.Sets.{has_intersection, in_intersection, put_back, removed_lacks}
 use Rattle.certificates.specs.Zone.{count_in, IsClosedZone, IsRefuting}
 use Rattle.patterns.proofs.Moves.{AreOnFloor, moved_on_floor}
 

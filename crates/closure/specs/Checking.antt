@@ -1,6 +1,6 @@
 -- What the check of a list line by line keeps.
 use Rattle.std.specs.Prelude.{◌≡◌, ℕ, Some}
-use Rattle.cell_lists.specs.CellLists.{cells_in}
+use Rattle.certificates.specs.CellLists.{cells_in}
 use Rattle.patterns.specs.{Groups.boxes_of, Lookups.AreLookups, Lookups.IsRest, Piece.IsFreeOf, declared.tables.Tables.Tables}
 use Rattle.closure.specs.declared.checking.Checker.{Checker}
 

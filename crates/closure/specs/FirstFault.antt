@@ -11,7 +11,7 @@ use Rattle.cellset.specs.{Cell.IsOn, Cell.Before, CellSet.Cells, CellSet.Has, Ce
 use Rattle.reach.specs.{Pushes.dir_rank, declared.pushes.Push.Push as PushOut}
 use Rattle.board.specs.Game.{Level, start}
 use Rattle.answers.specs.Body.{PatternLine, ZoneLine}
-use Rattle.cell_lists.specs.CellLists.{cells_of}
+use Rattle.certificates.specs.CellLists.{cells_of}
 use Rattle.closure.specs.declared.fault.LineWhy.{LineWhy, TheVariants.Board, TheVariants.Wall, TheVariants.Seed, TheVariants.Goals}
 use Rattle.closure.specs.declared.fault.CheckFault.{CheckFault, TheVariants.Line, TheVariants.Start, TheVariants.Push, TheVariants.Memory}
 use Rattle.closure.specs.declared.fault.{ZoneLineWhy.ZoneLineWhy, ZoneFault.ZoneFault}

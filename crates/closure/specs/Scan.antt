@@ -4,7 +4,7 @@ use Rattle.std.specs.{Prelude.◌≡◌, Prelude.◌<◌, Prelude.◌↔◌, Pre
 use Rattle.std.specs.Coded.{Coded, code_by, coded×, coded_ℕ, coded_list, coded_option}
 use Rattle.cellset.specs.{Shape.Extent, Coding.coded_cell, Coding.coded_cells, CellSet.Cells, CellSet.Has, CellSet.Lacks, declared.cell.Cell.Cell}
 use Rattle.board.specs.Game.{Level, State}
-use Rattle.cell_lists.specs.CellLists.{cells_in}
+use Rattle.certificates.specs.CellLists.{cells_in}
 use Rattle.certificates.specs.Pattern.{Pattern, InPatternRegion}
 use Rattle.patterns.specs.Arena.{pattern_at}
 

@@ -10,8 +10,8 @@ ghost use Rattle.closure.specs.FirstFault.{IsFirstPatternFault};
 
 use crate::fault::CheckFault;
 use board::Board;
-use cell_lists::are_in;
 use cellset::CellSet;
+use certificates::are_in;
 use patterns::{Arena, Lookups, Tables, Task, find_trap, note_hinted};
 use reach::Rows;
 use std::alloc::{AllocError, Global};

@@ -1,20 +1,20 @@
 //! Which patterns may be in a list.
 ghost use Rattle.std.specs.Prelude.{IfOk, MatchBool, MatchOption};
 ghost use Rattle.cellset.specs.{Cell.IsOn, CellSet.Has, CellSet.Lacks, declared.cell.Cell.Cell as GridCell};
-ghost use Rattle.cell_lists.specs.CellLists.{cells_in};
+ghost use Rattle.certificates.specs.CellLists.{cells_in};
 ghost use Rattle.certificates.specs.Pattern.{IsLawful};
 ghost use Rattle.patterns.specs.Arena.{IsOnGrid, IsStored, stored_pattern};
 ghost use Rattle.closure.specs.FirstFault.{IsUnlawful};
 
 use crate::fault::LineWhy;
 use board::Board;
-use cell_lists::{are_in, are_outside, load, number_of};
 use cellset::{Cell, CellSet, Shape};
+use certificates::{are_in, are_outside, load, number_of};
 use patterns::{Arena, StoredLine, part};
 use std::alloc::{AllocError, Global};
 
 // Returns whether no seed is one of the boxes.
-#[tactic(auto, using(cell_lists::proofs::CellLists::over_cells))]
+#[tactic(auto, using(certificates::proofs::CellLists::over_cells))]
 fn are_unnamed(seeds: &[Cell], boxes: &[Cell]) -> bool
     ensures { MatchBool result
         ((c : GridCell) → Has (cells_in seeds.now) c → Lacks (cells_in boxes.now) c)

@@ -5,15 +5,15 @@ ghost use Rattle.cellset.specs.{Cell.IsOn, CellSet.Has, declared.dir.Dir.Dir as 
 ghost use Rattle.reach.specs.Pushes.{dir_rank};
 ghost use Rattle.board.specs.{Board.IsWellFormed, Game.Solvable};
 ghost use Rattle.answers.specs.{Body.ZoneLine, Grammar.said_zone};
-ghost use Rattle.cell_lists.specs.CellLists.{cells_of};
+ghost use Rattle.certificates.specs.CellLists.{cells_of};
 ghost use Rattle.closure.specs.{declared.fault.ZoneFault.ZoneFault as Fault, FirstFault.IsFirstLeak, FirstFault.IsFirstZoneFault};
 ghost use Rattle.certificates.specs.Zone.{count_in as cells_in, Leaks, IsClosedZone, IsZoneOnBoard, IsZoneOffWalls, IsRefuting};
 
 use crate::fault::{ZoneFault, ZoneLineWhy};
 use answers::Zone;
 use board::Board;
-use cell_lists::{add_cells, are_outside, load};
 use cellset::{Cell, CellSet, Dir, MembersOf};
+use certificates::{add_cells, are_outside, load};
 use std::alloc::Global;
 
 /// An accepted zone: the number of its cells, each counted once.

@@ -19,8 +19,8 @@ use Rattle.board.specs.Game.{Level, State, IsFloor, start}
 use Rattle.board.specs.Board.{IsWellFormed}
 use Rattle.answers.specs.declared.pattern.Coord.{Coord}
 use Rattle.answers.specs.Body.{PatternLine}
-use Rattle.cell_lists.specs.CellLists.{cell_of}
-use Rattle.cell_lists.proofs.CellLists.{of_cells}
+use Rattle.certificates.specs.CellLists.{cell_of}
+use Rattle.certificates.proofs.CellLists.{of_cells}
 use Rattle.certificates.specs.Pattern.{Pattern, whole_room, pattern_of, patterns_of, Covers, IsCovered, PushesOut, after_push, IsLawful, CoversPushesOf}
 use Rattle.certificates.specs.Closed.{Closed}
 use Rattle.certificates.proofs.RegionCells.{room_outside}

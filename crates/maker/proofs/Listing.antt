@@ -21,8 +21,8 @@ use Rattle.cellset.specs.Members.{AreMembersOf}
 use Rattle.answers.specs.declared.pattern.Coord.{Coord}
 use Rattle.answers.specs.declared.pattern.Pattern.{Pattern}
 use Rattle.answers.specs.Grammar.{IsCell, IsCellList, IsBefore, AreInOrder, said_pattern}
-use Rattle.cell_lists.specs.CellLists.{cell_of, cells_of}
-use Rattle.cell_lists.proofs.CellLists.{in_cells, in_list}
+use Rattle.certificates.specs.CellLists.{cell_of, cells_of}
+use Rattle.certificates.proofs.CellLists.{in_cells, in_list}
 use Rattle.cellset.proofs.CellLists.{has_listed}
 use Rattle.maker.specs.Made.{made_pattern, lone_patterns}
 

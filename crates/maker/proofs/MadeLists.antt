@@ -25,7 +25,7 @@ use Rattle.answers.specs.declared.pattern.Coord.{Coord}
 use Rattle.answers.specs.declared.pattern.Pattern.{Pattern}
 use Rattle.answers.specs.Grammar.{IsPattern, said_pattern, most_patterns}
 use Rattle.answers.specs.Body.{PatternLine}
-use Rattle.cell_lists.specs.CellLists.{cell_of, cells_of}
+use Rattle.certificates.specs.CellLists.{cell_of, cells_of}
 use Rattle.maker.specs.Dead.{AreDead}
 use Rattle.maker.specs.Frozen.{IsLargestFrozen}
 use Rattle.maker.specs.Made.{IsListOf, lone_patterns, AreLonePatterns, IsWholePattern, HasDeadBox, IsMadeOfDead, IsMadeOfFrozen, HasNoList}

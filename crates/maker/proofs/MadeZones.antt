@@ -12,8 +12,8 @@ use Rattle.board.specs.Board.{IsWellFormed}
 use Rattle.answers.specs.declared.pattern.Coord.{Coord}
 use Rattle.answers.specs.Grammar.{IsZone}
 use Rattle.answers.specs.Body.{ZoneLine}
-use Rattle.cell_lists.specs.CellLists.{cells_of}
-use Rattle.cell_lists.proofs.Sets.{has_intersection}
+use Rattle.certificates.specs.CellLists.{cells_of}
+use Rattle.certificates.proofs.Sets.{has_intersection}
 use Rattle.certificates.specs.Zone.{IsRefuting}
 use Rattle.maker.specs.Zones.{IsLeastZone}
 use Rattle.maker.specs.Made.{IsListOf, IsLeastZoneLine}

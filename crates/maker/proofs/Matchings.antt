@@ -15,7 +15,7 @@ use Rattle.cellset.proofs.MemberLists.{next_has, came_before, all_came}
 use Rattle.cellset.specs.Members.{AreMembersOf}
 use Rattle.std.specs.List.{Contains}
 use Rattle.std.proofs.lemmas.List.Elements.{Contains-append_left, Contains-push, Contains-push_cases}
-use Rattle.cell_lists.proofs.Counts.{len-insert_new}
+use Rattle.certificates.proofs.Counts.{len-insert_new}
 use Rattle.maker.proofs.Listing.{came_earlier}
 use Rattle.cellset.proofs.Truth.{either}
 use Rattle.board.specs.Game.{Level}

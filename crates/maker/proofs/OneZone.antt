@@ -14,8 +14,8 @@ use Rattle.cellset.proofs.ReadingOrder.{has_where, in_where}
 use Rattle.cellset.proofs.Truth.{and_parts, not_true}
 use Rattle.board.specs.Game.{Level, IsFloor}
 use Rattle.board.specs.Board.{IsWellFormed}
-use Rattle.cell_lists.proofs.Counts.{len-within}
-use Rattle.cell_lists.proofs.Sets.{has_intersection, in_intersection}
+use Rattle.certificates.proofs.Counts.{len-within}
+use Rattle.certificates.proofs.Sets.{has_intersection, in_intersection}
 use Rattle.certificates.specs.Zone.{count_in, IsRefuting}
 use Rattle.maker.specs.Zones.{IsCrowded, IsLeastZone}
 use Rattle.maker.proofs.Pairings.{count_within}

@@ -17,11 +17,11 @@ use Rattle.cellset.specs.declared.cell.Cell.{Cell}
 use Rattle.cellset.proofs.Members.{inserted, kept_by_insert, has_insert, has_empty, same_members, lacks_where}
 use Rattle.cellset.proofs.Truth.{either}
 use Rattle.answers.specs.declared.pattern.Coord.{Coord}
-use Rattle.cell_lists.specs.CellLists.{cell_of, cells_of}
-use Rattle.cell_lists.proofs.CellLists.{cells_push}
+use Rattle.certificates.specs.CellLists.{cell_of, cells_of}
+use Rattle.certificates.proofs.CellLists.{cells_push}
 use Rattle.reach.specs.Bits.{Bit}
 use Rattle.reach.proofs.Words.{bit_and_l, bit_cleared, bit_not_cleared, bit_of, le_by_bits, less_by_bit, no_bit_zero, not_both}
-use Rattle.cell_lists.proofs.Counts.{len-insert_new}
+use Rattle.certificates.proofs.Counts.{len-insert_new}
 use Rattle.maker.specs.Listed.{IsEarlier, IsListedTo}
 use Rattle.maker.specs.Made.{IsListOf}
 use Rattle.maker.proofs.Listing.{in_order_push, listed_cell}

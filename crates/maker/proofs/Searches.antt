@@ -16,7 +16,7 @@ use Rattle.cellset.specs.declared.cell.Cell.{Cell}
 use Rattle.cellset.proofs.Members.{not_both, has_empty, lacks_where, kept_by_remove, has_remove, same_members}
 use Rattle.cellset.proofs.Truth.{either}
 use Rattle.reach.specs.Reached.{Reached, at_seed, by_step, PushesTo, IsClosedUnder}
-use Rattle.cell_lists.proofs.Counts.{len-remove_member}
+use Rattle.certificates.proofs.Counts.{len-remove_member}
 use Rattle.board.specs.Game.{Level, IsFloor}
 use Rattle.board.specs.Board.{IsWellFormed}
 use Rattle.maker.specs.Matching.{InReach, IsHallViolator}

@@ -19,7 +19,7 @@ use Rattle.board.specs.Game.{Level}
 use Rattle.board.specs.Board.{IsWellFormed}
 use Rattle.cellset.proofs.Neighbors.{neighbor_back}
 use Rattle.cellset.proofs.Truth.{either}
-use Rattle.cell_lists.proofs.Counts.{len-remove_member}
+use Rattle.certificates.proofs.Counts.{len-remove_member}
 use Rattle.maker.specs.Frozen.{IsHeld, IsFrozen, IsLargestFrozen}
 use Rattle.maker.specs.Review.{IsReviewed}
 

@@ -18,7 +18,7 @@ use Rattle.answers.specs.declared.record.MadeBody.TheVariants as body
 use Rattle.answers.specs.Grammar.{AreInOrder, IsPattern, most_patterns, said_pattern, said_zone}
 use Rattle.answers.specs.RoundTrip.{IsLawfulBody}
 use Rattle.answers.specs.Body.{PatternLine, ZoneLine}
-use Rattle.cell_lists.specs.CellLists.{cells_of}
+use Rattle.certificates.specs.CellLists.{cells_of}
 use Rattle.certificates.specs.Pattern.{patterns_of}
 use Rattle.certificates.specs.Closed.{Closed}
 use Rattle.certificates.specs.Zone.{IsRefuting}

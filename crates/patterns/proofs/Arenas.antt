@@ -5,7 +5,7 @@ use Rattle.std.{specs.Prelude.map, specs.List.Contains, proofs.lemmas.List.get_o
 use Rattle.std.specs.FinSet as set
 use Rattle.std.proofs.lemmas.List.{get_or_default}
 use Rattle.cellset.specs.declared.cell.Cell.{Cell}
-use Rattle.cell_lists.specs.CellLists.{cell_of, cells_of, cells_in}
+use Rattle.certificates.specs.CellLists.{cell_of, cells_of, cells_in}
 use Rattle.certificates.specs.Pattern.{pattern_of}
 use Rattle.patterns.specs.declared.arena.Arena.{Arena}
 use Rattle.patterns.specs.Arena.{boxes_at, coord_of, line_at, line_in, lines_in, list_in, pattern_at}

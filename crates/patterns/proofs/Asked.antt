@@ -3,7 +3,7 @@ use Rattle.std.proofs.Common.{◌≡◌, ◌⊎◌, ℕ, ◌<◌, List, length, 
 use Rattle.std.specs.List.{Contains}
 use Rattle.cellset.{specs.CellSet.Has, specs.declared.cell.Cell.Cell, proofs.Truth.either}
 use Rattle.reach.specs.declared.pushes.Push.{Push}
-use Rattle.cell_lists.specs.CellLists.{cells_in}
+use Rattle.certificates.specs.CellLists.{cells_in}
 use Rattle.patterns.specs.{Buckets.AreBuckets, Piece.AreInPiece, Place.IsSubset, Run.state_after, Groups.position_at, Search.IsPassed, Search.IsSearch, Search.IsSearched}
 use Rattle.patterns.specs.Settling.{AreTaken, CoversNone, HasAsked, IsOnward, IsSettled, IsSettling, IsTask}
 use Rattle.patterns.specs.declared.{buckets.Buckets.Buckets, task.Task.Task, unsettled.Unsettled.Unsettled}

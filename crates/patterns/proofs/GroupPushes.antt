@@ -10,8 +10,8 @@ use Rattle.cellset.specs.declared.dir.Dir.TheVariants.{L, U, R, D}
 use Rattle.cellset.proofs.Neighbors.{neighbor_back}
 use Rattle.reach.specs.{declared.pushes.Push.Push}
 use Rattle.board.specs.Game.{Level, moved}
-use Rattle.cell_lists.specs.CellLists.{cell_no, cells_in}
-use Rattle.cell_lists.proofs.CellLists.{in_list, no_cell}
+use Rattle.certificates.specs.CellLists.{cell_no, cells_in}
+use Rattle.certificates.proofs.CellLists.{in_list, no_cell}
 use Rattle.cellset.proofs.CellLists.{has_listed}
 use Rattle.certificates.specs.Pattern.{Pattern, InPatternRegion, IsCovered, PushesOut, after_push, CoversPushesOf}
 use Rattle.patterns.specs.{Arena.pattern_at, Run.state_after, declared.groups.Groups.Groups, declared.pushes.PushedBox.PushedBox}

@@ -11,8 +11,8 @@ use Rattle.cellset.proofs.Members.{has_empty}
 use Rattle.reach.specs.{Region.InRegion, Region.IsFree, Reached.Reached, Reached.at_seed, Reached.by_step, Reached.WalksTo}
 use Rattle.reach.specs.Region as region
 use Rattle.board.specs.{Game.Level, Game.State, Game.IsFloor, Board.IsWellFormed}
-use Rattle.cell_lists.specs.CellLists.{cells_in}
-use Rattle.cell_lists.proofs.Sets.{has_difference, has_union, in_difference, in_union_left, in_union_right}
+use Rattle.certificates.specs.CellLists.{cells_in}
+use Rattle.certificates.proofs.Sets.{has_difference, has_union, in_difference, in_union_left, in_union_right}
 use Rattle.certificates.specs.Pattern.{Pattern, Seeds, whole_room, listed, seed_cells, Covers, InPatternRegion, IsCovered}
 use Rattle.certificates.specs.Pattern.{IsLawful, AreLawful, IsListedSeed}
 use Rattle.patterns.specs.{Arena.pattern_at, declared.groups.Groups.Groups}

@@ -4,7 +4,7 @@ use Rattle.std.{specs.Prelude.slice_index, proofs.lemmas.Bool.cases_lt}
 use Rattle.std.proofs.lemmas.List.{get_or_default}
 use Rattle.cellset.{specs.SortedList.index, specs.CellSet.Has, specs.declared.cell.Cell.Cell, proofs.ReadingOrder.below_index}
 use Rattle.board.specs.{Game.Level, Game.State, Board.IsWellFormed}
-use Rattle.cell_lists.specs.CellLists.{cells_in}
+use Rattle.certificates.specs.CellLists.{cells_in}
 use Rattle.cellset.proofs.CellLists.{has_listed}
 use Rattle.certificates.specs.Pattern.{IsCovered, AreLawful}
 use Rattle.patterns.specs.{Buckets.IsInBucket, Chains.AreChains, Chains.IsLast}

@@ -4,7 +4,7 @@ use Rattle.std.{specs.Prelude.map, specs.List.Contains, proofs.lemmas.Bool.cases
 use Rattle.std.proofs.lemmas.List.{get_or-map, get_or_append_left, get_or_push, length-append, length-map}
 use Rattle.cellset.specs.declared.dir.Dir.TheVariants.{L}
 use Rattle.reach.specs.declared.pushes.Push.{Push}
-use Rattle.cell_lists.proofs.CellLists.{no_cell}
+use Rattle.certificates.proofs.CellLists.{no_cell}
 
 -- The push that a read past the end of a list gives.
 abbrev pub no_push : Push

@@ -9,8 +9,8 @@ use Rattle.cellset.specs.{Cell.IsOn, Cell.neighbor, Cell.opposite, CellSet.Cells
 use Rattle.cellset.proofs.{Members.not_both, Neighbors.neighbor_back, Truth.either}
 use Rattle.reach.specs.declared.pushes.Push.{Push}
 use Rattle.board.specs.Game.{Level}
-use Rattle.cell_lists.specs.CellLists.{cell_no, cells_in}
-use Rattle.cell_lists.proofs.CellLists.{in_list, no_cell}
+use Rattle.certificates.specs.CellLists.{cell_no, cells_in}
+use Rattle.certificates.proofs.CellLists.{in_list, no_cell}
 use Rattle.certificates.specs.Pattern.{Pattern, InPatternRegion, CoversPushesOf}
 use Rattle.patterns.specs.{Sides.IsAround, Run.state_after, Trap.AreOff, Tables.GroupCovers, Place.IsSubset, Piece.AreInPiece}
 use Rattle.patterns.specs.{declared.groups.Groups.Groups, declared.sides.Sides.Sides, declared.task.Task.Task, Groups.boxes_of, Groups.list_of, Groups.position_at}

@@ -5,8 +5,8 @@ use Rattle.std.{specs.Prelude.◌⊎◌, specs.Prelude.slice_index, proofs.lemma
 use Rattle.std.proofs.lemmas.List.{get_or_default}
 use Rattle.cellset.specs.{Shape.Extent, Cell.IsOn, CellSet.Has, SortedList.index, declared.cell.Cell.Cell}
 use Rattle.cellset.proofs.{Truth.either}
-use Rattle.cell_lists.specs.CellLists.{cell_no, cells_in}
-use Rattle.cell_lists.proofs.CellLists.{in_list, no_cell}
+use Rattle.certificates.specs.CellLists.{cell_no, cells_in}
+use Rattle.certificates.proofs.CellLists.{in_list, no_cell}
 use Rattle.cellset.proofs.CellLists.{has_listed}
 use Rattle.patterns.specs.{Chains.IsLast, Search.IsPassed, Search.IsSearch, declared.groups.Groups.Groups, declared.buckets.Buckets.Buckets, declared.search.Search.Search}
 

@@ -10,7 +10,7 @@ use Rattle.cellset.proofs.Members.{has_or_lacks, has_remove, kept_by_remove, lac
 use Rattle.cellset.proofs.{Neighbors.neighbor_back, ReadingOrder.below_index, ReadingOrder.index_apart}
 use Rattle.reach.specs.Region.{Joined, at_seed, beside}
 use Rattle.board.specs.{Game.Level, Game.IsFloor, Board.IsWellFormed}
-use Rattle.cell_lists.proofs.Sets.{removed_lacks}
+use Rattle.certificates.proofs.Sets.{removed_lacks}
 use Rattle.patterns.specs.{SpanningTree.AreJoinedBeside, SpanningTree.AreNodes, SpanningTree.IsGrowing, SpanningTree.IsNumbered}
 use Rattle.patterns.{specs.declared.tree.Node.Node, specs.declared.tree.Tree.Tree, proofs.Lists.old_item, proofs.Lists.new_item, proofs.Lists.length_more}
 

@@ -7,7 +7,7 @@ use Rattle.std.proofs.lemmas.List.{append-nil, drop-append-le, drop_at, get_or-m
 use Rattle.std.proofs.lemmas.List.Elements.{All-contains_itself, All-head, All-tail, Contains-push_cases}
 use Rattle.cellset.specs.declared.cell.Cell.{Cell}
 use Rattle.answers.specs.{declared.pattern.Coord.Coord, Body.PatternLine}
-use Rattle.cell_lists.specs.CellLists.{cell_of}
+use Rattle.certificates.specs.CellLists.{cell_of}
 use Rattle.patterns.specs.{Arena.coord_of, Arena.line_in, Spans.AreSpans}
 use Rattle.patterns.specs.{Spans.AreWithin, Spans.IsWithin, Spans.part, declared.arena.Span.Span}
 use Rattle.patterns.{specs.declared.arena.StoredLine.StoredLine, proofs.Lists.length_more, proofs.Lists.new_item, proofs.Lists.old_item}

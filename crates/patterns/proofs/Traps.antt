@@ -9,8 +9,8 @@ use Rattle.cellset.proofs.Members.{has_empty, has_insert, has_only, has_remove, 
 use Rattle.cellset.proofs.{Neighbors.neighbor_back, Truth.either}
 use Rattle.reach.specs.declared.pushes.Push.{Push}
 use Rattle.board.specs.{Game.Level, Game.State, Game.IsFloor, Game.moved, Game.start, Board.IsWellFormed}
-use Rattle.cell_lists.specs.CellLists.{cells_in}
-use Rattle.cell_lists.proofs.Sets.{other_member, other_where}
+use Rattle.certificates.specs.CellLists.{cells_in}
+use Rattle.certificates.proofs.Sets.{other_member, other_where}
 use Rattle.certificates.specs.Pattern.{Pattern, InPatternRegion, IsCovered, PushesOut, after_push}
 use Rattle.patterns.specs.Trap.{AreOff, IsTrapOf, single}
 use Rattle.certificates.proofs.RegionCells.{region_on, room_outside}

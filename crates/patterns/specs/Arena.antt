@@ -4,7 +4,7 @@ use Rattle.std.specs.Prelude.{◌≡◌, ℕ, ◌⊎◌, length, List, Option, N
 use Rattle.std.specs.FinSet as set
 use Rattle.cellset.specs.{Shape.Extent, Cell.IsOn, CellSet.Has, declared.cell.Cell.Cell}
 use Rattle.answers.specs.{declared.pattern.Coord.Coord, Body.PatternLine}
-use Rattle.cell_lists.specs.CellLists.{cells_in}
+use Rattle.certificates.specs.CellLists.{cells_in}
 use Rattle.certificates.specs.Pattern.{Pattern, Seeds, whole_room, listed, patterns_of, IsListedSeed}
 use Rattle.patterns.specs.declared.arena.CellPattern.{CellPattern}
 use Rattle.patterns.specs.{Spans.IsWithin, Spans.part, declared.arena.StoredLine.StoredLine}

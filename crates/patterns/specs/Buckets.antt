@@ -2,7 +2,7 @@
 use Rattle.std.specs.Prelude.{◌≡◌, ℕ, ◌*◌, ◌<◌, List, length, slice_index}
 use Rattle.cellset.specs.{CellSet.Has, SortedList.index, declared.cell.Cell.Cell}
 use Rattle.board.specs.Game.{Level}
-use Rattle.cell_lists.specs.CellLists.{cells_in}
+use Rattle.certificates.specs.CellLists.{cells_in}
 use Rattle.patterns.specs.{Chains.AreChains, declared.buckets.Buckets.Buckets}
 use Rattle.patterns.specs.{declared.groups.Groups.Groups, Groups.boxes_of}
 

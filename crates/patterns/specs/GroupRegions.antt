@@ -3,7 +3,7 @@
 use Rattle.std.specs.Prelude.{◌≡◌, ◌↔◌, ℕ, ◌+◌, ◌<◌, false, IsTrue, List, length, slice_index_or}
 use Rattle.cellset.specs.{CellSet.Cells, CellSet.Has, CellSet.Lacks, declared.cell.Cell.Cell}
 use Rattle.board.specs.Game.{Level}
-use Rattle.cell_lists.specs.CellLists.{cell_no, cells_in}
+use Rattle.certificates.specs.CellLists.{cell_no, cells_in}
 use Rattle.certificates.specs.Pattern.{InPatternRegion}
 use Rattle.patterns.specs.{Sides.IsAround, Trap.AreOff, declared.group_regions.Region.Region}
 use Rattle.patterns.specs.{declared.group_regions.Regions.Regions, declared.groups.Groups.Groups, Spans.span_at, declared.sides.Sides.Sides}

@@ -3,7 +3,7 @@ use Rattle.std.specs.Prelude.{◌≡◌, ℕ, ◌<◌, ◌≤◌, List, [], ◌�
 use Rattle.std.specs.FinSet as set
 use Rattle.cellset.specs.{CellSet.Cells, CellSet.Has, declared.cell.Cell.Cell}
 use Rattle.board.specs.Game.{Level}
-use Rattle.cell_lists.specs.CellLists.{cells_in}
+use Rattle.certificates.specs.CellLists.{cells_in}
 use Rattle.certificates.specs.Pattern.{Pattern, Seeds, whole_room, listed, seed_cells}
 use Rattle.patterns.specs.Chains.{AreChains}
 use Rattle.patterns.specs.{declared.group_regions.Region.Region, declared.groups.Groups.Groups, Arena.boxes_at, Arena.line_at, Arena.list_in, Arena.pattern_at}

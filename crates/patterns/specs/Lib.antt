@@ -25,5 +25,5 @@ pub use Rattle.board.specs.Game
 pub use Rattle.board.specs.Board
 pub use Rattle.answers.specs.Body
 pub use Rattle.answers.specs.Grammar
-pub use Rattle.cell_lists.specs.CellLists
+pub use Rattle.certificates.specs.CellLists
 pub use Rattle.certificates.specs.Pattern

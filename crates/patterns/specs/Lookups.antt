@@ -4,7 +4,7 @@ use Rattle.std.specs.List.{Contains}
 use Rattle.cellset.specs.CellSet.{Has}
 use Rattle.reach.specs.declared.pushes.Push.{Push}
 use Rattle.board.specs.Game.{Level}
-use Rattle.cell_lists.specs.CellLists.{cells_in}
+use Rattle.certificates.specs.CellLists.{cells_in}
 use Rattle.certificates.specs.Pattern.{IsCovered, PushesOut, after_push}
 use Rattle.patterns.specs.{Around.IsOnePiece, Buckets.AreBuckets, Place.IsPlace, Piece.IsFreeOf, Settling.IsSettling, SpanningTree.IsTree}
 use Rattle.patterns.specs.{Groups.list_of, Groups.position_at, declared.groups.Groups.Groups}

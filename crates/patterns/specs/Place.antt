@@ -2,7 +2,7 @@
 use Rattle.std.specs.Prelude.{◌≡◌, ℕ, ◌<◌, length}
 use Rattle.cellset.specs.{CellSet.Cells, CellSet.Has, declared.cell.Cell.Cell}
 use Rattle.board.specs.Game.{Level, State}
-use Rattle.cell_lists.specs.CellLists.{cells_in}
+use Rattle.certificates.specs.CellLists.{cells_in}
 use Rattle.certificates.specs.Pattern.{Covers, Pattern}
 use Rattle.patterns.specs.{Groups.boxes_of, declared.groups.Groups.Groups, Hits.AreHits, declared.place.Place.Place}
 

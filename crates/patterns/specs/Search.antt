@@ -1,7 +1,7 @@
 -- How far a search of the buckets of some cells has come.
 use Rattle.std.specs.Prelude.{◌≡◌, ◌⊎◌, ℕ, ◌+◌, ◌-◌, ◌*◌, ◌<◌, ◌≤◌, length, slice_index}
 use Rattle.cellset.specs.{Shape.Extent, Cell.IsOn, CellSet.Has, SortedList.index, declared.cell.Cell.Cell}
-use Rattle.cell_lists.specs.CellLists.{cell_no, cells_in}
+use Rattle.certificates.specs.CellLists.{cell_no, cells_in}
 use Rattle.patterns.specs.declared.{buckets.Buckets.Buckets, groups.Groups.Groups, search.Search.Search}
 
 -- the search has come past the group: it has begun a bucket with the group, and if this is the last one that was begun, the link leads to a group before it

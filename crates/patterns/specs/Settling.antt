@@ -3,7 +3,7 @@ use Rattle.std.specs.Prelude.{◌≡◌, ◌≢◌, ◌⊎◌, ℕ, ◌+◌, ◌
 use Rattle.std.specs.List.{Contains}
 use Rattle.cellset.specs.{Cell.opposite, CellSet.Cells, CellSet.Has, CellSet.Lacks, declared.cell.Cell.Cell}
 use Rattle.reach.specs.declared.pushes.Push.{Push}
-use Rattle.cell_lists.specs.CellLists.{cell_no, cells_in}
+use Rattle.certificates.specs.CellLists.{cell_no, cells_in}
 use Rattle.certificates.specs.Pattern.{IsCovered, PushesOut}
 use Rattle.patterns.specs.{Run.state_after, Sides.toward, Trap.AreOff, Tables.AreTables, Tables.GroupCovers, GroupPushes.AreNoted}
 use Rattle.patterns.specs.{Place.IsPlace, Place.IsSubset, Search.IsPassed, Search.IsSearch, declared.buckets.Buckets.Buckets, declared.place.Place.Place}

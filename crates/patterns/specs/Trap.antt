@@ -6,7 +6,7 @@ use Rattle.std.specs.{Prelude.◌≡◌, Prelude.List, List.Contains}
 use Rattle.cellset.specs.{CellSet.Cells, CellSet.CellsOn, CellSet.Has, CellSet.Lacks, CellSet.only, declared.cell.Cell.Cell}
 use Rattle.reach.specs.Reached.{IsClosedUnder, PushesTo}
 use Rattle.board.specs.Game.{Level}
-use Rattle.cell_lists.specs.CellLists.{cells_in}
+use Rattle.certificates.specs.CellLists.{cells_in}
 use Rattle.certificates.specs.Pattern.{Pattern, whole_room}
 
 -- one box on the cell, with `*`

@@ -3,12 +3,12 @@
 //! A place in them takes four bytes, which saves a quarter of the memory of a long list.
 ghost use Rattle.std.specs.Prelude.{◌≡◌, ◌<◌, ◌≤◌, ◌^◌, ◌++◌, ◌∷◌, [], IfErr, IfOk, List, MatchBool, MatchOption, length, map};
 ghost use Rattle.cellset.specs.{Cell.IsOn, CellSet.Has, declared.cell.Cell.Cell as GridCell};
-ghost use Rattle.cell_lists.specs.CellLists.{cell_of, cells_of};
+ghost use Rattle.certificates.specs.CellLists.{cell_of, cells_of};
 ghost use Rattle.patterns.specs.Spans.{AreWithin, IsWithin, part as part_of};
 
 use answers::{Coord, Pattern, Seeds};
-use cell_lists::add_cells;
 use cellset::{Cell, Shape};
+use certificates::add_cells;
 use std::alloc::{AllocError, Global};
 
 /// Cells next to each other in a vector: the number of the first one, and of the one after the last.

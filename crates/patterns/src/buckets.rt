@@ -1,7 +1,7 @@
 //! Buckets: by cell, groups that have a box there. Each group is in the bucket of one of its boxes, the smallest one when it came.
 ghost use Rattle.std.specs.Prelude.{◌≡◌, ◌*◌, ◌<◌, IfOk, length};
 ghost use Rattle.cellset.specs.{CellSet.Has, Cell.IsOn, SortedList.index, declared.cell.Cell.Cell as GridCell};
-ghost use Rattle.cell_lists.specs.CellLists.{cells_in};
+ghost use Rattle.certificates.specs.CellLists.{cells_in};
 ghost use Rattle.certificates.specs.Pattern.{AreLawful};
 ghost use Rattle.patterns.specs.{Buckets.AreBuckets, Groups.IsGrouped, Groups.list_of};
 
@@ -45,7 +45,7 @@ pub(crate) fn fill_buckets<S: CellSet>(
 }
 
 // Returns the index of the box whose bucket has the fewest groups.
-#[tactic(auto, using(cell_lists::proofs::CellLists::over_cells))]
+#[tactic(auto, using(certificates::proofs::CellLists::over_cells))]
 fn smallest_bucket(shape: Shape, sizes: &[u32], boxes: &[Cell]) -> usize
     requires some { 0 < length boxes.now }
     requires on { (c : GridCell) → Has (cells_in boxes.now) c → IsOn shape c }

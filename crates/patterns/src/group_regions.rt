@@ -5,7 +5,7 @@
 ghost use Rattle.std.specs.Prelude.{◌≡◌, ◌+◌, ◌<◌, ◌≤◌, ◌↔◌, ◌⊎◌, ℕ, length, slice_index_or, IfOk, IsTrue, MatchBool};
 ghost use Rattle.std.specs.FinSet as set;
 ghost use Rattle.cellset.specs.{Cell.IsOn, CellSet.Has, CellSet.Lacks, declared.cell.Cell.Cell as GridCell};
-ghost use Rattle.cell_lists.specs.CellLists.{cell_no, cells_in};
+ghost use Rattle.certificates.specs.CellLists.{cell_no, cells_in};
 ghost use Rattle.certificates.specs.Pattern.{AreLawful};
 ghost use Rattle.patterns.specs.{Around.AreSidesJoined, Around.IsFlooded, Around.IsOnePiece, GroupRegions.AreRegions, GroupRegions.no_sides};
 ghost use Rattle.reach.specs.Region.{Joined};
@@ -97,7 +97,7 @@ impl Flood {
     }
 
     /// Makes the room without the boxes free, and notes whether it is surely in one piece.
-    #[tactic(auto, using(cell_lists::proofs::CellLists::over_cells))]
+    #[tactic(auto, using(certificates::proofs::CellLists::over_cells))]
     pub fn take_out(&mut self, room: &Rows, boxes: &[Cell])
         requires room { room.now.extent ≡ self.old.free.extent }
         requires on { (c : GridCell) → Has room.now.members c ⊎ Has (cells_in boxes.now) c → IsOn self.old.free.extent c }
@@ -272,7 +272,7 @@ fn seed(groups: &Groups, group: usize, free: &Rows, region: &mut Rows) -> bool
 }
 
 // Adds the seeds that are free to the region.
-#[tactic(auto, using(cell_lists::proofs::CellLists::over_cells, cellset::proofs::Members::inserted, cellset::proofs::Members::kept_by_insert))]
+#[tactic(auto, using(certificates::proofs::CellLists::over_cells, cellset::proofs::Members::inserted, cellset::proofs::Members::kept_by_insert))]
 fn add_seeds(seeds: &[Cell], free: &Rows, region: &mut Rows)
     requires free { (c : GridCell) → Has free.now.members c → IsOn free.now.extent c }
     requires extent { region.old.extent ≡ free.now.extent }

@@ -4,7 +4,7 @@
 //! is in the region of the seeds. The crate `certificates` has the definitions. The crate `closure` checks lists by these parts, from the
 //! lines of a list up:
 //!
-//! - **Lines**: each becomes cells in one arena (`arena`; the crate `cell_lists` has the loops over lists of cells).
+//! - **Lines**: each becomes cells in one arena (`arena`; the crate `certificates` has the loops over lists of cells).
 //! - **Trap**: the cells of the lines of one box with `*` may be a trap, which no box leaves (`trap`). The list covers each state with a box
 //!   on it.
 //! - **Groups**: lines with the same boxes are one group, found by a hash (`groups`, `hints`, `chains`). One flood for each group off the trap

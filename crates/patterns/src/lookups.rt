@@ -14,8 +14,8 @@ use crate::search::Search;
 use crate::tables::Tables;
 use crate::tree::{Tree, grow_tree};
 use crate::unsettled::Unsettled;
-use cell_lists::{are_in, is_among};
 use cellset::{Cell, CellSet, MembersOf};
+use certificates::{are_in, is_among};
 use reach::{Push, Rows};
 use std::alloc::{AllocError, Global};
 

@@ -4,7 +4,7 @@
 //! the group on it decides, by the side on which the path meets the box. If the path meets none of its boxes, the root decides.
 ghost use Rattle.std.specs.Prelude.{◌<◌, ◌≤◌, ◌↔◌, IsTrue, length, vec_capacity};
 ghost use Rattle.cellset.specs.CellSet.{Has, Lacks};
-ghost use Rattle.cell_lists.specs.CellLists.{cells_in};
+ghost use Rattle.certificates.specs.CellLists.{cells_in};
 ghost use Rattle.certificates.specs.Pattern.{InPatternRegion};
 ghost use Rattle.patterns.specs.Groups.{boxes_of, position_at};
 ghost use Rattle.patterns.specs.{Hits.AreHits, Place.IsPlace, Place.IsSubset, SpanningTree.IsTree, Tables.AreTables, Trap.AreOff};
@@ -12,8 +12,8 @@ ghost use Rattle.patterns.specs.{Hits.AreHits, Place.IsPlace, Place.IsSubset, Sp
 use crate::tables::Tables;
 use crate::tree::{Hit, Tree};
 use board::Board;
-use cell_lists::number_of;
 use cellset::{Cell, CellSet};
+use certificates::number_of;
 use reach::Rows;
 
 /// A player in the room, and boxes.

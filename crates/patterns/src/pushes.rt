@@ -6,7 +6,7 @@ ghost use Rattle.std.specs.Prelude.{◌≡◌, ◌<◌, ◌↔◌, IsTrue, IfSom
 ghost use Rattle.cellset.specs.{CellSet.Has, CellSet.Lacks, declared.cell.Cell.Cell as GridCell};
 ghost use Rattle.reach.specs.Region.{IsFree};
 ghost use Rattle.board.specs.Game.{moved};
-ghost use Rattle.cell_lists.specs.CellLists.{cell_no, cells_in};
+ghost use Rattle.certificates.specs.CellLists.{cell_no, cells_in};
 ghost use Rattle.certificates.specs.Pattern.{IsCovered, CoversPushesOf};
 ghost use Rattle.patterns.specs.{Run.state_after, Groups.list_of, Groups.position_at};
 ghost use Rattle.patterns.specs.GroupPushes.{AreNoted, CoversFrom, CoversToward, HasNoPush, IsPushAt, IsPushedBox, IsStepBack, pushed_cell};
@@ -16,8 +16,8 @@ use crate::hints::{TRIES, hash_of, hash_with, hash_without};
 use crate::sides::Sides;
 use crate::tables::Tables;
 use board::Board;
-use cell_lists::{is_same, number_of};
 use cellset::{Cell, CellSet, Dir};
+use certificates::{is_same, number_of};
 use reach::Push;
 
 // A box of a group, by its number, the hash of the other boxes, and on which sides of it the region lies.
@@ -104,7 +104,7 @@ fn is_hinted_toward<S: CellSet>(tables: &Tables<S>, pushed: &PushedBox, dir: Dir
 }
 
 // Returns whether a cell is floor without one of the boxes.
-#[tactic(auto, using(cell_lists::proofs::CellLists::in_list, cellset::proofs::Members::not_both))]
+#[tactic(auto, using(certificates::proofs::CellLists::in_list, cellset::proofs::Members::not_both))]
 #[inline(always)]
 fn is_free<S: CellSet>(board: &Board<S>, boxes: &[Cell], cell: Cell) -> bool
     ensures { IsTrue result ↔ IsFree board.now.shape board.now.walls (cells_in boxes.now) cell }

@@ -3,7 +3,7 @@ ghost use Rattle.std.specs.Prelude.{◌≡◌, ◌⊎◌, ◌<◌, ℕ, OnOk, Op
 ghost use Rattle.std.specs.List.{Contains};
 ghost use Rattle.cellset.specs.{CellSet.Has, declared.cell.Cell.Cell as GridCell};
 ghost use Rattle.reach.specs.declared.pushes.Push.{Push as OutPush};
-ghost use Rattle.cell_lists.specs.CellLists.{cells_in};
+ghost use Rattle.certificates.specs.CellLists.{cells_in};
 ghost use Rattle.patterns.specs.{Buckets.AreBuckets, Search.IsPassed, Search.IsSearch, Search.IsSearched, Search.searches_left, Settling.AreOpen, Settling.IsTask};
 
 use crate::buckets::Buckets;

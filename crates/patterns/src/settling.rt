@@ -3,7 +3,7 @@ ghost use Rattle.std.specs.Prelude.{◌≡◌, ◌⊎◌, ◌<◌, ◌↔◌, �
 ghost use Rattle.std.specs.List.{Contains};
 ghost use Rattle.cellset.specs.{Cell.IsOn, CellSet.Has, declared.cell.Cell.Cell as GridCell};
 ghost use Rattle.reach.specs.{Pushes.PushBefore, Pushes.dir_rank, declared.pushes.Push.Push as OutPush};
-ghost use Rattle.cell_lists.specs.CellLists.{cells_in};
+ghost use Rattle.certificates.specs.CellLists.{cells_in};
 ghost use Rattle.certificates.specs.Pattern.{CoversPushesOf, IsFirstUncovered};
 ghost use Rattle.patterns.specs.{Arena.pattern_at, Groups.boxes_of, Groups.list_of};
 ghost use Rattle.patterns.specs.{Buckets.AreBuckets, Lookups.AreLookups, Lookups.IsReady, Lookups.IsRest};
@@ -266,7 +266,7 @@ impl Unsettled {
 }
 
 // Makes rows those of these cells.
-#[tactic(auto, using(cell_lists::proofs::CellLists::over_cells, cellset::proofs::Members::inserted, cellset::proofs::Members::kept_by_insert))]
+#[tactic(auto, using(certificates::proofs::CellLists::over_cells, cellset::proofs::Members::inserted, cellset::proofs::Members::kept_by_insert))]
 fn load_rows(cells: &[Cell], rows: &mut Rows)
     requires { (c : GridCell) → Has (cells_in cells.now) c → IsOn rows.old.extent c }
     ensures extent { rows.new.extent ≡ rows.old.extent }

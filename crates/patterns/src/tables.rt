@@ -1,7 +1,7 @@
 //! The tables of an index: all that is kept of a list of patterns.
 ghost use Rattle.std.specs.Prelude.{◌≡◌, ◌<◌, ◌↔◌, IfOk, IsTrue, MatchBool, length};
 ghost use Rattle.cellset.specs.{CellSet.Has, CellSet.Lacks, declared.cell.Cell.Cell as GridCell};
-ghost use Rattle.cell_lists.specs.CellLists.{cell_no, cells_in};
+ghost use Rattle.certificates.specs.CellLists.{cell_no, cells_in};
 ghost use Rattle.certificates.specs.Pattern.{InPatternRegion, AreLawful};
 ghost use Rattle.patterns.specs.{Sides.IsAround, Arena.list_in};
 ghost use Rattle.patterns.specs.{Trap.AreOff, Trap.IsTrapOf, Groups.boxes_of, Groups.position_at};

@@ -5,7 +5,7 @@
 ghost use Rattle.std.specs.Prelude.{◌≡◌, IsTrue, IfOk, MatchBool, OnOk};
 ghost use Rattle.std.specs.FinSet as finset;
 ghost use Rattle.cellset.specs.{CellSet.Has, declared.cell.Cell.Cell as GridCell};
-ghost use Rattle.cell_lists.specs.CellLists.{cells_in};
+ghost use Rattle.certificates.specs.CellLists.{cells_in};
 ghost use Rattle.certificates.specs.Pattern.{AreLawful};
 ghost use Rattle.patterns.specs.Arena.{AreOnGrid, list_in};
 ghost use Rattle.patterns.specs.Trap.{AreOff, AreSinglesIn, AreTrapped, IsTrapOf};
@@ -64,7 +64,7 @@ fn add_singles(arena: &Arena, cells: &mut Rows) -> bool
 }
 
 // Returns whether one of the boxes is on the trap.
-#[tactic(auto, using(cell_lists::proofs::CellLists::over_cells))]
+#[tactic(auto, using(certificates::proofs::CellLists::over_cells))]
 pub(crate) fn is_trapped(boxes: &[Cell], trap: &Rows) -> bool
     ensures { MatchBool result
         ((c : GridCell) × Has (cells_in boxes.now) c × Has trap.now.members c)

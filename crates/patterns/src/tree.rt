@@ -107,7 +107,7 @@ impl Tree {
     }
 
     // Adds the neighbour of a node in the direction, if it is left.
-    #[tactic(auto, using(crate::proofs::Spanning::lacks_remove, cell_lists::proofs::Sets::removed_lacks, std::proofs::lemmas::List::get_or_read))]
+    #[tactic(auto, using(crate::proofs::Spanning::lacks_remove, certificates::proofs::Sets::removed_lacks, std::proofs::lemmas::List::get_or_read))]
     fn join_beside<S: CellSet>(
         &mut self,
         board: &Board<S>,

@@ -6,7 +6,7 @@
 ghost use Rattle.std.specs.Prelude.{◌≡◌, ◌⊎◌, ◌↔◌, ◌<◌, ◌≤◌, IsTrue, MatchBool, OnOk, Option, length};
 ghost use Rattle.std.specs.List.{Contains};
 ghost use Rattle.reach.specs.declared.pushes.Push.{Push as OutPush};
-ghost use Rattle.cell_lists.specs.CellLists.{cell_no, cells_in};
+ghost use Rattle.certificates.specs.CellLists.{cell_no, cells_in};
 ghost use Rattle.patterns.specs.{Place.IsSubset, Piece.AreInPiece, Piece.InPiece, Piece.IsFreeOf};
 ghost use Rattle.patterns.specs.Settling.{AreOpen, CoversNone, HasAsked, IsMet, IsPlaceOf, IsPushOut, IsParted, IsSettled, IsSettling, IsTask, LeadsTo, Misses};
 
@@ -15,8 +15,8 @@ use crate::place::Place;
 use crate::search::Search;
 use crate::sides::Sides;
 use crate::task::Task;
-use cell_lists::{is_same, number_of};
 use cellset::{Cell, CellSet, Dir};
+use certificates::{is_same, number_of};
 use reach::{Push, Rows};
 use std::alloc::AllocError;
 
@@ -239,7 +239,7 @@ fn take_met(pushes: &mut Vec<Push>, kept: &[Cell], ahead: Option<Ahead>)
 }
 
 // Returns whether a push moves a box that a group lacks, and leads to the cell ahead if there is one.
-#[tactic(auto, using(cell_lists::proofs::CellLists::in_list, cellset::proofs::Members::not_both))]
+#[tactic(auto, using(certificates::proofs::CellLists::in_list, cellset::proofs::Members::not_both))]
 #[inline(always)]
 fn is_met(push: Push, kept: &[Cell], ahead: Option<Ahead>) -> bool
     ensures { IsTrue result ↔ IsMet kept.now ahead push }

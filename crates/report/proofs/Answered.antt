@@ -19,7 +19,7 @@ use Rattle.answers.specs.Reading.{entry_of}
 use Rattle.answers.specs.Records.{SaysOfLevel}
 use Rattle.answers.specs.declared.record_text.RecordText.{RecordText}
 use Rattle.answers.proofs.BodyLines.{body_says, says_one_body}
-use Rattle.cell_lists.specs.CellLists.{cells_of}
+use Rattle.certificates.specs.CellLists.{cells_of}
 use Rattle.certificates.specs.Closed.{Closed}
 use Rattle.closure.specs.FirstFault.{IsFirstPatternFault, IsFirstZoneFault}
 use Rattle.certificates.specs.Pattern.{patterns_of}

@@ -22,8 +22,8 @@ use Rattle.answers.specs.declared.pattern.Coord.{Coord}
 use Rattle.answers.specs.declared.record.MadeBody.{MadeBody}
 use Rattle.answers.specs.declared.record.MadeRecord.{MadeRecord}
 use Rattle.answers.proofs.TakenCells.{later}
-use Rattle.cell_lists.specs.CellLists.{cell_of}
-use Rattle.cell_lists.proofs.CellLists.{of_cells}
+use Rattle.certificates.specs.CellLists.{cell_of}
+use Rattle.certificates.proofs.CellLists.{of_cells}
 use Rattle.maker.specs.Made.{AreDeadPatterns, AreFrozen, IsListOf, IsLeastZoneLine, IsMade, IsMadeList, HasNoList, body_of, coord_of, lone_patterns, made_pattern}
 use Rattle.maker.specs.Zones.{LeastZonesAreOne}
 use Rattle.maker.specs.declared.making.Made.{Made}

@@ -27,7 +27,7 @@ pub use Rattle.devices.specs.Reading
 pub use Rattle.answers.specs.Body
 pub use Rattle.answers.specs.Grammar
 pub use Rattle.answers.specs.RoundTrip
-pub use Rattle.cell_lists.specs.CellLists
+pub use Rattle.certificates.specs.CellLists
 pub use Rattle.certificates.specs.Closed
 pub use Rattle.certificates.specs.Pattern
 pub use Rattle.certificates.specs.Zone

@@ -14,7 +14,7 @@ use Rattle.play.specs.declared.tally.Tally.{Tally}
 use Rattle.play.specs.declared.fault.ReplayFault.{ReplayFault}
 use Rattle.answers.specs.Body.{Body, LetterLines, PatternLines, OneZone, FirstBad, PatternLine, ZoneLine}
 use Rattle.answers.specs.declared.record.BadLineWhy.{BadLineWhy}
-use Rattle.cell_lists.specs.CellLists.{cells_of}
+use Rattle.certificates.specs.CellLists.{cells_of}
 use Rattle.certificates.specs.Pattern.{patterns_of}
 use Rattle.certificates.specs.Closed.{Closed}
 use Rattle.certificates.specs.Zone.{IsRefuting}

@@ -13,7 +13,7 @@ ghost use Rattle.play.specs.Solution.{Solves};
 ghost use Rattle.play.specs.declared.tally.Tally.{Tally};
 ghost use Rattle.answers.specs.Body.{Body, Entry, LetterLines, PatternLines, OneZone, PatternLine, ZoneLine};
 ghost use Rattle.answers.specs.Grammar.{SpellsEntries};
-ghost use Rattle.cell_lists.specs.CellLists.{cells_of};
+ghost use Rattle.certificates.specs.CellLists.{cells_of};
 ghost use Rattle.certificates.specs.Pattern.{patterns_of};
 ghost use Rattle.certificates.specs.Closed.{Closed};
 ghost use Rattle.certificates.specs.Zone.{IsRefuting};

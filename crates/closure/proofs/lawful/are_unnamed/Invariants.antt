@@ -1,6 +1,6 @@
 use Rattle.std.proofs.Common.{take}
 use Rattle.cellset.specs.{CellSet.Has, CellSet.Lacks, declared.cell.Cell.Cell}
-use Rattle.cell_lists.specs.CellLists.{cells_in}
+use Rattle.certificates.specs.CellLists.{cells_in}
 use Rattle.closure.proofs.lawful.are_unnamed.Given as goal
 
 abbrev pub invariant-loop-seed : goal.invariant-loop-seed

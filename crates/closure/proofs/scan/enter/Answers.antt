@@ -3,8 +3,8 @@
 -- where there is no box (`RegionCells.antt`). So in both cases the entry covers what its pattern covers.
 use Rattle.std.{proofs.Common.◌≡◌, proofs.Common.sym, proofs.Common.◌∙◌, proofs.Common.ap, proofs.Common.inl, specs.Prelude.Some, specs.Prelude.None}
 use Rattle.cellset.proofs.Truth.{either}
-use Rattle.cell_lists.specs.CellLists.{cells_in}
-use Rattle.cell_lists.proofs.CellLists.{in_list}
+use Rattle.certificates.specs.CellLists.{cells_in}
+use Rattle.certificates.proofs.CellLists.{in_list}
 use Rattle.patterns.specs.{Arena.pattern_in, Piece.IsFreeOf}
 use Rattle.certificates.proofs.RegionCells.{region_outside}
 use Rattle.patterns.proofs.Pieces.{room_is_one}

@@ -1,6 +1,6 @@
 use Rattle.std.{proofs.Common.◌≡◌, specs.FinSet.len}
 use Rattle.answers.specs.Grammar.{said_zone}
-use Rattle.cell_lists.specs.CellLists.{cells_of}
+use Rattle.certificates.specs.CellLists.{cells_of}
 use Rattle.certificates.specs.Zone.{IsRefuting}
 use Rattle.closure.{specs.FirstFault.IsFirstZoneFault, proofs.ZoneCounts.refuting_unsolvable}
 use Rattle.closure.{specs.declared.fault.ZoneFault.TheVariants.Memory, proofs.FirstLines.first_unless, proofs.FirstLines.where_ok}

@@ -1,5 +1,5 @@
 use Rattle.std.proofs.Common.{arith}
-use Rattle.cell_lists.proofs.Counts.{len_union, len_union_right}
+use Rattle.certificates.proofs.Counts.{len_union, len_union_right}
 use Rattle.closure.proofs.zone.count_in.Goals as goal
 
 pub overflow_sub-result : goal.overflow_sub-result

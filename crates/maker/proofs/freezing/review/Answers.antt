@@ -1,7 +1,7 @@
 use Rattle.std.proofs.Common.{refl, sym, inl, inr, arith}
 use Rattle.cellset.proofs.Members.{has_remove, not_both}
 use Rattle.cellset.proofs.Truth.{either}
-use Rattle.cell_lists.proofs.Counts.{len-remove_member}
+use Rattle.certificates.proofs.Counts.{len-remove_member}
 use Rattle.maker.proofs.Thawing.{reviewed_held, reviewed_gone}
 use Rattle.maker.proofs.freezing.review.Goals as goal
 

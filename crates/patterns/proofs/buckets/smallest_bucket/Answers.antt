@@ -1,6 +1,6 @@
 use Rattle.std.proofs.Common.{arith}
 use Rattle.cellset.proofs.ReadingOrder.{below_index}
-use Rattle.cell_lists.proofs.CellLists.{in_list, no_cell}
+use Rattle.certificates.proofs.CellLists.{in_list, no_cell}
 use Rattle.patterns.proofs.buckets.smallest_bucket.Goals as goal
 use Rattle.patterns.proofs.buckets.smallest_bucket.Goals.{then-sizes-at, else-sizes-at}
 

@@ -1,6 +1,6 @@
 use Rattle.std.proofs.Common.{◌≡◌}
 use Rattle.cellset.specs.{CellSet.Has, SortedList.index, declared.cell.Cell.Cell}
-use Rattle.cell_lists.specs.CellLists.{cells_in}
+use Rattle.certificates.specs.CellLists.{cells_in}
 use Rattle.patterns.proofs.buckets.smallest_bucket.Given as goal
 
 abbrev pub invariant-loop-cell : goal.invariant-loop-cell

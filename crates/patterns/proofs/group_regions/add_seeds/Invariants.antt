@@ -1,7 +1,7 @@
 -- The region has what it had, the free cells among the seeds so far, and no other cell.
 use Rattle.std.{proofs.Common.◌≡◌, proofs.Common.take, specs.Prelude.◌⊎◌, specs.Prelude.◌↔◌}
 use Rattle.cellset.specs.{CellSet.Has, declared.cell.Cell.Cell}
-use Rattle.cell_lists.specs.CellLists.{cells_in}
+use Rattle.certificates.specs.CellLists.{cells_in}
 use Rattle.patterns.proofs.group_regions.add_seeds.Given as goal
 
 abbrev pub invariant-loop-seed : goal.invariant-loop-seed

@@ -8,7 +8,7 @@ use Rattle.std.specs.Prelude.{◌↔◌, Bool, IsTrue, MatchBool, false, true}
 use Rattle.std.proofs.lemmas.List.{get_or_default}
 use Rattle.cellset.specs.{Cell.neighbor, CellSet.Cells, CellSet.Has, CellSet.Lacks, declared.cell.Cell.Cell}
 use Rattle.cellset.proofs.{Members.not_both, Truth.either}
-use Rattle.cell_lists.specs.CellLists.{cell_no, cells_in}
+use Rattle.certificates.specs.CellLists.{cell_no, cells_in}
 use Rattle.certificates.specs.Pattern.{InPatternRegion}
 use Rattle.patterns.specs.{Spans.AreSpans, Spans.part, Spans.span_at, Around.IsFlooded}
 use Rattle.patterns.specs.{GroupRegions.AreSidesAt, GroupRegions.IsRegionAt, Groups.boxes_of, Groups.position_at, Trap.AreOff}

@@ -1,6 +1,6 @@
 use Rattle.std.proofs.Common.{arith}
 use Rattle.std.proofs.lemmas.List.{get_or-set_other, get_or-set_same, length-set}
-use Rattle.cell_lists.proofs.CellLists.{in_list, no_cell}
+use Rattle.certificates.proofs.CellLists.{in_list, no_cell}
 use Rattle.patterns.proofs.group_regions.note_sides.Goals as goal
 
 pub sides_at-requires : goal.sides_at-requires

@@ -1,6 +1,6 @@
 use Rattle.std.proofs.Common.{◌≡◌, ℕ, ◌+◌, ◌<◌, length, slice_index_or}
 use Rattle.cellset.specs.CellSet.{Has}
-use Rattle.cell_lists.specs.CellLists.{cell_no}
+use Rattle.certificates.specs.CellLists.{cell_no}
 use Rattle.patterns.specs.{GroupRegions.no_sides, Sides.IsAround}
 use Rattle.patterns.proofs.group_regions.note_sides.Given as goal
 

@@ -5,8 +5,8 @@
 use Rattle.std.{proofs.Common.get_or, proofs.Common.sym, proofs.Common.◌∙◌, proofs.Common.ap, proofs.Common.arith, specs.Prelude.◌↔◌, specs.Prelude.IsTrue}
 use Rattle.std.proofs.lemmas.List.{get_or_default}
 use Rattle.cellset.specs.{Cell.neighbor, declared.dir.Dir.TheVariants.L}
-use Rattle.cell_lists.specs.CellLists.{cell_no}
-use Rattle.cell_lists.proofs.CellLists.{in_list, no_cell}
+use Rattle.certificates.specs.CellLists.{cell_no}
+use Rattle.certificates.proofs.CellLists.{in_list, no_cell}
 use Rattle.certificates.specs.Pattern.{InPatternRegion}
 use Rattle.patterns.specs.{Groups.position_at, declared.tree.Hit.Hit}
 use Rattle.patterns.proofs.Turns.{through}

@@ -1,6 +1,6 @@
 use Rattle.std.proofs.Common.{ℕ, ◌<◌, slice_index_or}
 use Rattle.cellset.specs.CellSet.{Lacks}
-use Rattle.cell_lists.specs.CellLists.{cells_in}
+use Rattle.certificates.specs.CellLists.{cells_in}
 use Rattle.patterns.specs.declared.tree.Hit.{Hit}
 use Rattle.patterns.proofs.place.is_in_region.Given as goal
 

@@ -4,7 +4,7 @@
 -- covers them all (`covered_each_box`). The result false claims nothing.
 use borrow.Author.Count.{below_more}
 use Rattle.std.proofs.Common.{ap}
-use Rattle.cell_lists.specs.CellLists.{cell_no, cells_in}
+use Rattle.certificates.specs.CellLists.{cell_no, cells_in}
 use Rattle.patterns.specs.{GroupPushes.CoversFrom, Groups.list_of, Groups.position_at}
 use Rattle.patterns.proofs.GroupPushes.{covered_each_box, trapped_pushes}
 use Rattle.patterns.proofs.pushes.are_pushes_hinted.Goals as goal

@@ -1,5 +1,5 @@
 use Rattle.std.proofs.Common.{ℕ, ◌<◌}
-use Rattle.cell_lists.specs.CellLists.{cell_no}
+use Rattle.certificates.specs.CellLists.{cell_no}
 use Rattle.patterns.specs.{GroupPushes.CoversFrom, Groups.list_of, Groups.position_at}
 use Rattle.patterns.proofs.pushes.are_pushes_hinted.Given as goal
 

@@ -5,8 +5,8 @@ use Rattle.std.specs.Prelude.{None, Some}
 use Rattle.std.specs.FinSet as set
 use Rattle.cellset.{specs.CellSet.Has, specs.declared.cell.Cell.Cell, proofs.Members.inserted, proofs.Members.kept_by_insert, proofs.Members.kept_by_remove}
 use Rattle.board.specs.Game.{moved}
-use Rattle.cell_lists.specs.CellLists.{cell_no, cells_in}
-use Rattle.cell_lists.proofs.CellLists.{each_of, in_list, no_cell}
+use Rattle.certificates.specs.CellLists.{cell_no, cells_in}
+use Rattle.certificates.proofs.CellLists.{each_of, in_list, no_cell}
 use Rattle.patterns.proofs.pushes.number_after.Goals as goal
 use Rattle.patterns.proofs.pushes.number_after.Goals.{then-number-pushed+in_ok-passed, else-number-pushed+else-not-is_same}
 

@@ -1,7 +1,7 @@
 use Rattle.std.{proofs.Common.◌≡◌, proofs.Common.◌<◌, proofs.Common.IfSome, proofs.Common.length, proofs.Common.take, specs.List.All}
 use Rattle.cellset.specs.CellSet.{Has}
 use Rattle.board.specs.Game.{moved}
-use Rattle.cell_lists.specs.CellLists.{cell_no, cells_in}
+use Rattle.certificates.specs.CellLists.{cell_no, cells_in}
 use Rattle.patterns.proofs.pushes.number_after.Given as goal
 
 abbrev pub invariant-loop-number : goal.invariant-loop-number

@@ -1,5 +1,5 @@
 use Rattle.cellset.proofs.Members.{same_members}
-use Rattle.cell_lists.proofs.CellLists.{list_all}
+use Rattle.certificates.proofs.CellLists.{list_all}
 use Rattle.patterns.proofs.settling.load_rows.Goals as goal
 
 pub returns-clause-members : goal.returns-clause-members

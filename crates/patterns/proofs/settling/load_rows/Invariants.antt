@@ -1,6 +1,6 @@
 use Rattle.std.{proofs.Common.◌≡◌, proofs.Common.take, specs.Prelude.◌↔◌}
 use Rattle.cellset.specs.{CellSet.Has, declared.cell.Cell.Cell}
-use Rattle.cell_lists.specs.CellLists.{cells_in}
+use Rattle.certificates.specs.CellLists.{cells_in}
 use Rattle.patterns.proofs.settling.load_rows.Given as goal
 
 abbrev pub invariant-loop-cell : goal.invariant-loop-cell

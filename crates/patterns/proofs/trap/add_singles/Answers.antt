@@ -4,8 +4,8 @@ use Rattle.std.proofs.Common.{◌≡◌, ◌<◌, ◌≤◌, List, [], ◌∷◌
 use Rattle.std.specs.FinSet as set
 use Rattle.std.specs.List.{Contains}
 use Rattle.cellset.{specs.declared.cell.Cell.Cell, proofs.Members.has_empty, proofs.Members.inserted, proofs.Truth.either}
-use Rattle.cell_lists.specs.CellLists.{cell_no}
-use Rattle.cell_lists.proofs.CellLists.{in_list, no_cell}
+use Rattle.certificates.specs.CellLists.{cell_no}
+use Rattle.certificates.proofs.CellLists.{in_list, no_cell}
 use Rattle.certificates.specs.Pattern.{Pattern}
 use Rattle.patterns.specs.{Arena.list_in, Arena.pattern_at, Arena.pattern_in, Trap.IsTrapped, Trap.single}
 use Rattle.patterns.specs.declared.arena.CellPattern.{CellPattern}

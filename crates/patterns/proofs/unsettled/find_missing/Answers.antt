@@ -3,7 +3,7 @@ use Rattle.std.proofs.Common.{arith}
 use Rattle.std.proofs.lemmas.Bool.{false≢true}
 use Rattle.std.proofs.lemmas.List.{get_or_default}
 use Rattle.cellset.{proofs.Members.lacks_where}
-use Rattle.cell_lists.proofs.CellLists.{in_list, no_cell}
+use Rattle.certificates.proofs.CellLists.{in_list, no_cell}
 use Rattle.cellset.proofs.CellLists.{has_listed}
 use Rattle.patterns.proofs.unsettled.find_missing.Goals as goal
 

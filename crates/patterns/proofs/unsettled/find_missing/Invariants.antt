@@ -1,6 +1,6 @@
 use Rattle.std.proofs.Common.{◌≡◌, ◌⊎◌, ℕ, ◌<◌, MatchOption, length}
 use Rattle.cellset.specs.CellSet.{Has, Lacks}
-use Rattle.cell_lists.specs.CellLists.{cell_no}
+use Rattle.certificates.specs.CellLists.{cell_no}
 use Rattle.patterns.proofs.unsettled.find_missing.Given as goal
 
 abbrev pub invariant-loop-number : goal.invariant-loop-number

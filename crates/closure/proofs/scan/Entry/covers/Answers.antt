@@ -1,5 +1,5 @@
 use Rattle.cellset.specs.Cell.{IsOn}
-use Rattle.cell_lists.proofs.CellLists.{each_in}
+use Rattle.certificates.proofs.CellLists.{each_in}
 use Rattle.closure.proofs.scan.Entry.covers.Goals as goal
 
 pub are_in-requires : goal.are_in-requires

@@ -1,7 +1,7 @@
 -- With `*` the region is all that is free (`room_outside`). Otherwise it is what the flood reaches from the seeds (`line_region`).
 use Rattle.std.specs.Prelude.{◌↔◌}
 use Rattle.cellset.{specs.CellSet.Has, proofs.Members.has_empty, proofs.Truth.either}
-use Rattle.cell_lists.specs.CellLists.{cells_in}
+use Rattle.certificates.specs.CellLists.{cells_in}
 use Rattle.certificates.proofs.RegionCells.{room_outside}
 use Rattle.patterns.proofs.{ListedRegions.line_region, Turns.through}
 use Rattle.std.proofs.Common.{inr}

@@ -3,7 +3,7 @@
 -- taken out (`one_piece_without` in `Pieces.antt`). If that isn't sure, `whole` is false from then on and claims nothing.
 use Rattle.std.proofs.{Common.sym, Common.◌∙◌, Common.inl, Common.arith, lemmas.Bool.false≢true}
 use Rattle.cellset.{specs.CellSet.Has, proofs.Members.inserted, proofs.Members.kept_by_insert, proofs.Members.lacks_where, proofs.Members.not_both}
-use Rattle.cell_lists.proofs.CellLists.{over_cells}
+use Rattle.certificates.proofs.CellLists.{over_cells}
 use Rattle.patterns.proofs.Pieces.{one_piece_without}
 use Rattle.patterns.proofs.group_regions.Flood.take_out.Goals.{then-self, else-self}
 use Rattle.patterns.proofs.group_regions.Flood.take_out.Goals as goal

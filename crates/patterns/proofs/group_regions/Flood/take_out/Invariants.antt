@@ -1,6 +1,6 @@
 use Rattle.std.{proofs.Common.◌≡◌, proofs.Common.take, specs.Prelude.◌↔◌, specs.Prelude.IsTrue}
 use Rattle.cellset.specs.{CellSet.Has, CellSet.Lacks, declared.cell.Cell.Cell}
-use Rattle.cell_lists.specs.CellLists.{cells_in}
+use Rattle.certificates.specs.CellLists.{cells_in}
 use Rattle.patterns.specs.Around.{IsOnePiece}
 use Rattle.patterns.proofs.group_regions.Flood.take_out.Given as goal
 

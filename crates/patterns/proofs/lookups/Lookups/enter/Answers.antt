@@ -3,7 +3,7 @@
 use Rattle.std.proofs.Common.{sym, ◌∙◌, ap, inl, arith}
 use Rattle.std.specs.List.{Contains}
 use Rattle.cellset.{proofs.Truth.either}
-use Rattle.cell_lists.specs.CellLists.{cells_in}
+use Rattle.certificates.specs.CellLists.{cells_in}
 use Rattle.patterns.specs.Piece.{InPiece}
 use Rattle.patterns.proofs.{Asked.settling_same, OpenPushes.open_in, Settled.IsPushIn, Settled.all_in_piece, Settled.rooted_hits}
 use Rattle.patterns.proofs.lookups.Lookups.enter.Goals as goal

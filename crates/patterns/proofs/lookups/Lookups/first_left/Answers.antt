@@ -1,7 +1,7 @@
 use Rattle.std.proofs.Common.{◌∙◌, refl, sym, ap, subst}
 use Rattle.std.specs.Prelude.{◌↔◌, slice_index}
 use Rattle.cellset.specs.{CellSet.Has, declared.cell.Cell.Cell}
-use Rattle.cell_lists.specs.CellLists.{cells_in}
+use Rattle.certificates.specs.CellLists.{cells_in}
 use Rattle.certificates.specs.Pattern.{InPatternRegion, IsLawful}
 use Rattle.patterns.specs.{Arena.pattern_at, Groups.boxes_of, Groups.list_of, Piece.IsFreeOf}
 use Rattle.patterns.proofs.{Arenas.listed_at, FirstLeft.chosen, FirstLeft.first_of, Grouped.line_boxes}

@@ -4,8 +4,8 @@
 use Rattle.std.proofs.Common.{◌≡◌, ◌<◌, ◌+◌, ◌-◌, Some, length, refl, sym, ◌∙◌, ap, inl, inr, arith}
 use Rattle.std.proofs.lemmas.List.{get_or_default}
 use Rattle.cellset.{specs.SortedList.index, proofs.ReadingOrder.below_index, proofs.Truth.either}
-use Rattle.cell_lists.specs.CellLists.{cell_no}
-use Rattle.cell_lists.proofs.CellLists.{no_cell}
+use Rattle.certificates.specs.CellLists.{cell_no}
+use Rattle.certificates.proofs.CellLists.{no_cell}
 use Rattle.patterns.specs.Chains.{IsLast}
 use Rattle.patterns.proofs.InBuckets.{begun, led_on}
 use Rattle.patterns.proofs.Searches.{fewer_on, next_on, past_all, past_bucket, past_group}

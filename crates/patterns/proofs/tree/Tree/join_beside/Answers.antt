@@ -5,7 +5,7 @@
 use Rattle.std.proofs.{Common.set, Common.refl, Common.sym, Common.◌∙◌, Common.ap, Common.subst, Common.arith, lemmas.List.get_or_read}
 use Rattle.std.specs.Vec.{with_item}
 use Rattle.cellset.{specs.Cell.neighbor, specs.SortedList.index, proofs.Members.remove_absent}
-use Rattle.cell_lists.proofs.{Counts.len-remove_member, Sets.removed_lacks}
+use Rattle.certificates.proofs.{Counts.len-remove_member, Sets.removed_lacks}
 use Rattle.patterns.specs.{SpanningTree.IsGrowing, declared.tree.Node.Node, declared.tree.Tree.Tree}
 use Rattle.patterns.proofs.{Spanning.laid_more, Lists.length_more}
 use Rattle.patterns.proofs.tree.Tree.join_beside.Goals as goal

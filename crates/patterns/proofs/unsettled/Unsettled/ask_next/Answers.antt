@@ -4,7 +4,7 @@ use Rattle.std.proofs.Common.{subst, inl, inr}
 use Rattle.std.{proofs.lemmas.Option.same_Some}
 use Rattle.std.proofs.lemmas.List.Elements.{Contains-append_left, Contains-push, Contains-push_cases}
 use Rattle.cellset.proofs.Truth.{either}
-use Rattle.cell_lists.specs.CellLists.{cells_in}
+use Rattle.certificates.specs.CellLists.{cells_in}
 use Rattle.patterns.specs.{Place.IsSubset, Settling.CoversNone, Settling.IsOnward, declared.unsettled.Unsettled.Unsettled}
 use Rattle.patterns.proofs.Asked.{onward_asked, onward_on, piece_less, settling_next, taken_none}
 use Rattle.patterns.proofs.unsettled.Unsettled.ask_next.Goals as goal

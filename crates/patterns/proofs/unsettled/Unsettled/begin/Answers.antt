@@ -4,8 +4,8 @@ use Rattle.std.specs.List.{Contains}
 use Rattle.std.proofs.lemmas.List.{get_or_default}
 use Rattle.cellset.{proofs.Truth.either}
 use Rattle.reach.specs.declared.pushes.Push.{Push}
-use Rattle.cell_lists.specs.CellLists.{cell_no}
-use Rattle.cell_lists.proofs.CellLists.{no_cell}
+use Rattle.certificates.specs.CellLists.{cell_no}
+use Rattle.certificates.proofs.CellLists.{no_cell}
 use Rattle.cellset.proofs.CellLists.{has_listed}
 use Rattle.patterns.specs.Settling.{IsPushOut, IsSettled}
 use Rattle.patterns.proofs.{Numbered.one_more, OpenPushes.each_dir, Taken.none_in}

@@ -1,7 +1,7 @@
 use Rattle.std.proofs.Common.{◌≡◌, ◌⊎◌, ℕ, ◌<◌}
 use Rattle.std.specs.List.{Contains}
 use Rattle.reach.specs.declared.pushes.Push.{Push}
-use Rattle.cell_lists.specs.CellLists.{cell_no}
+use Rattle.certificates.specs.CellLists.{cell_no}
 use Rattle.patterns.specs.Settling.{AreOpen, IsPushOut, IsSettled}
 use Rattle.patterns.proofs.unsettled.Unsettled.begin.Given as goal
 

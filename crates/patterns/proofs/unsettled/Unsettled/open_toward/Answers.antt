@@ -3,7 +3,7 @@
 use Rattle.std.proofs.Common.{sym, ◌∙◌, subst, inr}
 use Rattle.std.proofs.lemmas.{Bool.false≢true, List.Elements.Contains-push_cases}
 use Rattle.cellset.{specs.Cell.neighbor, specs.Cell.opposite, specs.CellSet.Lacks, proofs.Members.lacks_where, proofs.Truth.either}
-use Rattle.cell_lists.specs.CellLists.{cell_no}
+use Rattle.certificates.specs.CellLists.{cell_no}
 use Rattle.certificates.specs.Pattern.{InPatternRegion}
 use Rattle.certificates.proofs.RegionCells.{region_on}
 use Rattle.patterns.specs.{Groups.position_at, Settling.IsPushOut}

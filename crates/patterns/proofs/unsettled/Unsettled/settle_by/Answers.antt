@@ -2,7 +2,7 @@
 use Rattle.std.proofs.Common.{sym, ◌∙◌, refl, inl, inr, arith}
 use Rattle.std.proofs.lemmas.Bool.{false≢true}
 use Rattle.cellset.proofs.{Truth.either}
-use Rattle.cell_lists.specs.CellLists.{cells_in}
+use Rattle.certificates.specs.CellLists.{cells_in}
 use Rattle.patterns.{specs.Groups.position_at, proofs.Asked.taken_none, proofs.Settled.lacks_pushed, proofs.Taken.none_in}
 use Rattle.patterns.proofs.OpenPushes.{inside_player, inside_settles, noted_settles, open_in}
 use Rattle.patterns.proofs.unsettled.Unsettled.settle_by.Goals as goal

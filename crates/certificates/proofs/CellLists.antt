@@ -10,7 +10,7 @@ use Rattle.cellset.specs.{Cell.cell_cmp, CellSet.Has, CellSet.Lacks, declared.ce
 use Rattle.cellset.proofs.CellLists.{has_listed, set_more}
 use Rattle.cellset.proofs.Members.{cells_total, exact_cells, inserted, kept_by_insert, has_insert, has_empty}
 use Rattle.answers.specs.declared.pattern.Coord.{Coord}
-use Rattle.cell_lists.specs.CellLists.{cell_of, cells_of, cells_in}
+use Rattle.certificates.specs.CellLists.{cell_of, cells_of, cells_in}
 
 abbrev pub no_cell : Cell
 no_cell = record { row = 0; column = 0 }

@@ -1,7 +1,7 @@
 use Rattle.std.proofs.Common.{take}
 use Rattle.cellset.specs.{CellSet.Has, declared.cell.Cell.Cell}
-use Rattle.cell_lists.specs.CellLists.{cells_in}
-use Rattle.cell_lists.proofs.lists.are_in.Given as goal
+use Rattle.certificates.specs.CellLists.{cells_in}
+use Rattle.certificates.proofs.lists.are_in.Given as goal
 
 abbrev pub invariant-loop-cell : goal.invariant-loop-cell
 invariant-loop-cell g l = (c : Cell) → Has (cells_in (take l.cell-index l.cells)) c → Has (g.S.CellSet.members l.set) c

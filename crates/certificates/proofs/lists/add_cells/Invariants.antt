@@ -1,7 +1,7 @@
 use Rattle.std.{proofs.Common.◌≡◌, proofs.Common.◌++◌, proofs.Common.take, specs.Prelude.map, specs.List.All}
 use Rattle.cellset.specs.Cell.{IsOn}
-use Rattle.cell_lists.specs.CellLists.{cell_of}
-use Rattle.cell_lists.proofs.lists.add_cells.Given as goal
+use Rattle.certificates.specs.CellLists.{cell_of}
+use Rattle.certificates.proofs.lists.add_cells.Given as goal
 
 abbrev pub invariant-loop-at : goal.invariant-loop-at
 invariant-loop-at l = record {

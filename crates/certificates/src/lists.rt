@@ -2,7 +2,7 @@
 ghost use Rattle.std.specs.Prelude.{◌≡◌, ◌≢◌, ◌+◌, ◌*◌, ◌<◌, ◌↔◌, ◌++◌, IfOk, IsTrue, List, MatchBool, MatchOption, length, map};
 ghost use Rattle.std.specs.FinSet as finset;
 ghost use Rattle.cellset.specs.{Cell.IsOn, CellSet.Has, CellSet.Lacks, declared.cell.Cell.Cell as GridCell};
-ghost use Rattle.cell_lists.specs.CellLists.{cell_of, cells_of, cell_no, cells_in};
+ghost use Rattle.certificates.specs.CellLists.{cell_of, cells_of, cell_no, cells_in};
 
 use answers::Coord;
 use cellset::{Cell, CellSet, Shape};

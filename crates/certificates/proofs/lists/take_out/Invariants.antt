@@ -1,7 +1,7 @@
 use Rattle.std.proofs.Common.{◌≡◌, take}
 use Rattle.std.specs.FinSet as set
-use Rattle.cell_lists.specs.CellLists.{cells_in}
-use Rattle.cell_lists.proofs.lists.take_out.Given as goal
+use Rattle.certificates.specs.CellLists.{cells_in}
+use Rattle.certificates.proofs.lists.take_out.Given as goal
 
 abbrev pub invariant-loop-cell : goal.invariant-loop-cell
 invariant-loop-cell g l = record {

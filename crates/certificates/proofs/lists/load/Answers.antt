@@ -1,6 +1,6 @@
 use Rattle.std.proofs.Common.{sym, ◌∙◌}
-use Rattle.cell_lists.proofs.CellLists.{in_list, next_in, no_cell}
-use Rattle.cell_lists.proofs.lists.load.Goals as goal
+use Rattle.certificates.proofs.CellLists.{in_list, next_in, no_cell}
+use Rattle.certificates.proofs.lists.load.Goals as goal
 
 pub insert-requires : goal.insert-requires
 insert-requires g c = rw c.loop-cell.invariant.extent (c.requires _ (in_list c.args.cells.now c.loop-cell.cell-index no_cell c.loop-cell-test.true))

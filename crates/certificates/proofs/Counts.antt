@@ -6,7 +6,7 @@ use Rattle.std.{proofs.lemmas.Bool.false≢true, specs.FinSet.items, specs.FinSe
 use Rattle.std.specs.FinSet as set
 use Rattle.cellset.specs.{Cell.cell_cmp, CellSet.Cells, CellSet.Has, CellSet.Lacks, declared.cell.Cell.Cell}
 use Rattle.cellset.proofs.Members.{cells_total, same, same_or_other, has_or_lacks, not_both, inserted, kept_by_insert, has_insert, kept_by_remove, has_remove, has_empty, same_members, insert_again, lacks_where, union_empty, union_insert}
-use Rattle.cell_lists.proofs.Sets.{other_member, removed_lacks, put_back, has_intersection, in_intersection, has_union, in_union_left, in_union_right}
+use Rattle.certificates.proofs.Sets.{other_member, removed_lacks, put_back, has_intersection, in_intersection, has_union, in_union_left, in_union_right}
 
 pub len-insert_new : (s : Cells) (c : Cell) → Lacks s c → set.len (set.insert s c) ≡ set.len s + 1
 len-insert_new s c lacks = set.len-insert cells_total s c ∙ ap (λ b. cond b (set.len s) (set.len s + 1)) lacks

@@ -1,9 +1,9 @@
 use Rattle.std.{proofs.Common.◌∙◌, proofs.Common.◌++◌, proofs.Common.ap, proofs.Common.sym, specs.Prelude.map}
 use Rattle.std.proofs.lemmas.List.{append_assoc, map_more, take_all, Elements.All-push, Elements.All-same}
 use Rattle.cellset.specs.Cell.{IsOn}
-use Rattle.cell_lists.specs.CellLists.{cell_of}
-use Rattle.cell_lists.proofs.CellLists.{each_in, in_cells}
-use Rattle.cell_lists.proofs.lists.add_cells.Goals as goal
+use Rattle.certificates.specs.CellLists.{cell_of}
+use Rattle.certificates.proofs.CellLists.{each_in, in_cells}
+use Rattle.certificates.proofs.lists.add_cells.Goals as goal
 
 pub returns-in_default-clause-exact : goal.returns-in_default-clause-exact
 returns-in_default-clause-exact c = (_, in_cells c.args.coords.now c.loop-at.at-index _ c.loop-at-test.true, c.in_default.ensures)

@@ -1,6 +1,6 @@
 use Rattle.std.proofs.Common.{◌≡◌, take}
-use Rattle.cell_lists.specs.CellLists.{cells_in}
-use Rattle.cell_lists.proofs.lists.load.Given as goal
+use Rattle.certificates.specs.CellLists.{cells_in}
+use Rattle.certificates.proofs.lists.load.Given as goal
 
 abbrev pub invariant-loop-cell : goal.invariant-loop-cell
 invariant-loop-cell g l = record {

@@ -1,3 +1,0 @@
-pub mod CellLists
-pub mod Counts
-pub mod Sets

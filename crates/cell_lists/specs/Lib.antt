@@ -1,3 +1,0 @@
-pub mod CellLists
-pub use Rattle.cellset.specs.Cell
-pub use Rattle.cellset.specs.CellSet
