@@ -8,7 +8,7 @@ import time
 import unittest.mock
 from typing import Any, Callable, List
 
-from sokotool import levels, outcomes, solvers, texts
+from sokotool import levels, mistakes, outcomes, solvers, texts
 from sokotool.search.budget import Budget, Limits
 from tests.tools.exports import ALPHA, BETA, GAMMA
 from tests.tools.helping import (LACKING, SAMPLES, TOP, Case, Result, is_slow, needs_copies,
@@ -305,7 +305,14 @@ class Checks(Check):
             self.assertEqual(self.report()[0], "level 1 unsolvable patterns 2")
             self.remove_files()
         for lines, why in ((listed[:24], "pattern 3,2 5,2 @ 2,2: push 2,2 r"),
-                           ("zone 3,2\\n", "zone 3,2: leak 3,2 l")):
+                           ("zone 3,2\\n", "zone 3,2: leak 3,2 l"),
+                           ("pattern 5,2 3,2 @ 2,2\\n",
+                            f"pattern 5,2 3,2 @ 2,2: syntax: {mistakes.ORDER}"),
+                           ("pattern 2,3 2,5 @ 2,2\\n",
+                            f"pattern 2,3 2,5 @ 2,2: wall: {mistakes.SWAPPED}"),
+                           ("pattern 3,2 @2,2\\n", f"pattern 3,2 @2,2: syntax: {mistakes.SPACES}"),
+                           ("pattern 3, 2 @ 2,2\\n",
+                            f"pattern 3, 2 @ 2,2: syntax: {mistakes.COMMA}")):
             result = self.solve(f"print('so be it\\nunsolvable\\n{lines}end')", "--verbose")
             for said in ("level 1: | so be it", f"level 1: | refused: {why}",
                          "level 1: the solver found nothing"):

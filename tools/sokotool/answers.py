@@ -163,18 +163,22 @@ def is_begun(data: bytes) -> bool:
     return texts.in_utf8(data).startswith(b"sokoban-answers ")
 
 
+def read_whole(data: bytes, levels: Optional[int] = None, rising: bool = True) -> Answers:
+    """Reads an answers text, or raises its first fault. That may be a record that seems to go on in
+    the next one: the auditor reads both as one, and refuses that."""
+    found = read(data, levels, rising)
+    for number, line in (it for record in found.records for it in record.body):
+        if _LEVEL.fullmatch(line):
+            raise Fault(number, "end")
+    return found
+
+
 def read_text(name: str, data: bytes, levels: Optional[int] = None, rising: bool = True
               ) -> Answers:
     """Reads an answers text of this name; its first fault ends the command."""
     data = texts.in_utf8(data)
     try:
-        found = read(data, levels, rising)
-        # Where a record seems to go on in the next one, the auditor reads both as one, and refuses
-        # that.
-        for number, line in (it for record in found.records for it in record.body):
-            if _LEVEL.fullmatch(line):
-                raise Fault(number, "end")
-        return found
+        return read_whole(data, levels, rising)
     except Fault as fault:
         place = "" if fault.why == "header" else f"line {fault.line}: "
         raise texts.Stop(f"{texts.shown(name)} {place}{advice(data, fault, levels)}") from None

@@ -8,7 +8,7 @@ import sys
 import tempfile
 from typing import Iterator, NamedTuple, Sequence, Tuple
 
-from . import answers, levels, report, system, texts
+from . import answers, levels, mistakes, report, system, texts
 
 REFERENCE_NOTE = "checked by the reference in Python, not by the proved program"
 _HERE = os.path.dirname(os.path.realpath(__file__))
@@ -102,8 +102,9 @@ def refusal(program: Auditor, level: levels.Level, lines: Sequence[bytes]) -> st
         return ""
     if line.words[:1] != ["line"]:
         return " ".join(["a certificate:", *line.words])
-    # The first line of the certificate is the fourth one of the text.
-    return f"{texts.shown(lines[int(line.words[1]) - 4])}: {' '.join(line.words[2:])}"
+    at = int(line.words[1]) - 4  # The first line of the certificate is the fourth one of the text.
+    why = mistakes.of_lines(lines, level).get(at)
+    return ": ".join(filter(None, [texts.shown(lines[at]), " ".join(line.words[2:]), why]))
 
 
 def find() -> Auditor:

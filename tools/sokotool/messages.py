@@ -20,13 +20,14 @@ REFUSALS: Dict[str, Tuple[str, str]] = {
     "board open": ("The player could walk out of the level.",
                    "Look for a missing wall, a tab, or a row that was cut off."),
     "line syntax": ("The line isn't a pattern or a zone.",
-                    "Put one space between parts and the cells in reading order, without zeros in "
-                    "front."),
+                    "Write a cell as column,row without a space, the cells in reading order, and a "
+                    "space on each side of @; sokotool warn names the mistake."),
     "line count": ("The list has more than 65,536 patterns.", "Write fewer or smaller patterns."),
     "line board": ("The line names a cell off the board.",
-                   "Count columns and rows from 1, with the walls."),
+                   "Count columns and rows from 1, with the walls, and write the column before the "
+                   "row."),
     "line wall": ("The line puts a box, or a cell of the zone, on a wall.",
-                  "Check whether columns and rows are swapped."),
+                  "Check whether rows come before columns, or are counted from 0."),
     "line seed": ("The line puts the player outside the room or on a box of the pattern.",
                   "Name a cell that the player can reach."),
     "line goals": ("Every box of the pattern is on a goal, so the pattern may be solved.",
@@ -82,14 +83,15 @@ ERRORS: Dict[str, Tuple[str, str]] = {
 }
 
 
-def reason(level: Level, said: report.Line) -> str:
-    """Returns in a sentence why a level is refused or has no answer, with the numbers of its
-    board, or "" for an answered level."""
+def reason(level: Level, said: report.Line, mistake: str = "") -> str:
+    """Returns in a sentence why a level is refused or has no answer, with the numbers of its board
+    and the mistake in its answer, or "" for an answered level."""
     if said.status == "missing":
         return VERDICTS["missing"][0]
     fields = said.fields()
     key = " ".join(filter(None, (fields.get("refused"), fields.get("why"))))
-    return REFUSALS[key][0] + _numbers(level, key) if key in REFUSALS else ""
+    here = f" Here: {mistake}." if mistake else ""
+    return REFUSALS[key][0] + _numbers(level, key) + here if key in REFUSALS else ""
 
 
 def _numbers(level: Level, key: str) -> str:

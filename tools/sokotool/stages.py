@@ -5,7 +5,7 @@ import contextlib
 from typing import List, Optional, Sequence, Set, Tuple
 
 from . import (answers, auditor, carrying, forms, kept, level_texts, levels, memory, merging,
-               own_files, report, texts)
+               mistakes, own_files, report, texts)
 from .auditor import Audits
 from .changes import Snapshot
 from .conversion import Conversion
@@ -164,6 +164,14 @@ class State:
         """Returns the legal levels that have no accepted answer."""
         return [self.now.forms[line.level - 1] for line in self.now.lines
                 if not line.is_answered and line.words[:1] != ["board"]]
+
+    def mistake(self, line: report.Line) -> str:
+        """Returns the mistake in the line of an answer that a report line names, or ""."""
+        if line.words[:1] != ["line"]:
+            return ""
+        found = answers.read(self.answers).records
+        record = next(it for it in found if it.level == line.level)
+        return mistakes.of_report(record, self.now.levels[line.level - 1], line)
 
     def _left(self) -> kept.Kept:
         """Returns what has no place in the collection."""

@@ -34,7 +34,7 @@ def lines(run: Run, state: State, problems: Sequence[str]) -> Iterator[str]:
     places = {number: str(place) for number, (place, _) in sources.items()}
     yield from _some("no answer: ", [
         (places.get(level.number) or f"{name}.xsb line {level.line}") + ": "
-        + _unanswered(level, line)
+        + _unanswered(level, line, state.mistake(line))
         for level, line in zip(now.levels, now.lines) if not line.is_answered])
     yield from searched(state.unanswered(), state.memory.outcomes, run.outcomes)
     found = changes.changes(run.before, now) if run.before else []
@@ -59,9 +59,9 @@ def lines(run: Run, state: State, problems: Sequence[str]) -> Iterator[str]:
         yield "wrote: " + ", ".join(names)
 
 
-def _unanswered(level: levels.Level, line: report.Line) -> str:
+def _unanswered(level: levels.Level, line: report.Line, mistake: str) -> str:
     """Returns what the report says of a level without an answer and why, and its title."""
-    why = messages.reason(level, line) if line.status == "refused" else ""
+    why = messages.reason(level, line, mistake) if line.status == "refused" else ""
     return f"{': '.join(filter(None, (line.text, why)))}\t{level.title}".rstrip()
 
 

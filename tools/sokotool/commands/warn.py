@@ -2,13 +2,17 @@
 
 That is a file without a level, a line that looks like a row but isn't one, a row in a comment, and
 a level that doesn't have exactly one player or isn't closed by walls, as when an empty line tore
-it."""
+it.
+
+Of an answers file it prints the first fault, and for each line of a certificate that an audit
+refuses by itself the mistake: rows before columns, cells out of reading order, no blank beside @, a
+blank beside a comma, and others. A file of levels before it has the boards."""
 import argparse
 import re
 from itertools import islice
 from typing import Iterator, List, Sequence, Tuple
 
-from .. import levels, output, texts
+from .. import answers, levels, mistakes, output, texts
 from ..board import Board
 from ..formats import rows
 
@@ -21,21 +25,30 @@ Warning = Tuple[int, str]
 
 
 def arguments(parser: argparse.ArgumentParser) -> None:
-    parser.add_argument("levels", metavar="LEVELS", nargs="+",
-                        help="a levels file; - is standard input")
+    parser.add_argument("files", metavar="FILE", nargs="+",
+                        help="a levels file, or an answers file after its levels; - is standard "
+                             "input")
 
 
 def run(options: argparse.Namespace) -> int:
-    return int(any([_warn_of(name) for name in options.levels]))
+    is_any, boards = False, b""
+    for name in options.files:
+        data = texts.read(name)
+        if answers.is_begun(data):
+            kinds = [_of_answers(data, boards)]
+        else:
+            data = boards = texts.unmarked(data)
+            kinds = [_of_levels(data), _of_coding(data), _of_lines(texts.lines(data))]
+        is_any = _warn_of(name, kinds) or is_any
+    return int(is_any)
 
 
-def _warn_of(name: str) -> bool:
+def _warn_of(name: str, kinds: Sequence[Iterator[Warning]]) -> bool:
     """Prints the warnings about a file, and returns whether there are any."""
-    data = texts.unmarked(texts.read(name))
     found: List[Warning] = []
     more = 0
     # the first warnings of each kind
-    for kind in (_of_levels(data), _of_coding(data), _of_lines(texts.lines(data))):
+    for kind in kinds:
         found += islice(kind, MOST_PRINTED)
         more += sum(1 for _ in kind)
     shown = texts.shown(name)
@@ -62,6 +75,25 @@ def _of_coding(data: bytes) -> Iterator[Warning]:
         yield 1, "no text of one byte a character; 'sokotool convert' reads UTF-16"
     elif b"\r" in data.replace(b"\r\n", b"\n"):
         yield 1, "a line that ends with CR alone, which 'sokotool convert' reads"
+
+
+def _of_answers(data: bytes, boards: bytes) -> Iterator[Warning]:
+    """Yields the first fault of an answers file and the mistakes in its certificates. `boards` has
+    the levels, or nothing."""
+    listed, text = levels.read(boards), texts.in_utf8(data)
+    if text != data:
+        yield 1, "a byte order mark, which an audit refuses and 'sokotool merge' takes away"
+    try:
+        found = answers.read_whole(text, len(listed) if boards else None)
+    except answers.Fault as fault:
+        yield fault.line, answers.advice(text, fault, len(listed))
+        return
+    for record in found.records:
+        if record.kind == "unsolvable":
+            level = listed[record.level - 1] if boards else None
+            numbers, lines = zip(*record.body) if record.body else ((), ())
+            yield from ((numbers[at], why) for at, why in mistakes.of_lines(
+                lines, level, found.version).items())
 
 
 def _kind_of(line: bytes) -> int:
