@@ -4,7 +4,7 @@ from typing import Callable, Dict, List, NamedTuple, Optional, Sequence, Tuple, 
 from . import answers, levels, texts
 from .board import Board, Replay, board_of
 from .formats import coding
-from .places import Place
+from .origins import Place
 
 MOST_NAMED = 5
 # the letters that are played, in files of answers

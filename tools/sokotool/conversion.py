@@ -7,7 +7,7 @@ import pkgutil
 from typing import Any, Callable, Dict, List, NamedTuple, Optional, Sequence
 
 from . import __path__, answers, sources, texts
-from .places import Origins, Place, Problem
+from .origins import Origins, Place, Problem
 
 
 class Conversion(NamedTuple):

@@ -18,8 +18,8 @@ import math
 import os
 from typing import Dict, List, Optional, Sequence, Tuple
 
-from .. import (answers, auditor, forms, memory, output, own_files, places, sheet, sources, summary,
-                system, texts, transaction)
+from .. import (answers, auditor, forms, memory, origins, output, own_files, sheet, sources,
+                summary, system, texts, transaction)
 from ..builder import BOTH, MOVES, PUSHES, Collection
 from ..conversion import Conversion, Reading, code
 from ..outcomes import Result
@@ -116,10 +116,10 @@ def exports_of(options: argparse.Namespace, shown: Progress) -> Conversion:
 def converted(options: argparse.Namespace, shown: Progress, reading: Reading) -> Conversion:
     # loads all forms of exports
     from . import convert
-    problems: List[places.Problem] = []
-    notes: List[places.Problem] = []
+    problems: List[origins.Problem] = []
+    notes: List[origins.Problem] = []
 
-    def say(place: places.Place, why: str, is_fault: bool) -> None:
+    def say(place: origins.Place, why: str, is_fault: bool) -> None:
         (problems if is_fault else notes).append((place, why))
         if not is_fault:
             shown.keep(place.said(why))
@@ -134,7 +134,7 @@ def converted(options: argparse.Namespace, shown: Progress, reading: Reading) ->
         raise texts.Stop("these files have no level" + quotes * (
             len(options.exports) > 1 and os.path.exists(whole)))
     files = [*(data for _, data in collection.files(options.name)), collection.other_answers()]
-    return Conversion(reading.digest(), files, places.Origins(collection.origins, problems), notes)
+    return Conversion(reading.digest(), files, origins.Origins(collection.origins, problems), notes)
 
 
 # ---- the files of NAME
@@ -188,10 +188,10 @@ def contents(given: Run, state: State) -> Dict[str, Optional[bytes]]:
     kept_text, kept_answers = state.left.files()
     other = noted(given.program, state.pool.other_answers())
     names = page_names(given)
-    origins = given.conversion.origins.sources(state.merged.written.places)
+    found = given.conversion.origins.sources(state.merged.written.places)
     sources: Dict[int, page.Source] = {
         number: {"file": texts.shown(place.published), "line": place.line, "left": left}
-        for number, (place, left) in origins.items()}
+        for number, (place, left) in found.items()}
     table = {SHEET: sheet.text(state.now.levels, state.now.lines, names[0], sources)
              } if state.has_table else {}
     files = [state.text, state.answers, state.report]
@@ -242,7 +242,7 @@ def searched(given: Run, state: State) -> State:
 
 def report(given: Run, state: State) -> int:
     """Prints the summary, and returns the status."""
-    problems = given.conversion.origins.messages(places.numbers_of(state.merged.written.places))
+    problems = given.conversion.origins.messages(origins.numbers_of(state.merged.written.places))
     problems += state.pool.left_out()
     given.shown.clear()
     for line in problems if len(problems) > summary.MOST_PROBLEMS else ():

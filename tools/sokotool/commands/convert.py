@@ -16,7 +16,7 @@ from typing import Iterator, Optional, Sequence
 from .. import answers, builder, levels, output, own_files, sources, texts
 from ..builder import Collection
 from ..formats import foreign, reading, slc, writing
-from ..places import Place
+from ..origins import Place
 from . import encoding_argument
 
 MOST_MESSAGES = 1000

@@ -22,7 +22,7 @@ from typing import Callable, Dict, Iterator, List, NamedTuple, Sequence, Tuple
 from .. import answers, auditor, builder, forms, levels, output, report, sources, texts
 from ..board import board_of
 from ..carrying import carried
-from ..places import Place
+from ..origins import Place
 from . import above_zero, convert, page
 
 SECONDS, MEGABYTES = 60, 1000
