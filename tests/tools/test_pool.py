@@ -6,7 +6,7 @@ import signal
 import unittest.mock
 from typing import Any, Dict, List
 
-from sokotool import (answers, carrying, changes, forms, kept, memory, own_files, report, system,
+from sokotool import (answers, carrying, changes, forms, memory, own_files, report, shelf, system,
                       texts)
 from sokotool.level_texts import Block
 from sokotool.builder import BOTH, MOVES, PUSHES
@@ -90,7 +90,7 @@ class Placed(Case):
         found = Pool(self.state(mirrored, ROWS), MOVES)
         found.add_own(read(record(SHORT)), STATE, STATE, set())
         self.assertEqual(self.chosen(found), {1: b"lLL", 2: SHORT})
-        self.assertEqual(found.left(kept.Kept([], [])), [])
+        self.assertEqual(found.left(shelf.Kept([], [])), [])
 
     def test_what_has_no_place_is_kept(self) -> None:
         """But not what was computed, what the exports have, or what was stored already."""
@@ -102,21 +102,21 @@ class Placed(Case):
                 found.add_own(own, STATE, STATE, {digest} if is_computed else set())
                 found.add_exported(read(record(SHORT, b"; mine\n")).records)
                 self.chosen(found)
-                left = found.left(kept.Kept([], []))
+                left = found.left(shelf.Kept([], []))
                 self.assertEqual(bool(left), is_left and not is_computed)
-                found.add_stored(kept.Kept(left, []))
-                self.assertEqual(found.left(kept.Kept(left, [])), left)
+                found.add_stored(shelf.Kept(left, []))
+                self.assertEqual(found.left(shelf.Kept(left, [])), left)
         gone = Pool(self.state([b"#####", b"#@$.#", b"#####"]), MOVES)
         gone.add_own(read(record(SHORT)), STATE, STATE, set())
         self.assertEqual(self.chosen(gone, b"level 1 refused move 1 case\n"), {})
-        self.assertEqual([(it.head, it.block.rows) for it in gone.left(kept.Kept([], []))],
+        self.assertEqual([(it.head, it.block.rows) for it in gone.left(shelf.Kept([], []))],
                          [(b"; kept from level 1", tuple(ROWS))])
 
     def test_stored_answers_come_back(self) -> None:
         own = read(record(SHORT, b"; mine\n")).records[0]
-        entry = kept.Entry(b"; kept", Block((), tuple(ROWS), ()), own)
+        entry = shelf.Entry(b"; kept", Block((), tuple(ROWS), ()), own)
         typed = entry._replace(block=entry.block._replace(above=(b"; typed",)))
-        stored = kept.Kept([entry, typed], [])
+        stored = shelf.Kept([entry, typed], [])
         found = Pool(STATE, MOVES)
         found.add_stored(stored)
         self.assertEqual(self.chosen(found), {1: SHORT})
@@ -124,19 +124,19 @@ class Placed(Case):
 
     def test_a_stored_answer_is_for_its_board_alone(self) -> None:
         """Another level in its place may have the same solution."""
-        entry = kept.Entry(b"; kept", Block((), tuple(ROWS), ()), read(record(SHORT)).records[0])
+        entry = shelf.Entry(b"; kept", Block((), tuple(ROWS), ()), read(record(SHORT)).records[0])
         found = Pool(self.state(ROWS[:3] + ROWS[4:]), MOVES)
         found.add_exported(read(record(SHORT)).records)
-        found.add_stored(kept.Kept([entry], []))
+        found.add_stored(shelf.Kept([entry], []))
         self.assertEqual(self.chosen(found), {1: SHORT})
-        self.assertEqual(found.left(kept.Kept([entry], [])), [entry])
+        self.assertEqual(found.left(shelf.Kept([entry], [])), [entry])
 
     def test_a_certificate_is_kept_if_its_level_becomes_an_illegal_one(self) -> None:
         own = read(b"level 1\nunsolvable\npattern 3,3 @ *\nend\n")
         found = Pool(self.state([b"###", b"#.#", b"#$#", b"###"]), MOVES)
         found.add_own(own, STATE, STATE, set())
         self.assertEqual(self.chosen(found, b"level 1 refused board player\n"), {})
-        self.assertEqual([it.record for it in found.left(kept.Kept([], []))], own.records)
+        self.assertEqual([it.record for it in found.left(shelf.Kept([], []))], own.records)
 
     def test_what_a_kept_answer_says_more_than_a_title_stays(self) -> None:
         """The title of no level any more, or a note."""
@@ -147,24 +147,24 @@ class Placed(Case):
                             (b"; kept from level 4", False), (b"", False),
                             (b"; kept from level 4, Other", True), (b"; kept for later", True),
                             (b"; kept from level 4, Old, too: a note", True)):
-            entry = kept.Entry(head, Block((), tuple(ROWS), ()), own)
+            entry = shelf.Entry(head, Block((), tuple(ROWS), ()), own)
             found = Pool(now, MOVES)
-            found.add_stored(kept.Kept([entry], []))
+            found.add_stored(shelf.Kept([entry], []))
             self.assertEqual(self.chosen(found), {1: SHORT})
-            self.assertEqual(found.left(kept.Kept([entry], [])),
+            self.assertEqual(found.left(shelf.Kept([entry], [])),
                              [entry._replace(record=None)] * stays, head)
 
     def test_kept_files_are_read_as_they_were_written(self) -> None:
         own = answers.read(b"sokoban-answers 1\n; a\n\n; b\n" + record(SHORT) + b"; rest\n")
         first = Block((b"; above", b"", b"; kept for later"), tuple(ROWS), (b"Title: t",))
-        entries = [kept.Entry(b"; kept from level 3", first, own.records[0]),
-                   kept.Entry(b"; kept from level 4", first._replace(above=())),
-                   kept.Entry(b"; kept from level 5, Five", first),
-                   kept.Entry(b"; kept from level 6", first._replace(
+        entries = [shelf.Entry(b"; kept from level 3", first, own.records[0]),
+                   shelf.Entry(b"; kept from level 4", first._replace(above=())),
+                   shelf.Entry(b"; kept from level 5, Five", first),
+                   shelf.Entry(b"; kept from level 6", first._replace(
                        above=(b"; kept from level 7", b"; above")))]
-        text, records = kept.Kept(entries, own.rest).files()
+        text, records = shelf.Kept(entries, own.rest).files()
         assert text is not None and records is not None
-        again = kept.read(text, answers.read(records))
+        again = shelf.read(text, answers.read(records))
         self.assertEqual(again.files(), (text, records))
         for one, other in zip(again.entries, entries):
             self.assertEqual(one[:2], other[:2])

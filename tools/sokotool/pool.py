@@ -4,7 +4,7 @@ have the board of its own. The best answer to each level that the audit accepts 
 best solution by moves and the best one by pushes; then it is known which have no place any more."""
 from typing import Callable, Dict, Hashable, List, NamedTuple, Optional, Sequence, Set, Tuple
 
-from . import answers, carrying, changes, kept, report, texts
+from . import answers, carrying, changes, report, shelf, texts
 from .answers import Answer, Record
 from .level_texts import Block
 from .builder import BOTH, PUSHES
@@ -79,7 +79,7 @@ class Pool:
                 nearest = match.new + 1
             self._apart[nearest] = record.apart + self._apart.get(nearest, [])
 
-    def add_stored(self, stored: kept.Kept) -> None:
+    def add_stored(self, stored: shelf.Kept) -> None:
         """Adds the records that were kept without a place."""
         self._stored = self._by_board(stored.records(), stored.collection(), False, False)
 
@@ -243,7 +243,7 @@ class Pool:
                 found.append(f"{texts.shown(file)} line {line}: {why}")
         return found
 
-    def left(self, stored: kept.Kept) -> List[kept.Entry]:
+    def left(self, stored: shelf.Kept) -> List[shelf.Entry]:
         """Returns what was stored before and has no place yet, and the own records that have none
         any more."""
         homeless = iter(self._stored)
@@ -261,8 +261,8 @@ class Pool:
             key = own.record.answer, block.rows
             if not (self._has_place(own) or self._is_spare(own) or key in known):
                 known.add(key)
-                head = kept.head_of(own.level.number, own.level.title)
-                entries.append(kept.Entry(head, block, own.record))
+                head = shelf.head_of(own.level.number, own.level.title)
+                entries.append(shelf.Entry(head, block, own.record))
         return entries
 
     def _has_place(self, given: Given) -> bool:

@@ -4,8 +4,8 @@ import argparse
 import contextlib
 from typing import List, Optional, Sequence, Set, Tuple
 
-from . import (answers, auditor, carrying, forms, kept, level_texts, levels, memory, merging,
-               mistakes, own_files, report, texts)
+from . import (answers, auditor, carrying, forms, level_texts, levels, memory, merging, mistakes,
+               own_files, report, shelf, texts)
 from .auditor import Audits
 from .changes import Snapshot
 from .conversion import Conversion
@@ -81,7 +81,7 @@ class State:
         self.has_table = run.options.csv or (
             texts.digest(self.files.before.get(SHEET, b"")) == self.memory.made.get(SHEET))
         kept_text = self.files.before.get(KEPT_XSB, b"")
-        self.stored = self.left = kept.read(
+        self.stored = self.left = shelf.read(
             kept_text, self.files.answers(KEPT_ANSWERS, len(levels.read(kept_text))))
         written = self.memory.written.collection
         is_same = written.blocks and self.files.levels() == level_texts.text(written.blocks)
@@ -173,7 +173,7 @@ class State:
         record = next(it for it in found if it.level == line.level)
         return mistakes.of_report(record, self.now.levels[line.level - 1], line)
 
-    def _left(self) -> kept.Kept:
+    def _left(self) -> shelf.Kept:
         """Returns what has no place in the collection."""
         back, titles = self.merged.back, {level.title.encode() for level in self.now.levels}
         stored = [entry._replace(block=entry.block._replace(above=(), below=()))
@@ -183,7 +183,7 @@ class State:
         entries = self.pool.left(self.stored._replace(entries=stored))
         for index, block in self.merged.away:
             level = self.mine.levels[index]
-            entries.append(kept.Entry(kept.head_of(level.number, level.title), block))
+            entries.append(shelf.Entry(shelf.head_of(level.number, level.title), block))
         return self.stored._replace(entries=entries)
 
 
