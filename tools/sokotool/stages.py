@@ -7,11 +7,11 @@ from typing import List, Optional, Sequence, Set, Tuple
 from . import (answers, auditor, carrying, forms, level_texts, levels, memory, merging, mistakes,
                own_files, report, shelf, texts)
 from .auditor import Audits
+from .candidates import Pool, in_case
 from .changes import Snapshot
 from .conversion import Conversion
 from .outcomes import Outcomes
 from .own_files import ANSWERS, KEPT_ANSWERS, KEPT_XSB, OTHER, REPORT, SHEET, XSB, noted
-from .pool import Pool, in_case
 from .progress import Progress
 
 

@@ -11,8 +11,8 @@ from sokotool import (answers, carrying, changes, forms, memory, own_files, repo
 from sokotool.level_texts import Block
 from sokotool.builder import BOTH, MOVES, PUSHES
 from sokotool.board import board_of
+from sokotool.candidates import Pool, in_case
 from sokotool.levels import Level
-from sokotool.pool import Pool, in_case
 from sokotool.progress import Progress
 from tests.tools.helping import Case, not_on_windows
 
