@@ -4,8 +4,8 @@ from collections import Counter
 from typing import Iterator, Sequence
 
 from . import auditor, changes, forms, levels, messages, own_files, report, texts
+from .check_run import Run, State
 from .outcomes import FULL, ILLEGAL, LATE, LONG, MEMORY, NOTHING, Outcomes
-from .stages import Run, State
 
 MOST_PROBLEMS = 8
 MOST_LINES = 5

@@ -21,12 +21,12 @@ from typing import Dict, List, Optional, Sequence, Tuple
 from .. import (answers, auditor, forms, memory, origins, output, own_files, sheet, sources,
                 summary, system, texts, transaction)
 from ..builder import BOTH, MOVES, PUSHES, Collection
+from ..check_run import Run, State
 from ..conversion import Conversion, Reading, code
 from ..outcomes import Result
 from ..own_files import (ANSWERS, KEPT_ANSWERS, KEPT_XSB, MEMORY, OTHER, PAGE, REPORT, SHEET, XSB,
                          noted)
 from ..progress import Progress
-from ..stages import Run, State
 from . import SECONDS, above_zero, encoding_argument, page, seconds, unbroken
 
 BUDGET = 60
