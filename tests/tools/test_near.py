@@ -13,7 +13,7 @@ from typing import Iterator, List
 from sokotool import answers, builder, levels, progress, sources, system
 from sokotool.board import board_of
 from sokotool.commands import convert
-from sokotool.formats import foreign
+from sokotool.formats import other_games
 
 from .helping import ONE, Case, not_on_windows
 
@@ -46,14 +46,14 @@ class NearMisses(Case):
     def test_heads_of_other_games(self) -> None:
         """All parts of a head name the game, and fewer don't: the level is read then."""
         for game, parts in GAMES.items():
-            self.assertEqual(foreign.game_of("".join(parts) + ONE), game)
+            self.assertEqual(other_games.game_of("".join(parts) + ONE), game)
             for at in range(len(parts)):
                 fewer = "".join(parts[:at] + parts[at + 1:])
-                self.assertEqual(foreign.game_of(fewer + ONE), "", (game, fewer))
+                self.assertEqual(other_games.game_of(fewer + ONE), "", (game, fewer))
                 self.assertTrue(self.has_level(fewer + "\n" + ONE), (game, fewer))
             late = "Some text\n" + "".join(parts)
             if len(parts) == 1:
-                self.assertEqual(foreign.game_of(late + ONE), "", game)
+                self.assertEqual(other_games.game_of(late + ONE), "", game)
 
     def test_headings(self) -> None:
         """Letters after a line that may be a heading are the solution, or are told."""

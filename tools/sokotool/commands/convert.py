@@ -15,7 +15,7 @@ from typing import Iterator, Optional, Sequence
 
 from .. import answers, builder, levels, output, own_files, sources, texts
 from ..builder import Collection
-from ..formats import foreign, reading, slc, writing
+from ..formats import other_games, reading, slc, writing
 from ..origins import Place
 from . import encoding_argument
 
@@ -154,7 +154,7 @@ def _read_export(reader: reading.Reader, export: sources.Export, data: bytes) ->
         else:
             collection.fault(1, _why_no_text(collection, data), name)
         return
-    if game := foreign.game_of(text):
+    if game := other_games.game_of(text):
         if export.is_found:
             collection.idle.setdefault(game, []).append(collection.names[name])
         else:
