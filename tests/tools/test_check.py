@@ -698,7 +698,7 @@ class Unchanged(Check):
                                         stdout=subprocess.PIPE).stdout.decode().split()
                          for path in (f"{TOP}/tools", zipped))
         self.assertEqual(whole[0], packed[0])
-        for name in ("levels.py", "commands/convert.py", "formats/rows.py"):
+        for name in ("levels.py", "commands/convert.py", "formats/level_rows.py"):
             self.assertIn(name, whole)
 
     def test_what_is_converted_each_time(self) -> None:
@@ -751,7 +751,7 @@ class Unchanged(Check):
                     **os.environ, "PYTHONPATH": os.path.join(TOP, "tools")}).stdout.decode()
             loaded = {it for it in said.split() if it.startswith(("sokotool.formats.",
                                                                   "sokotool.search"))}
-            self.assertEqual("sokotool.formats.rows" in loaded, is_loaded)
+            self.assertEqual("sokotool.formats.level_rows" in loaded, is_loaded)
             self.assertFalse({it for it in loaded if "search" in it})
 
     @is_slow

@@ -14,7 +14,7 @@ from typing import Iterator, List, Sequence, Tuple
 
 from .. import answers, levels, mistakes, output, texts
 from ..board import Board
-from ..formats import rows
+from ..formats import level_rows
 
 MOST_PRINTED = 1000
 _OTHER, _ROW, _WALLS = range(3)
@@ -106,13 +106,13 @@ def _of_lines(lines: Sequence[bytes]) -> Iterator[Warning]:
     round."""
     decoded = list(map(texts.cached(texts.decoded), lines))
     kinds = bytes(map(texts.cached(_kind_of), lines))
-    read, _, comments = rows.find(decoded, lambda *_: None)
+    read, _, comments = level_rows.find(decoded, lambda *_: None)
     for match in _STRANGE.finditer(kinds):
         at = match.start()
         row = read[at]
         is_between = 0 < at < len(lines) - 1 and kinds[at - 1] == kinds[at + 1] == _ROW
         if row is None:
-            why = rows.why_no_row(decoded[at], is_between)
+            why = level_rows.why_no_row(decoded[at], is_between)
         elif row.kind == "plain" and not row.lead:
             why = "blanks after a row that aren't spaces, so it isn't a row"
         else:

@@ -2,7 +2,7 @@
 from typing import Iterator, List, NamedTuple, Sequence, Set
 
 from .. import levels
-from . import rows
+from . import level_rows
 
 
 class Level(NamedTuple):
@@ -19,7 +19,7 @@ class Export:
     """
 
     def __init__(self, file: str, is_found: bool, lines: Sequence[str], numbers: Sequence[int],
-                 found: rows.Found) -> None:
+                 found: level_rows.Found) -> None:
         self.file, self.is_found, self.lines, self.numbers = file, is_found, lines, numbers
         self.rows, self.spans, self.comments = found
         self.used: Set[int] = set()

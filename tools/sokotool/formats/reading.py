@@ -11,7 +11,7 @@ from typing import Dict, List, NamedTuple, Optional, Sequence, Tuple
 from .. import answers, carrying, forms, levels, own_files, texts
 from ..board import Board, board_of
 from ..builder import Attempt, Collection, Try
-from . import coding, letters, rows
+from . import coding, letters, level_rows
 from .groups import LONG, Group, Groups, Piece, Place
 from .lines import Export, Level
 from .names import Names
@@ -66,13 +66,13 @@ class Reader:
             faults.extend([at] * is_fault)
             self.waiting.append((file, counted[at], why, -1, is_fault))
 
-        export = Export(file, is_found, lines, counted, rows.find(lines, say, known.keys()))
+        export = Export(file, is_found, lines, counted, level_rows.find(lines, say, known.keys()))
         export.faults = len(faults)
         number = len(self.exports)
         self.exports.append(export)
         for first, end in export.spans:
             run = [row for row in export.rows[first:end] if row]
-            found, note = rows.drawn_in(run)
+            found, note = level_rows.drawn_in(run)
             if note:
                 say(first, note, False)
             export.levels.append([*range(len(self.levels), len(self.levels) + len(found))])
