@@ -12,9 +12,9 @@ from .. import answers, carrying, forms, levels, own_files, texts
 from ..board import Board, board_of
 from ..builder import Attempt, Collection, Try
 from . import coding, letters, level_rows
-from .groups import LONG, Group, Groups, Piece, Place
-from .lines import Export, Level
-from .names import Names
+from .export_lines import Export, Level
+from .letter_groups import LONG, Group, Groups, Piece, Place
+from .level_names import Names
 
 MOST_TRIES, MOST_PARTS, MOST_TRIED = 20, 1000, 2_000_000
 # letters among words that may be a word

@@ -5,7 +5,7 @@ from typing import Dict, List, Sequence
 
 from .. import levels, texts
 from . import letters
-from .lines import Export
+from .export_lines import Export
 from .reading import Reader
 
 # the most bytes of an export without a level or a solution that become a comment

@@ -5,7 +5,7 @@ from typing import Dict, List, Sequence, Set, Tuple
 
 from .. import levels, texts
 from . import letters
-from .lines import Export, Level
+from .export_lines import Export, Level
 
 # how many lines above letters, and how many words of each, may name their level
 MOST_ABOVE, MOST_WORDS = 6, 12
