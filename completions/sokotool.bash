@@ -4,7 +4,7 @@ _sokotool() {
     local commands="check page table find export convert warn merge carry named diff twins help"
     local -A options=(
         [check]="--answers --best --seconds --search --jobs --encoding --solver --solver-seconds --solver-search --verbose --csv --compare" [convert]="--best --replace --split --encoding" [named]="--json --csv --output"
-        [find]="--seconds --jobs --output" [diff]="--json --page --output" [table]="--page --seconds --memory --output"
+        [find]="--seconds --jobs --output" [diff]="--json --page --output" [table]="--page --mail --seconds --memory --output"
         [export]="--to --output" [warn]="--output" [merge]="--output" [page]="--output"
         [twins]="--output" [carry]="--output"
     )

@@ -31,6 +31,7 @@ complete -c sokotool -n "__fish_seen_subcommand_from check" -l answers -r -F -d 
 complete -c sokotool -n "__fish_seen_subcommand_from check find table" -l seconds -x -d 'Limit of time'
 complete -c sokotool -n "__fish_seen_subcommand_from check" -l search -x -d 'Limit of time for all levels'
 complete -c sokotool -n "__fish_seen_subcommand_from check find" -l jobs -x -d 'How many at once'
+complete -c sokotool -n "__fish_seen_subcommand_from table" -l mail -r -F -d 'Write texts to mail'
 complete -c sokotool -n "__fish_seen_subcommand_from table" -l memory -x -d 'Limit of memory'
 complete -c sokotool -n "__fish_seen_subcommand_from table diff" -l page -r -F -d 'Write a page'
 complete -c sokotool -n "__fish_seen_subcommand_from named diff" -l json -d 'Print objects'

@@ -64,7 +64,7 @@ def sokotool() -> Dict[str, Command]:
         actions = dict(group.choices or {})[name]._actions
         options = {option: it for it in actions for option in it.option_strings}
         found[name] = Command(
-            set(options), {option: Word(it.metavar == "FILE", list(it.choices or []))
+            set(options), {option: Word(it.metavar in ("FILE", "FOLDER"), list(it.choices or []))
                            for option, it in options.items() if it.nargs != 0},
             [Word(True, [])] * 3)
     return found

@@ -5,7 +5,7 @@ adds a number to a place and never leaves the board.
 """
 import re
 from functools import cached_property
-from typing import FrozenSet, List, Optional, Tuple
+from typing import AbstractSet, FrozenSet, List, Optional, Tuple
 
 from . import levels, texts
 from .forms import OPEN, form_of
@@ -74,6 +74,15 @@ class Board:
     def cell(self, place: int) -> Tuple[int, int]:
         """Returns the column and the row of a place, both from 1."""
         return place % self.stride, place // self.stride
+
+    def drawn(self, boxes: AbstractSet[int], player: int) -> List[str]:
+        """Returns the rows of the board with the boxes and the player in these places."""
+        marks = " .$*@+"
+        places = [range(first + 1, first + self.width + 1)
+                  for first in range(self.stride, len(self.walls) - self.stride, self.stride)]
+        return ["".join("#" if self.walls[at] else marks[
+            (at in self.goals) + 2 * (at in boxes) + 4 * (at == player)] for at in row).rstrip()
+                for row in places]
 
     def replay(self, letters: bytes, any_case: bool = False) -> "Replay":
         """Plays letters (bytes) from the start. With `any_case`, a letter in the wrong case is

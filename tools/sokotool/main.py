@@ -74,7 +74,7 @@ def main(words: Sequence[str]) -> int:
         for name, value in vars(options).items():
             if isinstance(value, list):  # a list is one of files
                 setattr(options, name, texts.expanded(value))
-            if name not in ("output", "page"):
+            if name not in ("output", "page", "mail"):
                 read += value if isinstance(value, list) else [value]
         if read.count("-") > 1:
             raise texts.Stop("standard input (-) is named twice")

@@ -3,6 +3,7 @@
 docs/messages.md has the same table, and the pages show its sentences. A key is what a report says
 after the level's number, without the numbers and cells in it, or an error without its line.
 """
+import re
 from typing import Dict, Tuple
 
 from . import report, texts
@@ -88,10 +89,25 @@ def reason(level: Level, said: report.Line, mistake: str = "") -> str:
     and the mistake in its answer, or "" for an answered level."""
     if said.status == "missing":
         return VERDICTS["missing"][0]
-    fields = said.fields()
-    key = " ".join(filter(None, (fields.get("refused"), fields.get("why"))))
+    key = _key(said)
     here = f" Here: {mistake}." if mistake else ""
     return REFUSALS[key][0] + _numbers(level, key) + here if key in REFUSALS else ""
+
+
+def advice(level: Level, said: report.Line, mistake: str = "") -> str:
+    """Returns the reason, and what to do."""
+    return " ".join([reason(level, said, mistake), *REFUSALS.get(_key(said), ())[1:]]).strip()
+
+
+def of_fault(fault: str) -> str:
+    """Returns what a fault of the program means, and what to do, or ""."""
+    return " ".join(ERRORS.get(re.sub(r" line \d+", "", fault), ()))
+
+
+def _key(said: report.Line) -> str:
+    """Returns the words of a refusal without its numbers and cells."""
+    fields = said.fields()
+    return " ".join(filter(None, (fields.get("refused"), fields.get("why"))))
 
 
 def _numbers(level: Level, key: str) -> str:

@@ -19,6 +19,7 @@ ZERO = "a number begins with 0"
 PLAYER = "a pattern ends with ' @ ' and a cell of the player, or with ' @ *'"
 OLD = "a zone needs the first line 'sokoban-answers 2'"
 ALONE = "a zone has no other line beside it"
+JOINED = "the record lacks its last line, 'end', so the next one is read as letters"
 OTHER = "this is no pattern and no zone"
 
 _CELL = re.compile(rb"([0-9]{1,6}),([0-9]{1,6})")
@@ -60,6 +61,8 @@ def of_lines(lines: Sequence[bytes], level: Optional[Level] = None, version: int
 
 def of_report(record: Record, level: Level, said: report.Line) -> str:
     """Returns the mistake in the line of a record that a report names, or ""."""
+    if said.words[0::2] == ["move", "letter"]:
+        return JOINED if any(re.fullmatch(rb"level \d+", line) for _, line in record.body) else ""
     numbers = [number for number, _ in record.body]
     if said.words[:1] != ["line"] or int(said.words[1]) not in numbers:
         return ""

@@ -106,6 +106,13 @@ def memory_limit(megabytes: int) -> Optional[Callable[[], None]]:
     return bound if resource else None
 
 
+def megabytes_used() -> int:
+    """Returns the address space of this process, or 0 where the system doesn't say."""
+    with contextlib.suppress(OSError, AttributeError), open("/proc/self/statm", "rb") as file:
+        return int(file.read().split()[0]) * resource.getpagesize() // 1_000_000 + 1
+    return 0
+
+
 def lock(handle: int) -> bool:
     """Locks an open file. Returns false if another process has the lock, which ends with that
     process or when it closes the file. Where files have no locks nothing is locked."""
