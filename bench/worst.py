@@ -43,6 +43,11 @@ def worst() -> Iterator[Timed]:
     yield pairs(side=255, lines=2)
     yield colliding(side=255, lines=60, boxes=1500)
     yield chambers(side=255, big=60, lines=4000, rooms=60)
+    yield nested(side=255, lines=2, boxes=12000)
+    yield many_ahead(side=255, lines=12, decoys=4000, boxes=3000)
+    yield parted(side=255, lines=50, decoys=10, boxes=200)
+    yield parted(side=255, lines=12, decoys=12, boxes=400, beyond=True)
+    yield held(side=255, low=125)
     yield one_way(side=255, levels=10)
     yield squares(side=255, levels=100)
     yield combs(side=255)
@@ -283,6 +288,72 @@ def chambers(side: int, big: int, lines: int, rooms: int) -> Timed:
     return Timed("boxes in the doors of many rooms", AUDIT, hall.level([*doors, *inner, hall.plug]),
                  listed([*(line([*it, hall.plug], *seeds) for it in heads),
                          *hall.decoys(doors + inner, lines)]))
+
+
+def crowd(side: int, boxes: int) -> Tuple[List[Cell], List[Cell], str]:
+    """Boxes in a hall that can be pushed in four ways, two more in its lowest row, which a line
+    of one box covers whenever they are there, and the level of all of them."""
+    some = grid(range(4, side - 2, 2), range(4, side - 11, 2))[:boxes]
+    ends = [(side - 20, side - 4), (side - 10, side - 4)]
+    things = {**dict.fromkeys([*some, *ends], "$"), (3, side - 2): "@"}
+    free = [it for it in grid(range(3, side - 2), range(side - 1, 1, -1)) if it not in things]
+    things.update(dict.fromkeys(free[:len(some) + 2], "."))
+    for it in [*some, *ends][:max(0, len(some) + 2 - len(free))]:
+        things[it] = "*"
+    return some, ends, walled(side, side, things)
+
+
+def nested(side: int, lines: int, boxes: int) -> Timed:
+    """Lines of many boxes. Each line has the boxes of the next one, and one more."""
+    some, ends, level = crowd(side, boxes)
+    return Timed("lines of many boxes inside each other", AUDIT, level, listed(
+        [*(line(some[it:] + ends) for it in range(lines)), *(line([it]) for it in ends)]))
+
+
+def many_ahead(side: int, lines: int, decoys: int, boxes: int) -> Timed:
+    """Lines of many boxes, and decoys of two of these and a third one that is nowhere, so that each
+    decoy may cover the pushes to one cell."""
+    some, ends, level = crowd(side, boxes)
+    nowhere, rng = (side - 30, side - 4), random.Random(1)
+    texts = [line(some[:it] + some[it + 1:] + ends) for it in range(lines)]
+    found: Dict[str, bool] = {}
+    while len(found) < decoys:
+        found[line([*rng.sample(some, 2), nowhere])] = True
+    return Timed("lines of many boxes, and decoys of three", AUDIT, level,
+                 listed([*texts, *(line([it]) for it in ends), *found]))
+
+
+def parted(side: int, lines: int, decoys: int, boxes: int, beyond: bool = False) -> Timed:
+    """Lines whose boxes part a winding corridor into as many pieces, and decoys that have a region
+    in the last piece alone: two boxes, or with `beyond` most of the boxes of the farther half."""
+    path = snake(side, 2)
+    straight = [at for at in range(8, len(path) - 12)
+                if all(it[0] == path[at][0] for it in path[at - 4:at + 5])]
+    some = [path[at] for at in straight[::max(4, len(straight) // boxes)]][:boxes]
+    ends = [path[-3], path[-5]]
+    things = {**dict.fromkeys(path, " "), **dict.fromkeys([*some, *ends], "$"), path[0]: "@"}
+    free = [it for it in path[::-1] if things[it] == " "]
+    things.update(dict.fromkeys(free[:len(some) + 2], "."))
+    half = boxes // 2
+    if beyond:
+        near = [[*some[half:half + it], *some[half + it + 1:]] for it in range(decoys)]
+    else:
+        near = [list(it) for it in islice(combinations(some, 2), decoys)]
+    name = "boxes in a winding corridor" + ", and decoys of those beyond" * beyond
+    return Timed(name, AUDIT, walled(side, side, things, lambda *cell: "#"), listed(
+        [*(line(some[:it] + some[it + 1:] + ends) for it in range(lines)),
+         *(line([it]) for it in ends), *(line([*it, ends[0]], path[-1]) for it in near)]))
+
+
+def held(side: int, low: int) -> Timed:
+    """A line of boxes that hold each other in pairs, between columns that each have a seed."""
+    boxes = [(x, y) for x, y in grid(range(4, side - 3), range(2, low)) if x % 3]
+    seeds = [(x, 2) for x in range(2, side) if (x, 2) not in boxes]
+    free = grid(range(2, side), range(side - 1, low, -1))
+    things = {**dict.fromkeys(boxes, "$"), **dict.fromkeys(free[:len(boxes)], "."), (2, 2): "@",
+              **dict.fromkeys(grid(range(3, side), range(low, low + 1)), "#")}
+    return Timed("pairs of boxes between columns with seeds", AUDIT, walled(side, side, things),
+                 listed([line(boxes, *seeds)]))
 
 
 def one_way(side: int, levels: int) -> Timed:
