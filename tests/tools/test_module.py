@@ -86,6 +86,19 @@ class Module(unittest.TestCase):
             it = module(audit=texts([text[:length]]))
             self.assertEqual(it.audit("", "")[0], text[:length])
 
+    def test_a_full_collection_is_whole(self) -> None:
+        """There is room for each level, also of the shortest ones, up to 10,000."""
+        for count in (1, 2, 9_999, 10_000, 10_001):
+            def lines(*words: Any) -> int:
+                entries, room, outcome = words[-3:]
+                self.assertEqual(room, min(count, 10_000))
+                for number, entry in enumerate(entries, 1):
+                    entry.status, entry.moves = 1, number
+                outcome._obj.levels = room
+                return 0
+            found, _ = module(lines=lines).lines("#\n\n" * (count - 1) + "#", "")
+            self.assertEqual([it.moves for it in found], [*range(1, min(count, 10_000) + 1)])
+
     def test_faults(self) -> None:
         """A fault is raised with its number, its line and the library's words."""
         def lines(*words: Any) -> int:
