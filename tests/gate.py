@@ -1,6 +1,7 @@
 """tests/run gate [FUNCTION..]: tests how the gate counts and how it runs parts at once, by planted
-parts; that it runs each part and each share of one; and what tests/bare hands on. Only the named
-functions of this file run. Ends in 'N passed, M failed'."""
+parts; that it runs each part and each share of one; what tests/bare hands on, and what
+packaging/needs installs; and what the benchmark measures. Only the named functions of this file
+run. Ends in 'N passed, M failed'."""
 import contextlib
 import glob
 import io
@@ -12,6 +13,7 @@ from collections import Counter, defaultdict
 from shlex import quote
 from typing import Dict, List
 
+from bench import inputs as bench_inputs
 from tests import __main__ as every
 from tests import mutants
 from tests.runner import (TOP, Cases, arguments, call, chosen, decode, enter_folder, read, run,
@@ -116,7 +118,37 @@ WRONG = {
     "tests/run tables /bin/true zone": "there is no zone; --names prints what there is\nstatus 1\n",
     "tests/run speed /bin/true crsh": "there is no crsh; --names prints what there is\nstatus 1\n",
     "tests/run reference.parts --names": "samples\nhindered\nstatuses\nstatus 0\n",
+    "packaging/deb .":
+        "packaging/deb: usage: packaging/deb BUILT FOLDER [LIBRARY]\nstatus 2\n",
+    "packaging/deb . to lib more":
+        "packaging/deb: usage: packaging/deb BUILT FOLDER [LIBRARY]\nstatus 2\n",
+    "packaging/dist .":
+        "packaging/dist: usage: packaging/dist BUILT FOLDER [LIBRARY]\nstatus 2\n",
+    "packaging/dist . to lib more":
+        "packaging/dist: usage: packaging/dist BUILT FOLDER [LIBRARY]\nstatus 2\n",
+    "packaging/dist none to":
+        "packaging/dist: this machine has no file none/sokoaudit, which 'rt run -- --help' in "
+        "crates/sokoaudit makes\nstatus 3\n",
+    "packaging/library": "packaging/library: usage: packaging/library FOLDER\nstatus 2\n",
+    "packaging/page": "packaging/page: usage: packaging/page [--quick] FILE\nstatus 2\n",
+    "packaging/native --quick arm64 /bin/true":
+        "packaging/native: usage: packaging/native [--quick] windows|arm64 PROGRAM FOLDER\n"
+        "status 2\n",
+    "packaging/native mac /bin/true to":
+        "packaging/native: the machines are windows and arm64\nstatus 2\n",
+    "packaging/pictures none": "usage: packaging/pictures FOLDER\nstatus 1\n",
 }
+# what packaging/needs asks of apt-get, by whether a build server runs it as root, and by what can't
+# be had; the commands sh and timeout are there
+INSTALL = "-qq install -y --no-install-recommends"
+NEEDS = (
+    ("", "0", "none", ""),
+    ("true", "1000", "none", ""),
+    ("true", "0", "none", f"-qq update\n{INSTALL} one two\n"),
+    ("true", "0", "one", f"-qq update\n{INSTALL} one two\n{INSTALL} one\n{INSTALL} two\n"),
+)
+# what a number in the name of a case of the benchmark counts: a column of bench/inputs.table
+COLUMNS = {"levels": 1, "board": 2, "solutions": 3, "patterns": 4, "pairs": 4, "letters": 5}
 GIVEN = {"HOME": "/a b", "PATH": "/usr/bin:/bin", "TERM": '"', "https_proxy": "$x"}
 
 
@@ -242,6 +274,39 @@ def variables(cases: Cases) -> None:
     cases.same("tests/bare", str(sorted(GIVEN.items())), str(sorted(found.items())))
 
 
+def needs(cases: Cases) -> None:
+    """A case for each time that packaging/needs may install packages."""
+    os.mkdir("few")
+    for name in ("sh", "timeout"):
+        os.symlink(f"/usr/bin/{name}", f"few/{name}")
+    for name, line in (("id", "echo $USER"), ("apt-get", 'echo "$@" >>asked; case "$@" in *'
+                                                         "$LACKS*) exit 1 ;; esac")):
+        write(f"few/{name}", f"#!/bin/sh\n{line}\n")
+        os.chmod(f"few/{name}", 0o755)
+    words = [f"{TOP}/packaging/needs", "timeout=coreutils", "none=one", "/none/none=two", "sh=dash"]
+    for server, user, lacks, wanted in NEEDS:
+        write("asked", "")
+        said = run(words, env={"PATH": os.path.abspath("few"), "CI": server, "USER": user,
+                               "LACKS": lacks})
+        cases.same(f"asked, CI={server} USER={user} LACKS={lacks}", wanted, read("asked"))
+        cannot = f"packaging/needs: cannot install {lacks}\n" if lacks in wanted else ""
+        cases.same("and said", f"{cannot}status 0\n", said)
+
+
+def inputs(cases: Cases) -> None:
+    """A case for what the benchmark's cases have, and one for each number in their names. A list
+    may have a line more, which covers the others."""
+    made = bench_inputs.table()
+    cases.same("bench/inputs.table", read(f"{TOP}/bench/inputs.table"), made)
+    for line in made.splitlines()[2:]:
+        name, *columns = line.split(" | ")
+        for number, noun in re.findall(rf"(?<!of )\b([\d,]+) ({'|'.join(COLUMNS)})\b", name):
+            more = int(columns[COLUMNS[noun] - 1]) - int(number.replace(",", ""))
+            cases.holds(f"{name}: {number} {noun}", more in (0, int(noun == "patterns")), line)
+        for board in re.findall(r"(?:board|levels?) of (\d+ by \d+)", name):
+            cases.same(f"{name}: {board}", board, columns[COLUMNS["board"] - 1])
+
+
 def wrong_words(cases: Cases) -> None:
     """A case for each line of words that are wrong."""
     for words, wanted in WRONG.items():
@@ -250,7 +315,8 @@ def wrong_words(cases: Cases) -> None:
 
 
 if __name__ == "__main__":
-    every_part = counting, at_once, whole, without_toolchain, variables, wrong_words
+    every_part = (counting, at_once, whole, without_toolchain, variables, needs, inputs,
+                  wrong_words)
     parts = {it.__name__: it for it in every_part}
     named = chosen(arguments("gate [FUNCTION..]"), [*parts])
     cases, _folder = Cases("gate"), enter_folder()
