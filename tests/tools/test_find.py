@@ -10,7 +10,7 @@ import time
 import unittest.mock
 
 import solve
-from typing import Any, Tuple
+from typing import Any, List, Tuple
 from tests.tools.helping import (TOP, Case, Result, is_slow, needs_copies, not_on_windows,
                                  used)
 from sokotool import levels
@@ -18,6 +18,7 @@ from sokotool.board import Board
 from sokotool.search import refute
 from sokotool.search.budget import Budget
 from sokotool.search.deadlocks import Known
+from sokotool.search.plays import Play
 from sokotool.search.rooms import Room, bits, count
 
 CORNER = "#####\n#$ .#\n# @ #\n#####\n"
@@ -44,6 +45,28 @@ KINDS = {
 SHORTENED = {"two boxes and a push": 7, "too few goals along two walls": 13, "whole level": 3,
              "closed diagonal": 1}
 SOLVABLE = "######\n#    #\n#@$  #\n#  . #\n######\n"
+# levels of 7 boxes, the patterns that a search finds, and the positions that it tries: without a
+# step of the search one of the levels takes more
+EFFORT = (
+    ("###########/#  #     .#/#   $# @  #/#.        #/#    $  $ #/"
+     "# # #  $  #/## # $.   #/#   $. . ##/# #  $ . .#/###########", 7, 0),
+    ("###########/#  $ .    #/#    #  #.#/#   $  $#$#/##.  .#   #/"
+     "#     $ # #/##   $ #  #/##  # $ #.#/#  @  . .##/###########", 45, 0),
+    ("###########/# #  # #  #/#.    @ . #/#     #   #/# .#  .  ##/"
+     "#  # $    #/#..  #$$# #/#$#$$     #/# . $  ## #/###########", 4, 882),
+    ("###########/#     #   #/#  .   $  #/#.  .  #$##/#...@  #  #/"
+     "#$ ##   $ #/#   # . $ #/#$ $     ##/#      # ##/###########", 5, 812),
+    ("###########/##  # #  .#/#     .$ ##/# $   # $ #/##    .$ .#/"
+     "#  $  # $ #/#  #  ..  #/## # $  #.#/#  # # @# #/###########", 0, 4851),
+    ("###########/#.#  @   ##/# $  # $. #/# . . $ $ #/## .   # ##/"
+     "##  $$   ##/#   #  #. #/#   #$   .#/# # #    ##/###########", 0, 5811),
+    ("###########/##  $ . # #/## $ $#   #/#  #     .#/# . ### . #/"
+     "# $  $. . #/### $     #/#  #@$ #  #/## .  #   #/###########", 18, 961),
+    ("###########/#   .## # #/# .  #  # #/#. #   # .#/# #     $$#/"
+     "#$#$ # $$ #/#  . # @$##/#  ..#    #/#      ## #/###########", 2, 51),
+    ("###########/#    # #  #/#   $    ##/#$  $  .  #/#  $  .#$ #/"
+     "# .## .   #/#.@ #   ###/# # .   $ #/####.$    #/###########", 0, 837),
+)
 
 
 def summary(result: Result) -> str:
@@ -335,6 +358,23 @@ class Search(Case):
                              b"\n".join(level.rows).decode())
         self.assertGreater(unsolvable, 100)
         self.assertEqual(self.tool("find", "levels", "--seconds", "60").out, first.out)
+
+    def test_effort(self) -> None:
+        """A search tries hardly more positions than it did, and its list has no more patterns."""
+        run = Play.run
+        for level, patterns, positions in EFFORT:
+            plays: List[Play] = []
+
+            def noted(play: Play, most: int) -> str:
+                plays.append(play)
+                return run(play, most)
+
+            (read,) = levels.read(level.replace("/", "\n").encode())
+            with unittest.mock.patch.object(Play, "run", noted):
+                end, record = refute.outcome(read, 60)
+            self.assertEqual(end, "found" if patterns else "solvable", level)
+            self.assertLessEqual(record.count(b"\npattern "), patterns, level)
+            self.assertLessEqual(sum(it.positions for it in plays), positions * 1.1, level)
 
     def test_floods(self) -> None:
         """Floods by shifts and cell by cell find the same cells, and the sides of a box are the
