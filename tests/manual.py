@@ -1,17 +1,17 @@
 """tests/run manual PROGRAM: compares the man pages with the programs. They have every text that the
 sources of sokoaudit can print, their examples show what it prints, and the page of sokotool has the
-options and defaults of its parser; mandoc, if it is installed, finds no fault in them. There are
+options and defaults of its help; mandoc, if it is installed, finds no fault in them. There are
 the files that HACKING.md names and the crates in its picture, the definitions and lemmas that pages
 name in brackets, the code that pages quote, and what pages and examples use of the header for C.
 Ends in 'N passed, M failed'."""
-import argparse
 import glob
 import os
 import re
 from typing import Dict, List, Set
 
-from sokotool.main import COMMANDS, parser_for
+from sokotool.main import COMMANDS
 from tests.runner import TOP, Cases, arguments, enter_folder, read, run, write
+from tests.usage import help_of, options_of
 
 PAGES = [f"{TOP}/man/{it}" for it in ("sokoaudit.1", "sokoaudit-answers.5", "sokotool.1")]
 TOOL = read(PAGES[2])
@@ -114,14 +114,6 @@ def defaults_in_man(command: str) -> List[str]:
     return sorted(re.findall(r"\(([\d.]+) by default", part))
 
 
-def options_of(command: str) -> Dict[str, argparse.Action]:
-    """The options of a command of sokotool by their long names."""
-    actions = parser_for([command])._actions  # pylint: disable=protected-access
-    (commands,) = (it.choices for it in actions if isinstance(it.choices, dict))
-    found = commands[command]._actions  # pylint: disable=protected-access
-    return {it[2:]: action for action in found for it in action.option_strings if it[:2] == "--"}
-
-
 def values_in_man(command: str) -> Dict[str, str]:
     """What the synopsis of a command calls the values of its options."""
     synopsis = TOOL[TOOL.index(".Sh SYNOPSIS"):TOOL.index(".Sh DESCRIPTION")]
@@ -134,15 +126,14 @@ def options(cases: Cases) -> None:
     """Three cases for each command of sokotool: the page has its options, what its help calls their
     values, and their defaults."""
     for command in COMMANDS:
-        found = options_of(command)
+        found = {it.names[-1][2:]: it.value for it in options_of(command)}
         cases.same(f"the options of {command}", " ".join(sorted(found.keys() - {"help", "output"})),
                    " ".join(sorted(in_man(command) - {"output"})))
-        named = {name: str(it.metavar or name).lower() for name, it in found.items()
-                 if it.nargs != 0 and not it.choices and name != "output"}
+        named = {name: value.lower() for name, value in found.items()
+                 if value.isalpha() and name != "output"}
         cases.same(f"the values of {command}", str(sorted(named.items())),
                    str(sorted(values_in_man(command).items())))
-        helped = " ".join(it.help or "" for it in found.values())
-        defaults = sorted(re.findall(r"\(default ([\d.]+)", helped))
+        defaults = sorted(re.findall(r"\(default ([\d.]+)", help_of(command)))
         cases.same(f"the defaults of {command}", str(defaults), str(defaults_in_man(command)))
 
 

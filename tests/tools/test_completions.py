@@ -1,5 +1,5 @@
 """The completions of bash, zsh and fish for both programs: commands, options, values and files, as
-the parser of sokotool and the help of sokoaudit have them."""
+the helps of both have them."""
 import os
 import re
 import shutil
@@ -10,6 +10,7 @@ from typing import Dict, List, NamedTuple, Set
 from sokotool import main
 from tests.tools import helping
 from tests.tools.helping import TOP, Case, needs_program
+from tests.usage import options_of
 
 FILES = ["a b.xsb", "c.txt"]
 # what bash offers after the words of a line, the last of which is cut
@@ -57,16 +58,13 @@ class Command(NamedTuple):
 
 
 def sokotool() -> Dict[str, Command]:
-    """Returns the commands of sokotool, by its parser."""
+    """Returns the commands of sokotool, by its help."""
     found = {}
     for name in main.COMMANDS:
-        (group,) = [it for it in main.parser_for([name])._actions if it.choices]
-        actions = dict(group.choices or {})[name]._actions
-        options = {option: it for it in actions for option in it.option_strings}
-        found[name] = Command(
-            set(options), {option: Word(it.metavar in ("FILE", "FOLDER"), list(it.choices or []))
-                           for option, it in options.items() if it.nargs != 0},
-            [Word(True, [])] * 3)
+        options = {it: option.value for option in options_of(name) for it in option.names}
+        values = {it: Word(value in ("FILE", "FOLDER"), re.findall("[a-z]+", value))
+                  for it, value in options.items() if value}
+        found[name] = Command(set(options), values, [Word(True, [])] * 3)
     return found
 
 
