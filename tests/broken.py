@@ -1,11 +1,12 @@
 """tests/run broken LOG [SHARE] | CRATE..: applies all edits of crates/CRATE/broken at once, checks
-the crate once, and demands that the prover refuses each function that an edit changes. Edits of one
-function take turns, each in a check over what the one before proved. LOG is what 'rt ci' printed:
-crates that it took from an earlier run are skipped. A share such as 1/2 is every second of the
-other crates. Ends in 'N passed, M failed'.
+the functions that they change, and demands that the prover refuses each of these and nothing else.
+Edits of one function take turns, and so does an edit whose function waits for a refused one that
+it calls. LOG is what 'rt ci' printed: crates that it took from an earlier run are skipped. A share
+such as 1/2 is every second of the other crates. Ends in 'N passed, M failed'.
 
-One check tells of all edits, since callers rest on contracts and not on bodies. It takes about as
-long as a check without them, where 'rt ci' checks the crate once more for each edit in must-fail.
+One check tells of all edits, since callers rest on contracts and not on bodies. It reads the
+libraries once, and no function that has no edit and that none of these calls. 'rt ci' checks the
+whole crate for each edit in must-fail, and once more before and after them.
 """
 import glob
 import importlib.machinery
@@ -15,21 +16,43 @@ import re
 import shutil
 import sys
 import tempfile
-from typing import Any, Dict, List, NamedTuple, Sequence, Tuple
+from typing import Any, Dict, List, NamedTuple, Sequence, Set, Tuple
 
 from tests.runner import TOP, Cases, is_share, read, share_of
 
-HEAD = re.compile(r"(?m)^ *(?:pub(?:\([a-z]+\))? )?(?:const )?fn (\w+)")
+# the head of a function, and those in which it is named by a type or a trait
+HEAD = re.compile(r'(?m)^( *)(?:pub(?:\(\w+\))? )?(?:const |unsafe |extern "C" )*fn (\w+)')
+OWNER = re.compile(r"(?m)^(?:pub(?:\(\w+\))? )?"
+                   r"(?:impl(?:<.*?>)? (?:(\w+)(?:<.*?>)? for )?(\w+)\b|trait (\w+))")
+# texts that end in a function, and its name as a check prints it
+HEADS = (
+    ("src/lib.rt", "pub struct Row;\nfn at()", "low::at"),
+    ("src/rows/mod.rt", "fn at()", "low::rows::at"),
+    ("src/rows/row.rt", "impl Row {\n    pub(crate) fn at()", "low::rows::row::Row::at"),
+    ("src/row.rt", "impl<'a, S: Set> Iterator for Row<'a, S> {\n    fn at()",
+     "low::row::RowIterator::at"),
+    ("src/row.rt", "impl<const N: usize> By<N> for Row {\n    fn at()", "low::row::RowBy::at"),
+    ("src/row.rt", "pub trait Set: Drop {\n    fn at()", "low::row::Set::at"),
+    ("src/lib.rt", 'impl Row {\n}\n\n#[unsafe(no_mangle)]\npub extern "C" fn at()', "low::at"),
+)
 KEPT = "rt: {} is kept: an earlier run on this machine proved the same files"
-# a proof that names what the edit took away shows nothing of a contract
-NAMES = r"(?!.*(?:has no field|is not in scope|has no `|was not admitted|that depends? on))"
+# What a check prints of a function that it refuses, by the goal that has no proof, or by the proof
+# that is wrong. One that names what the edit took away shows nothing of a contract, nor does a
+# limit of the prover. A function that calls a refused one may wait for it.
+OPEN = re.compile(r"(?m)^fn \w+::(\S+): no proof: (?!it calls )")
+WRONG = re.compile(r"(?m)^\./proofs/((?:\w+/)+)\w+\.antt:\d+:\d+: error: (?!.*(?:has no field"
+                   r"|is not in scope|has no `|was not admitted|that depends? on|antt ran out of))")
+WAITS = re.compile(r"(?m)^fn (\S+): (?:not proved; |no proof: )it calls ")
 # what a check prints, shortened, and whether it refuses the function `step` of src/shape.rt
 SAID = (
     ("fn low::shape::Shape::step: no proof: expected answers in ./proofs/..", True),
     ("./proofs/shape/Shape/step/Answers.antt:31:3: error: `returns`: the two types differ", True),
     ("./proofs/shape/Shape/step/Answers.antt:31:3: error: `low` is not in scope", False),
     ("./proofs/shape/Shape/step/Answers.antt:9:5: error: 2 declarations that depend on `a`", False),
+    ("./proofs/shape/Shape/step/Answers.antt:9:5: error: antt ran out of memory", False),
+    ("fn low::shape::Shape::step: not proved", False),
     ("fn low::shape::Shape::step: not proved; it calls `low::grid::at`, which is not", False),
+    ("fn low::shape::Shape::step: no proof: it calls `low::grid::at`, which is not proved", False),
     ("fn low::shape::Shape::first_step: no proof: expected answers in ./proofs/..", False),
     ("fn low::grid::step: no proof: expected answers in ./proofs/..", False),
     ("fn low::shape::Shape::step: proved", False),
@@ -38,10 +61,23 @@ SAID = (
 
 class Edit(NamedTuple):
     """An edit of a crate: its name, its pairs of texts with their files, and the functions that it
-    changes, each with its file."""
+    changes, as a check prints them."""
     name: str
     pairs: List[Tuple[str, str, str]]
-    functions: List[Tuple[str, str]]
+    functions: List[str]
+
+
+def function_at(crate: str, file: str, text: str) -> str:
+    """The function in which a text of a file ends, or ''."""
+    heads = [*HEAD.finditer(text)]
+    if not heads:
+        return ""
+    indent, name = heads[-1].groups()
+    owner = ""
+    for it in OWNER.finditer(text) if indent else ():
+        owner = it[3] or it[2] + (it[1] or "")
+    module = re.sub(r"^src/(lib\.rt$)?|(/mod)?\.rt$", "", file).split("/")
+    return "::".join(it for it in [crate, *module, owner, name] if it)
 
 
 def read_edit(crate: str, path: str) -> Edit:
@@ -57,31 +93,26 @@ def read_edit(crate: str, path: str) -> Edit:
             pairs.append((file, old, rest))
     for file, old, _ in pairs:
         text = read(f"{crate}/{file}") if os.path.isfile(f"{crate}/{file}") else ""
-        heads = [it[1] for it in HEAD.finditer(text[:text.find(old)])]
-        functions += [(file, heads[-1])] if text.count(old) == 1 and heads else []
-    name = os.path.basename(path)
-    return Edit(name, pairs, functions if len(functions) == len(pairs) else [])
+        found = function_at(os.path.basename(crate), file, text[:text.find(old)])
+        functions += [found] if text.count(old) == 1 and found else []
+    whole = len(functions) == len(pairs)
+    return Edit(os.path.basename(path), pairs, [*dict.fromkeys(functions)] if whole else [])
 
 
-def rounds(edits: Sequence[Edit]) -> List[List[Edit]]:
-    """The edits in as few rounds as they need, in each of which they change other functions."""
-    every: List[List[Edit]] = []
+def next_round(edits: Sequence[Edit]) -> List[Edit]:
+    """As many of the edits as change other functions each."""
+    some: List[Edit] = []
     for edit in edits:
-        for some in every:
-            if not {*edit.functions} & {function for it in some for function in it.functions}:
-                some.append(edit)
-                break
-        else:
-            every.append([edit])
-    return every
+        if not {*edit.functions} & {function for it in some for function in it.functions}:
+            some.append(edit)
+    return some
 
 
-def refuses(said: str, crate: str, file: str, function: str) -> bool:
-    """Whether a check refuses a function."""
-    module = re.sub(r"^src/|(^src/lib|/mod)?\.rt$", "", file)
-    path = "".join(f"{it}::" for it in [crate, *module.split("/")] if it)
-    return bool(re.search(rf"(?m)^fn {path}(?:\w+::)*{function}: no proof", said) or re.search(
-        rf"(?m)^\./proofs/{module}/(?:\w+/)*{function}/\w+\.antt:\d+:\d+: error: {NAMES}", said))
+def refused(crate: str, said: str) -> Set[str]:
+    """The functions that a check of a crate refuses for what their contracts say."""
+    found = {it.replace("::", "/") for it in OPEN.findall(said)} | {
+        it.rstrip("/") for it in WRONG.findall(said)}
+    return {f"{crate}::{it.replace('/', '::')}" for it in found}
 
 
 def toolchain() -> Any:
@@ -96,6 +127,29 @@ def toolchain() -> Any:
     return module
 
 
+def edits_of(name: str) -> List[Edit]:
+    """The edits of a crate."""
+    folder = f"{TOP}/crates/{name}"
+    return [read_edit(folder, it) for it in sorted(glob.glob(f"{folder}/broken/*.edit"))]
+
+
+def judge(cases: Cases, crate: str, edits: Sequence[Edit], said: str) -> List[Edit]:
+    """A case for each of these edits, by what a check with all of them printed, and one for all
+    other functions. Returns the edits that have to be tried again, as a refused function is called
+    by theirs."""
+    found, waiting = refused(crate, said), []
+    others = sorted(found - {function for it in edits for function in it.functions})
+    cases.holds("nothing is refused without an edit", not others, *others)
+    for edit in edits:
+        missed = [it for it in edit.functions if it not in found]
+        if missed and len(edits) > 1 and {*missed} <= {*WAITS.findall(said)}:
+            waiting.append(edit)
+        else:
+            cases.holds(f"{edit.name} is refused in {' and '.join(edit.functions)}", not missed,
+                        *missed, *said.splitlines()[-20:])
+    return waiting
+
+
 def of_crate(cases: Cases, name: str, is_built: bool) -> None:
     """A case for each edit of a crate. Unless they are built, its libraries are built first."""
     rt, folder = toolchain(), f"{TOP}/crates/{name}"
@@ -105,43 +159,47 @@ def of_crate(cases: Cases, name: str, is_built: bool) -> None:
         rt.share_work(False)
         for below in crate.below():
             cases.holds(f"{below.name} is built", not below.build_rlib(["--jobs", "1"], anew=False))
-    edits = [read_edit(folder, it) for it in sorted(glob.glob(f"{folder}/broken/*.edit"))]
+    left = [it for it in edits_of(name) if it.functions]
     # 'rt ci' gives back what was in out/ before, and leaves no stamp where nothing was
-    if any(os.path.exists(f"{it.folder}/out/rlib/stamp") and not it.is_built()
-           for it in crate.below()):
-        cases.skip(name, "libraries of other sources are in out/", 2 * len(edits))
+    stamped = [it for it in crate.below() if os.path.exists(f"{it.folder}/out/rlib/stamp")]
+    if stamped and not all(it.is_built() for it in crate.below()):
+        cases.skip(name, "libraries of other sources are in out/", len(left))
         return
-    for edit in edits:
-        cases.holds(f"{edit.name} can be applied", edit.functions)
     with tempfile.TemporaryDirectory(prefix="sokoaudit-broken-") as kept:
-        for some in rounds([it for it in edits if it.functions]):
-            texts: Dict[str, str] = {}
+        while left:
+            some, texts = next_round(left), {}  # type: List[Edit], Dict[str, str]
             for file, old, new in [pair for it in some for pair in it.pairs]:
                 texts[file] = texts.get(file, read(f"{folder}/{file}")).replace(old, new)
-            said = rt.checked(crate, texts, ["--jobs", "1"], kept).stdout
-            for edit in some:
-                missed = [it for file, it in edit.functions if not refuses(said, name, file, it)]
-                cases.holds(f"{edit.name} is refused in {edit.functions[-1][1]}", not missed,
-                            *missed, *said.splitlines()[-20:])
+            only = [word for it in some for function in it.functions
+                    for word in ("--only", function)]
+            said = rt.checked(crate, texts, ["--jobs", "1", *only], kept).stdout
+            waiting = judge(cases, name, some, said)
+            left = [it for it in left if it not in some] + waiting
 
 
 def main() -> None:
     """Runs the part."""
     cases, words = Cases("broken"), sys.argv[1:]
-    for said, wanted in SAID:
-        cases.holds(said, refuses(said, "low", "src/shape.rt", "step") == wanted)
+    for file, text, wanted in HEADS:
+        cases.same(f"{file}: {text!r}", wanted, function_at("low", file, text))
+    for said, is_so in SAID:
+        cases.holds(said, ("low::shape::Shape::step" in refused("low", said)) == is_so)
     crates = sorted({it.split("/")[-3] for it in glob.glob(f"{TOP}/crates/*/broken/*.edit")})
     log = read(words[0]) if words and os.path.isfile(words[0]) else ""
     named = [os.path.basename(it) for it in words]
     if not log and (not words or not {*named} <= {*crates}):
         sys.exit(f"usage: tests/run broken LOG [SHARE] | CRATE..; the crates: {' '.join(crates)}")
     cases.demands("rt")
-    shared = share_of(crates, words[1]) if log and is_share(words[1:]) else crates
-    chosen = [it for it in shared if KEPT.format(it) not in log] if log else named
-    for name in {*shared} - {*chosen} if log else ():
-        number = len(glob.glob(f"{TOP}/crates/{name}/broken/*.edit"))
-        cases.skip(name, "'rt ci' took crates from an earlier run", 2 * number)
-    cases.side_by_side({it: (of_crate, it, bool(log)) for it in chosen})
+    tried = {}
+    for name in (share_of(crates, words[1]) if is_share(words[1:]) else crates) if log else named:
+        edits = edits_of(name)
+        for edit in edits:
+            cases.holds(f"{name}/{edit.name} can be applied", edit.functions)
+        if log and KEPT.format(name) in log:
+            cases.skip(name, "'rt ci' took crates from an earlier run", len(edits))
+        else:
+            tried[name] = of_crate, name, bool(log)
+    cases.side_by_side(tried)
     cases.finish()
 
 
