@@ -10,7 +10,7 @@ from typing import Any, Callable, Dict, Optional
 from sokotool import auditor, forms, levels, own_files
 from tests.tools.ending import Meanwhile
 from tests.tools.helping import TOP, needs_program
-from tests.tools.test_check import CORNER, LONG, LOST, Check
+from tests.tools.checking import CORNER, LONG, LOST, Check
 
 
 class Beside(Check):

@@ -3,7 +3,7 @@ import os
 import shutil
 
 from tests.tools.helping import Result, needs_program
-from tests.tools.test_check import Check
+from tests.tools.checking import Check
 
 # Two steps to the right push the box to the far goal, and a walk around it to the near one.
 ROWS = "########\n#      #\n#@.$ . #\n#      #\n########\n"

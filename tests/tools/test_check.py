@@ -3,7 +3,6 @@ changed."""
 import json
 import os
 import random
-import re
 import shlex
 import shutil
 import subprocess
@@ -14,62 +13,10 @@ from typing import Any, Callable, Iterator, List
 
 from sokotool import auditor, forms, levels, outcomes, searches
 from sokotool.commands import convert
-from tests.tools import helping
-from tests.tools.ending import EndsEarly, Killed
-from tests.tools.helping import ONE, SAMPLES, TOP, Case, Result, is_slow, used
+from tests.tools.checking import CORNER, LONG, LOST, Check
+from tests.tools.helping import ONE, SAMPLES, TOP, is_slow, used
 
 MAPS = "/usr/share/games/cavepacker/maps"
-CORNER = "Corner\n######\n#    #\n#@$  #\n#  . #\n######\n"
-LOST = "Lost\n#####\n#$ .#\n# @ #\n#####\n"
-LONG = "Title: Long\n########\n#@ $  .#\n########\nSolution: rRRR\n"
-
-
-class Check(Case):
-    maxDiff = None
-
-    def setUp(self) -> None:
-        super().setUp()
-        patch = unittest.mock.patch.dict(os.environ, SOKOAUDIT=helping.PROGRAM)
-        patch.start()
-        self.addCleanup(patch.stop)
-
-    def check(self, *words: str, given: bytes = b"") -> Result:
-        """Runs check without a search."""
-        return self.tool("check", *words, "--seconds", "0", given=given)
-
-    def lines(self, result: Result) -> List[str]:
-        """Returns the summary without the note of the reference and the files that were written."""
-        return [line for line in result.out.decode().splitlines()
-                if line != auditor.REFERENCE_NOTE and not line.startswith("wrote: ")]
-
-    def report(self, name: str = "mine") -> List[str]:
-        """The lines of a report."""
-        return [line for line in self.read(f"{name}.report").decode().splitlines()
-                if not line.startswith(";")]
-
-    def exports(self) -> List[str]:
-        """Copies the exports without the two faults that tear levels, and writes answers to two
-        levels of the editor."""
-        if not os.path.exists("exports"):
-            shutil.copytree(os.path.join(SAMPLES, "exports"), "exports")
-            forum = self.read("exports/forum.txt").split(b"\n")
-            self.write("exports/forum.txt", b"\n".join(forum[:4] + forum[5:]).replace(b"\t", b" "))
-            self.write("hand", "sokoban-answers 1\n; Corner turn\nlevel 1\nsolution\nRurD\nend\n"
-                       "level 2\nsolution\ndrU ldlluR drU\nend\n")
-        return sorted(os.path.join("exports", name) for name in os.listdir("exports"))
-
-    def change_exports(self) -> None:
-        """One level is inserted before all, one turned, one mended, and the last removed."""
-        self.write("exports/a.txt", LONG)
-        editor = self.read("exports/editor.slc").decode()
-        for row, turned in (("#    #", "# .  #"), ("#@$  #", "#  $@#?"), ("#  . #", "#    #"),
-                            ("#?", "#")):
-            editor = editor.replace(row, turned, 1)
-        self.write("exports/editor.slc", editor)
-        self.write("exports/player.sok",
-                   re.sub(rb"(?m)^rurr$", b"rrr", self.read("exports/player.sok")))
-        os.remove("exports/stairs.sok")
-        os.remove("exports/stairs.sol")
 
 
 class Whole(Check):
@@ -356,19 +303,6 @@ class Typed(Check):
                       self.lines(result))
         self.assertIn(record, self.read("mine.kept.answers"))
 
-    def test_answer_that_was_computed_goes_for_a_better_one(self) -> None:
-        self.write("a.txt", CORNER)
-        self.tool("check", "mine", "a.txt")
-        self.assertEqual(self.report()[0][:14], "level 1 solved")
-        self.write("own", "sokoban-answers 1\nlevel 1\nsolution\nRurD\nend\n")
-        self.write("a.txt", LONG + "\n" + CORNER)
-        self.check("mine", "a.txt")
-        self.write("own", "sokoban-answers 1\nlevel 2\nsolution\nRurD\nend\n")
-        result = self.check("mine", "a.txt", "--answers", "own")
-        self.assertEqual((result.status, self.report()[1]),
-                         (0, "level 2 solved moves 4 pushes 2 changes 1"))
-        self.assertFalse(os.path.exists("mine.kept.xsb"))
-
     def test_answer_that_was_computed_for_a_level_that_is_away(self) -> None:
         """It is kept, also if another level has the number now, and comes back."""
         self.write("a.txt", CORNER)
@@ -413,7 +347,7 @@ class Typed(Check):
         self.assertLess(lines.index(b"; a heading"), lines.index(b"; a draft"))
 
     def test_titles_and_texts(self) -> None:
-        """They win over the exports, are reported once, and go with their level."""
+        """They win over the exports, and are reported once, also where their level is away."""
         self.write("a.txt", "A\n" + LOST + "\nB\n" + CORNER)
         self.check("mine", "a.txt")
         self.write("mine.xsb", self.read("mine.xsb").replace(b"\nB\n", b"\nBetter B\n"))
@@ -422,17 +356,9 @@ class Typed(Check):
         self.assertIn(b"\nBetter B\n", self.read("mine.xsb"))
         self.assertIn("nothing changed since the last time",
                       self.lines(self.check("mine", "a.txt")))
-        self.write("a.txt", "First\n" + LONG + "\nB\n" + CORNER + "\nA\n" + LOST)
-        self.check("mine", "a.txt")
-        self.assertLess(self.read("mine.xsb").index(b"Better B\nCorner\n######\n"),
-                        self.read("mine.xsb").index(b"\nA\n"))
         self.write("a.txt", "A\n" + LOST)
         result = self.check("mine", "a.txt")
-        self.assertIn(", 1 text of levels that are away", result.out.decode())
-        self.write("a.txt", "B\n" + CORNER)
-        self.check("mine", "a.txt")
-        self.assertIn(b"Better B\nCorner\n######\n", self.read("mine.xsb"))
-        self.assertNotIn(b"Better B", self.read("mine.kept.xsb"))
+        self.assertIn("kept in mine.kept.xsb: 1 text of levels that are away", result.out.decode())
 
     def test_title_over_a_kept_text_that_no_level_has_any_more(self) -> None:
         """It may have been typed: it stays when the text comes back. One that a level has goes."""
@@ -473,15 +399,6 @@ class Typed(Check):
         self.assertEqual(self.report()[1], "level 2 solved moves 4 pushes 2 changes 1")
         self.assertIn("inserted: level 4", self.lines(result))
 
-    def test_level_that_is_typed_into_the_file(self) -> None:
-        self.write("a.txt", CORNER)
-        self.check("mine", "a.txt")
-        self.write("mine.xsb", self.read("mine.xsb") + b"\n" + LOST.encode())
-        for _ in range(2):
-            result = self.check("mine", "a.txt")
-            self.assertEqual(self.report()[1], "level 2 unsolvable patterns 4")
-        self.assertIn("nothing changed since the last time", self.lines(result))
-
     def test_comments_between_and_in_records(self) -> None:
         self.write("a.txt", CORNER + "\n" + LONG)
         self.check("mine", "a.txt")
@@ -495,28 +412,6 @@ class Typed(Check):
         self.check("mine", "a.txt")
         self.assertIn(b"; a heading\n\n\n; the second part\n\nlevel 1\n",
                       self.read("mine.answers"))
-
-    def test_write_that_is_cut_off_is_ended_by_the_next_run(self) -> None:
-        self.write("a.txt", CORNER)
-        self.check("mine", "a.txt")
-        files = {name: self.read(name) for name in os.listdir() if name.startswith("mine")}
-        for moment in range(1, 10):
-            for name, data in files.items():
-                self.write(name, data)
-            self.write("a.txt", "Another\n" + LONG)
-            with EndsEarly(Killed(), "os.replace", moment):
-                self.assertRaises(Killed, self.check, "mine", "a.txt")
-            for typed in (False, True):
-                if typed:
-                    self.write("mine.xsb", self.read("mine.xsb") + b"typed\n")
-                self.assertIn(self.check("mine", "a.txt").status, (0, 1))
-                self.assertEqual(self.report()[0], "level 1 solved moves 4 pushes 3 changes 1")
-                self.assertEqual(typed, b"typed" in self.read("mine.xsb"))
-            self.assertFalse([name for name in os.listdir()
-                              if name.startswith(".sokotool") or "unfinished" in name])
-            for name in os.listdir():
-                if name.startswith(("mine", ".sokotool")):
-                    os.remove(name)
 
 
 class Files(Check):

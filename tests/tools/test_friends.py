@@ -8,7 +8,7 @@ from typing import Dict
 
 from sokotool import answers, auditor, levels
 from tests.tools.helping import SAMPLES, needs_program
-from tests.tools.test_check import CORNER, LONG, LOST, Check
+from tests.tools.checking import CORNER, LONG, LOST, Check
 
 PROOF = "level 1\nunsolvable\n; the corner\npattern 2,2 @ *\nend\n"
 

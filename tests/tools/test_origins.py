@@ -7,14 +7,14 @@ import re
 import unittest.mock
 from typing import Any, Dict, List
 
-from tests.tools import test_check, viewing
+from tests.tools import checking, viewing
 
 TORN = "Torn\n#####\n#@ .#\n\n#$  #\n#####\n"
 FEW = "\n\nFew\n######\n#@$$.#\n######\n\nSolution\nRRR\n"
 ONE = "######\n#@ $.#\n######\n"
 
 
-class Places(test_check.Check):
+class Places(checking.Check):
     """The summary."""
 
     def test_each_level_without_an_answer_has_its_export_and_reason(self) -> None:
@@ -71,7 +71,7 @@ class Places(test_check.Check):
             "missing"])
 
 
-class Sources(test_check.Check):
+class Sources(checking.Check):
     """The data of the page."""
 
     def sources(self, *words: str) -> Dict[str, Any]:
@@ -113,7 +113,7 @@ class Sources(test_check.Check):
                 self.assertIn(f"problem: {why}", said)
 
 
-class Shown(viewing.Page, test_check.Check):
+class Shown(viewing.Page, checking.Check):
     """The page in a browser."""
 
     def test_the_page_of_a_level_names_its_export_and_what_was_left_out(self) -> None:
@@ -127,7 +127,7 @@ class Shown(viewing.Page, test_check.Check):
                                              "played: move 1 (r) blocked"])
 
 
-class Table(test_check.Check):
+class Table(checking.Check):
     """check --csv"""
 
     def rows(self, *words: str) -> List[List[str]]:

@@ -13,7 +13,7 @@ from sokotool.search.budget import Budget, Limits
 from tests.tools.exports import ALPHA, BETA, GAMMA
 from tests.tools.helping import (LACKING, SAMPLES, TOP, Case, Result, is_slow, needs_copies,
                                  not_on_windows, used)
-from tests.tools.test_check import LOST, Check
+from tests.tools.checking import LOST, Check
 from tests.tools.test_export import Generator
 
 # Does what YASS or Festival does, by its name: reads the level that it is given, works until its
