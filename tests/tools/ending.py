@@ -3,12 +3,12 @@ import os
 import unittest.mock
 from typing import Any, Callable, Dict, Tuple
 
-from sokotool import auditor, output, progress, searches
+from sokotool import auditor, progress, searches, system
 
 # the functions at whose calls something can be done
 MOMENTS: Dict[str, Tuple[Any, str]] = {
     "progress": (progress.Progress, "show"), "audit": (auditor.Auditor, "run"),
-    "search": (searches.Searches, "results"), "write": (output, "_write"),
+    "search": (searches.Searches, "results"), "write": (system, "copy_rights"),
     "os.replace": (os, "replace")}
 
 

@@ -166,13 +166,13 @@ class System(Case):
         """No more searches run at once than the system can wait for."""
         most = 60 if LACKING == "windows" else 100
         levels_there = levels.read((ONE + "\n").encode() * 120)
-        waiting = unittest.mock.Mock(is_ready=False, has_ended=False)
-        with unittest.mock.patch.object(searches, "_Worker", return_value=waiting) as worker, \
+        with unittest.mock.patch.object(system, "PROCESSES") as processes, \
                 unittest.mock.patch.object(multiprocessing.connection, "wait",
                                            side_effect=KeyboardInterrupt):
+            processes.Pipe.side_effect = lambda: (unittest.mock.Mock(), unittest.mock.Mock())
             runs = searches.Searches(levels_there, Limits(1, 60, 100), Budget(60))
             self.assertRaises(KeyboardInterrupt, list, runs.results())
-        self.assertEqual(worker.call_count, most)
+        self.assertEqual(processes.Process.call_count, most)
 
     def test_status_lines(self) -> None:
         """A terminal that can't go back gets no status line."""

@@ -214,7 +214,7 @@ class Transactions(Case):
 
     def test_ended_before_the_journal(self) -> None:
         """The next run removes the new files, and none of other writes."""
-        with unittest.mock.patch.object(transaction, "_begin", side_effect=Killed), \
+        with unittest.mock.patch.object(system, "keep_names", side_effect=Killed), \
                 at_calls(kill_at(1, goes_on=False)):
             self.assertRaises(Killed, self.commit)
         left = self.files()
