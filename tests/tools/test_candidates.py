@@ -4,14 +4,14 @@ import json
 import os
 import signal
 import unittest.mock
-from typing import Any, Dict, List
+from typing import Any, Dict, List, Sequence
 
 from sokotool import (answers, carrying, changes, forms, memory, own_files, report, shelf, system,
                       texts)
 from sokotool.level_texts import Block
 from sokotool.builder import BOTH, MOVES, PUSHES
 from sokotool.board import board_of
-from sokotool.candidates import Pool, in_case
+from sokotool.candidates import COMPUTED, EXPORTED, FILE, OWN, STORED, Pool, in_case
 from sokotool.levels import Level
 from sokotool.progress import Progress
 from tests.tools.helping import Case, not_on_windows
@@ -35,12 +35,18 @@ def read(*records: bytes) -> answers.Answers:
     return answers.read(answers.text(records), rising=False)
 
 
+def stored(pool: Pool, entries: Sequence[shelf.Entry]) -> None:
+    """Adds what was kept without a place."""
+    kept = shelf.Kept([*entries], [])
+    pool.add(kept.records(), [kept.collection()], STORED)
+
+
 class Picked(Case):
     def picked(self, best: str, *letters: bytes) -> Pool:
         """A pool with these solutions."""
         found = Pool(STATE, best)
         for it in letters:
-            found.add_computed(1, answers.answer_of(record(it)))
+            found.add(read(record(it)).records, [STATE], COMPUTED)
         return found
 
     def test_ties(self) -> None:
@@ -56,7 +62,8 @@ class Picked(Case):
     def test_reason_of_a_refusal(self) -> None:
         """It names no line of a text that nobody sees."""
         found = Pool(STATE, MOVES)
-        found.add_file("a.answers", read(b"level 1\nunsolvable\npattern 3,3 @ *\nend\n"), STATE)
+        found.add(read(b"level 1\nunsolvable\npattern 3,3 @ *\nend\n").records, [STATE], FILE,
+                  "a.answers")
         found.audited(lambda text: report.read(
             b"level 1 refused line 4 push 3,3 r\n" if b"pattern" in text else b"level 1 missing\n"),
                       lambda text: text)
@@ -88,7 +95,7 @@ class Placed(Case):
         """Each in the direction of its own board, whatever their order is."""
         mirrored = [row[::-1] for row in ROWS]
         found = Pool(self.state(mirrored, ROWS), MOVES)
-        found.add_own(read(record(SHORT)), STATE, STATE, set())
+        found.add(read(record(SHORT)).records, [STATE], OWN)
         self.assertEqual(self.chosen(found), {1: b"lLL", 2: SHORT})
         self.assertEqual(found.left(shelf.Kept([], [])), [])
 
@@ -97,17 +104,17 @@ class Placed(Case):
         for letters, is_left in ((AROUND, True), (SHORT, False)):
             for is_computed in (False, True):
                 own = read(record(letters, b"; mine\n"))
-                digest = texts.digest(own.records[0].text)
                 found = Pool(STATE, MOVES)
-                found.add_own(own, STATE, STATE, {digest} if is_computed else set())
-                found.add_exported(read(record(SHORT, b"; mine\n")).records)
+                for it in found.add(own.records, [STATE], OWN)[0].targets:
+                    it.is_computed = is_computed
+                found.add(read(record(SHORT, b"; mine\n")).records, [STATE], EXPORTED)
                 self.chosen(found)
                 left = found.left(shelf.Kept([], []))
                 self.assertEqual(bool(left), is_left and not is_computed)
-                found.add_stored(shelf.Kept(left, []))
+                stored(found, left)
                 self.assertEqual(found.left(shelf.Kept(left, [])), left)
         gone = Pool(self.state([b"#####", b"#@$.#", b"#####"]), MOVES)
-        gone.add_own(read(record(SHORT)), STATE, STATE, set())
+        gone.add(read(record(SHORT)).records, [STATE], OWN)
         self.assertEqual(self.chosen(gone, b"level 1 refused move 1 case\n"), {})
         self.assertEqual([(it.head, it.block.rows) for it in gone.left(shelf.Kept([], []))],
                          [(b"; kept from level 1", tuple(ROWS))])
@@ -116,25 +123,24 @@ class Placed(Case):
         own = read(record(SHORT, b"; mine\n")).records[0]
         entry = shelf.Entry(b"; kept", Block((), tuple(ROWS), ()), own)
         typed = entry._replace(block=entry.block._replace(above=(b"; typed",)))
-        stored = shelf.Kept([entry, typed], [])
         found = Pool(STATE, MOVES)
-        found.add_stored(stored)
+        stored(found, [entry, typed])
         self.assertEqual(self.chosen(found), {1: SHORT})
-        self.assertEqual(found.left(stored), [typed._replace(record=None)])
+        self.assertEqual(found.left(shelf.Kept([entry, typed], [])), [typed._replace(record=None)])
 
     def test_a_stored_answer_is_for_its_board_alone(self) -> None:
         """Another level in its place may have the same solution."""
         entry = shelf.Entry(b"; kept", Block((), tuple(ROWS), ()), read(record(SHORT)).records[0])
         found = Pool(self.state(ROWS[:3] + ROWS[4:]), MOVES)
-        found.add_exported(read(record(SHORT)).records)
-        found.add_stored(shelf.Kept([entry], []))
+        found.add(read(record(SHORT)).records, [STATE], EXPORTED)
+        stored(found, [entry])
         self.assertEqual(self.chosen(found), {1: SHORT})
         self.assertEqual(found.left(shelf.Kept([entry], [])), [entry])
 
     def test_a_certificate_is_kept_if_its_level_becomes_an_illegal_one(self) -> None:
         own = read(b"level 1\nunsolvable\npattern 3,3 @ *\nend\n")
         found = Pool(self.state([b"###", b"#.#", b"#$#", b"###"]), MOVES)
-        found.add_own(own, STATE, STATE, set())
+        found.add(own.records, [STATE], OWN)
         self.assertEqual(self.chosen(found, b"level 1 refused board player\n"), {})
         self.assertEqual([it.record for it in found.left(shelf.Kept([], []))], own.records)
 
@@ -149,7 +155,7 @@ class Placed(Case):
                             (b"; kept from level 4, Old, too: a note", True)):
             entry = shelf.Entry(head, Block((), tuple(ROWS), ()), own)
             found = Pool(now, MOVES)
-            found.add_stored(shelf.Kept([entry], []))
+            stored(found, [entry])
             self.assertEqual(self.chosen(found), {1: SHORT})
             self.assertEqual(found.left(shelf.Kept([entry], [])),
                              [entry._replace(record=None)] * stays, head)

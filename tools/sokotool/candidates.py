@@ -2,14 +2,14 @@
 of other files, those that were kept, and those that were computed. Each goes to the levels that
 have the board of its own. The best answer to each level that the audit accepts is chosen, or the
 best solution by moves and the best one by pushes; then it is known which have no place any more."""
-from typing import Callable, Dict, Hashable, List, NamedTuple, Optional, Sequence, Set, Tuple
+from typing import Callable, Dict, Hashable, List, Mapping, NamedTuple, Optional, Sequence, Tuple
 
 from . import answers, carrying, changes, report, shelf, texts
 from .answers import Answer, Record
 from .level_texts import Block
-from .builder import BOTH, PUSHES
 from .board import board_of
-from .forms import form_of
+from .builder import BOTH, PUSHES
+from .forms import Form, Key, form_of
 from .levels import Level
 
 _SOLVES, _CERTIFICATE, _FAILS = range(3)
@@ -28,11 +28,34 @@ class Candidate:
         self.fault: Optional[str] = None
 
 
-class Given(NamedTuple):
-    """A record of some file, its level, and what it is a candidate for."""
+class Kind(NamedTuple):
+    """Where records come from, and what follows from that."""
 
+    name: str
+    # one is kept for its own level if no other answer is accepted
+    stays: bool = False
+    # another level that took the place of its own may get it too
+    takes_place: bool = True
+    # it gives way without a word, since it can be computed again
+    is_computed: bool = False
+
+
+# former answers; those that were kept without a place; those of exports, and of other files; and
+# those that were found or made
+OWN = Kind("own", stays=True)
+STORED = Kind("stored", takes_place=False)
+EXPORTED = Kind("exported", stays=True)
+FILE = Kind("file")
+COMPUTED = Kind("computed", takes_place=False, is_computed=True)
+
+
+class Given(NamedTuple):
+    """A record of some file, the level that it is for, if there is one, and what it is a candidate
+    for."""
+
+    file: str
     record: Record
-    level: Level
+    level: Optional[Level]
     targets: List[Candidate]
 
 
@@ -46,63 +69,45 @@ class Pool:
         self.chosen: Dict[int, Candidate] = {}
         self.others: Dict[int, Candidate] = {}
         self._of: Dict[int, Dict[Answer, Candidate]] = {}
-        self._own: List[Given] = []
-        self._stored: List[Given] = []
-        self._files: Dict[Tuple[str, int], List[Candidate]] = {}
-        self._exported: Dict[int, List[Answer]] = {}
-        self._before: Tuple[Optional[changes.Snapshot], Dict[int, changes.Match]] = None, {}
+        self._given: Dict[Kind, List[Given]] = {}
+        self._places: List[Tuple[changes.Snapshot, Dict[int, changes.Match]]] = []
         # the comments between records, each before the next level that is still there or the end
         self._apart: Dict[int, List[bytes]] = {}
 
     # ---- candidates
 
-    def add_own(self, found: answers.Answers, before: changes.Snapshot, mine: changes.Snapshot,
-                computed: Set[str]) -> None:
-        """Adds the records of NAME.answers, by the board of the level `before` that each names, and
-        by that of the level that has its number now. Some were computed, by their digests."""
-        records, count = found.records, len(before.levels)
-        self._own = self._by_board(records, before, True)
-        self._own += self._by_board([it for it in records if it.level > count], mine, True)
-        if [form.key for form in before.forms] != [form.key for form in mine.forms]:
-            again = [it for it in records if it.level <= count]
-            targets = {id(it.record): it.targets for it in self._by_board(again, mine, False)}
-            for own in self._own:
-                own.targets.extend(targets.get(id(own.record), ()))
-        for own in self._own:
-            if texts.digest(own.record.text) in computed:
-                for it in own.targets:
-                    it.is_computed = True
+    def add(self, records: Sequence[Record], before: Sequence[changes.Snapshot], kind: Kind,
+            file: str = "") -> List[Given]:
+        """Adds the records of a file, and returns them with what they are candidates for. A record
+        is for the level of its number in the first collection of `before` that has one. It goes to
+        each level with the board of that, and with the boards of its number in the others, for
+        which it doesn't stay."""
+        given = [Given(file, it, next((one.levels[it.level - 1] for one in before
+                                       if it.level <= len(one.levels)), None), [])
+                 for it in records]
+        known = 0
+        for at, one in enumerate(before):
+            if at and _keys(one.forms) == _keys(before[0].forms):
+                continue
+            self._give([it for it in given if it.record.level > known], one, kind)
+            self._give([it for it in given if it.record.level <= known], one,
+                       kind._replace(stays=False))
+            known = max(known, len(one.levels))
+        for target in (target for it in given for target in it.targets if kind.is_computed):
+            target.is_computed = True
+        self._given.setdefault(kind, []).extend(given)
+        return given
+
+    def add_comments(self, found: answers.Answers, before: changes.Snapshot) -> None:
+        """Keeps the comments between the records of NAME.answers, which name levels `before`."""
         nearest, matches = len(self.now.levels) + 1, self._matches(before)
         self._apart[nearest] = found.rest
-        for record in reversed(records):
+        for record in reversed(found.records):
             if match := matches.get(record.level):
                 nearest = match.new + 1
             self._apart[nearest] = record.apart + self._apart.get(nearest, [])
 
-    def add_stored(self, stored: shelf.Kept) -> None:
-        """Adds the records that were kept without a place."""
-        self._stored = self._by_board(stored.records(), stored.collection(), False, False)
-
-    def add_exported(self, records: Sequence[Record]) -> None:
-        """Adds the records of the exports, by the numbers of the levels."""
-        self._exported = texts.grouped((record.level, record.answer) for record in records)
-        self._by_board(records, self.now, True)
-
-    def add_computed(self, number: int, answer: Answer) -> None:
-        self._add(number, answer).is_computed = True
-
-    def add_file(self, name: str, found: answers.Answers, before: changes.Snapshot) -> None:
-        """Adds the records of another file, by the numbers of levels before and now. Those that no
-        level accepts are reported."""
-        records = [in_case(it, (self.now, before)) for it in found.records]
-        for record in records:
-            targets = self._files.setdefault((name, record.line), [])
-            if record.level <= len(self.now.levels):
-                targets.append(self._add(record.level, record.answer))
-        for given in self._by_board(records, before, False):
-            self._files[name, given.record.line].extend(given.targets)
-
-    def _add(self, number: int, answer: Answer, stays: bool = False) -> Candidate:
+    def _add(self, number: int, answer: Answer, stays: bool) -> Candidate:
         """Adds an answer to a level, unless that has it."""
         several = self._of.setdefault(number, {})
         return several.setdefault(answer, Candidate(number, answer, stays))
@@ -126,44 +131,45 @@ class Pool:
             best = it.counts if self.best == PUSHES else it.counts[::-1]
             it.rank = (_SOLVES, *best, order)
 
-    def _by_board(self, records: Sequence[Record], before: changes.Snapshot, stays: bool,
-                  had_places: bool = True) -> List[Given]:
-        """Adds records to the levels that have the boards of theirs, or that took the place of
-        theirs if those had one. One that stays is kept for its own level if no other is accepted.
-        Equal ones have the candidates of the first one too. Records of higher levels are left out.
-        """
-        found = [Given(it, before.levels[it.level - 1], []) for it in records
-                 if it.level <= len(before.levels)]
+    def _give(self, given: Sequence[Given], before: changes.Snapshot, kind: Kind) -> None:
+        """Gives records to the levels that have the boards of theirs, or that took the place of
+        theirs. One that stays does so for its own level. Equal ones have the candidates of the
+        first one too. Records of higher levels are left out."""
+        found = [it for it in given if it.record.level <= len(before.levels)]
         if not found:
-            return found
-        matches = self._matches(before) if had_places else {}
+            return
+        matches = self._matches(before) if kind.takes_place else {}
         # Of equal answers to the same board one goes to all levels that have it.
         by_board: Dict[Hashable, Given] = {}
         same = [by_board.setdefault((form.key, form.turn[:4], it.record.answer), it)
                 for it in found for form in [before.forms[it.record.level - 1]]]
         first = [*by_board.values()]
+        targets: Dict[int, List[Candidate]] = {id(it): [] for it in found}
         carried = carrying.carried([it.record for it in first], before.forms, self.now.forms)
         for number, several in carried.items():
             for at, answer in several:
                 match = matches.get(first[at].record.level)
                 is_own = match and match.turn and match.new + 1 == number
-                first[at].targets.append(self._add(number, answer, bool(stays and is_own)))
+                targets[id(first[at])].append(
+                    self._add(number, answer, bool(kind.stays and is_own)))
         for one, it in zip(same, found):
             match, answer = matches.get(it.record.level), it.record.answer
             if match and match.turn and it is not one:
                 answer = carrying.turned(answer, before.forms[it.record.level - 1],
                                          self.now.forms[match.new])
             if match and not (match.turn and it is one):
-                it.targets.append(self._add(match.new + 1, answer, stays and bool(match.turn)))
-            it.targets.extend(one.targets if it is not one else ())
-        return found
+                targets[id(it)].append(
+                    self._add(match.new + 1, answer, kind.stays and bool(match.turn)))
+            it.targets.extend([*targets[id(it)], *(targets[id(one)] if it is not one else ())])
 
     def _matches(self, before: changes.Snapshot) -> Dict[int, changes.Match]:
         """Returns the levels that are the same now, by their numbers before."""
-        if before is not self._before[0]:
-            self._before = before, {match.old + 1: match
-                                    for match in changes.matches(before, self.now)}
-        return self._before[1]
+        for known, matches in self._places:
+            if known is before:
+                return matches
+        matches = {match.old + 1: match for match in changes.matches(before, self.now)}
+        self._places.append((before, matches))
+        return matches
 
     # ---- the best
 
@@ -236,47 +242,57 @@ class Pool:
     def left_out(self) -> List[str]:
         """Returns each record of other files that no level accepts, with the reason."""
         found = []
-        for (file, line), several in sorted(self._files.items(), key=lambda it: it[0]):
-            if all(it.fault for it in several):
-                why = (f"refused for level {several[0].number}: {several[0].fault}" if several
+        for it in sorted(self._given.get(FILE, ()), key=lambda it: (it.file, it.record.line)):
+            if all(target.fault for target in it.targets):
+                first = min(it.targets, key=lambda one: one.number != it.record.level, default=None)
+                why = (f"refused for level {first.number}: {first.fault}" if first
                        else "no level has the board of this record")
-                found.append(f"{texts.shown(file)} line {line}: {why}")
+                found.append(f"{texts.shown(it.file)} line {it.record.line}: {why}")
         return found
 
     def left(self, stored: shelf.Kept) -> List[shelf.Entry]:
         """Returns what was stored before and has no place yet, and the own records that have none
         any more."""
-        homeless = iter(self._stored)
+        homeless = iter(self._given.get(STORED, ()))
         titles = {level.title.encode() for level in self.now.levels}
         entries = []
         for entry in stored.entries:
             given = next(homeless) if entry.record else None
-            if not given or not self._has_place(given):
+            if not given or not self._has_place(given.targets):
                 entries.append(entry)
             elif entry.stays(titles):
                 entries.append(entry._replace(record=None))
         known = {(it.record.answer, it.block.rows) for it in entries if it.record}
-        for own in self._own:
-            block = Block((), tuple(own.level.rows), ())
-            key = own.record.answer, block.rows
-            if not (self._has_place(own) or self._is_spare(own) or key in known):
+        exported = texts.grouped((it.record.level, it.record.answer)
+                                 for it in self._given.get(EXPORTED, ()))
+        for record, level, targets in ((it.record, it.level, it.targets)
+                                       for it in self._given.get(OWN, ()) if it.level):
+            block = Block((), tuple(level.rows), ())
+            key = record.answer, block.rows
+            if not (self._has_place(targets) or self._is_spare(level, targets, exported)
+                    or key in known):
                 known.add(key)
-                head = shelf.head_of(own.level.number, own.level.title)
-                entries.append(shelf.Entry(head, block, own.record))
+                head = shelf.head_of(level.number, level.title)
+                entries.append(shelf.Entry(head, block, record))
         return entries
 
-    def _has_place(self, given: Given) -> bool:
+    def _has_place(self, targets: Sequence[Candidate]) -> bool:
         """Returns whether an answer was chosen that a record has, with its comments."""
-        return any(one.answer.covers(it.answer) for it in given.targets
+        return any(one.answer.covers(it.answer) for it in targets
                    for one in [self.chosen.get(it.number), self.others.get(it.number)] if one)
 
-    def _is_spare(self, given: Given) -> bool:
+    def _is_spare(self, level: Level, targets: Sequence[Candidate],
+                  exported: Mapping[int, Sequence[Answer]]) -> bool:
         """Returns whether a record was computed for a level that is still there, or is in the
-        exports."""
-        key = form_of(given.level).key
+        exports, by the numbers of levels."""
+        key = form_of(level).key
         return any(it.is_computed and self.now.forms[it.number - 1].key == key
-                   or any(one.covers(it.answer) for one in self._exported.get(it.number, ()))
-                   for it in given.targets)
+                   or any(one.covers(it.answer) for one in exported.get(it.number, ()))
+                   for it in targets)
+
+
+def _keys(forms: Sequence[Form]) -> List[Key]:
+    return [form.key for form in forms]
 
 
 def in_case(record: Record, states: Sequence[changes.Snapshot]) -> Record:

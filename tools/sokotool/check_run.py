@@ -1,10 +1,10 @@
-"""The stages of a check: the files of NAME are read, what was typed into them is merged with the
-exports, answers are taken over, and the best ones are audited."""
+"""The stages of a check: `read` the files of NAME, `merge` what was typed into them with the
+exports, `choose` candidates for the answers, and `audit` the best ones."""
 import argparse
 import contextlib
-from typing import List, Optional, Sequence, Set, Tuple
+from typing import List, NamedTuple, Optional, Sequence, Set, Tuple
 
-from . import (answers, auditor, carrying, forms, level_texts, levels, memory, merging, mistakes,
+from . import (answers, auditor, candidates, forms, level_texts, levels, memory, merging, mistakes,
                own_files, report, shelf, texts)
 from .auditor import Audits
 from .candidates import Pool, in_case
@@ -13,31 +13,44 @@ from .conversion import Conversion
 from .outcomes import Outcomes
 from .own_files import ANSWERS, KEPT_ANSWERS, KEPT_XSB, OTHER, REPORT, SHEET, XSB, noted
 from .progress import Progress
+from .report import Line
+
+
+class Inputs(NamedTuple):
+    """What a run reads once."""
+
+    options: argparse.Namespace
+    shown: Progress
+    program: auditor.Auditor
+    # answers of other files, with the names of these
+    more: Sequence[Tuple[str, answers.Answers]]
+    conversion: Conversion
+
+    def exports(self) -> Tuple[Snapshot, List[answers.Record]]:
+        """Returns the levels of the exports, and their records."""
+        text, *exported = self.conversion.files
+        return (merging.collection(level_texts.read(text)),
+                [record for it in exported for record in answers.read(it).records])
 
 
 class Run:
-    """What stays if the files of NAME are read again: what a run reads once, and what it found.
+    """A run of check: what it reads once, and what it finds, which stays if the files of NAME are
+    read again."""
 
-    It reads the exports, of which it has the levels and the records, and more answers with the
-    names of their files. `found` has answers with the forms of their levels, `made` the boards for
-    which certificates were made, `before` the levels as they were when the run began, and `edited`
-    the boards of those that the keeper had edited when the files were written. `has_backups` is
-    true once the former files were kept, and `written` has the ends of the files that were written.
-    """
-
-    def __init__(self, options: argparse.Namespace, shown: Progress, program: auditor.Auditor,
-                 more: Sequence[Tuple[str, answers.Answers]], conversion: Conversion) -> None:
-        self.options, self.shown, self.program = options, shown, program
-        self.name: str = options.name
-        self.more, self.conversion = more, conversion
-        text, *exported = conversion.files
-        self.exports = merging.collection(level_texts.read(text))
-        self.records = [record for it in exported for record in answers.read(it).records]
+    def __init__(self, inputs: Inputs) -> None:
+        self.options, self.shown, self.program, self.more, self.conversion = inputs
+        self.name: str = self.options.name
+        self.exports, self.records = inputs.exports()
+        # the outcomes of its searches, and the answers with the forms of their levels
         self.outcomes = Outcomes({})
         self.found: List[memory.Find] = []
+        # the boards for which certificates were made
         self.made: Set[forms.Key] = set()
+        # the levels as they were when it began
         self.before: Optional[Snapshot] = None
+        # the boards of levels that the keeper had edited when the files were written
         self.edited: Set[forms.Key] = set()
+        # the ends of the files that it wrote, and whether it kept the former ones
         self.written: Set[str] = set()
         self.is_begun = self.has_backups = False
 
@@ -48,12 +61,10 @@ class Run:
 
     def give(self, pool: Pool) -> None:
         """Gives the answers to the levels that have their boards."""
-        carried = carrying.carried([answers.Record(number, answer, 0, [])
-                                    for number, (_, answer) in enumerate(self.found, 1)],
-                                   [form for form, _ in self.found], pool.now.forms)
-        for number, several in carried.items():
-            for _, answer in several:
-                pool.add_computed(number, answer)
+        boards = Snapshot([form.level for form, _ in self.found], [form for form, _ in self.found])
+        pool.add([answers.Record(number, answer, 0, [])
+                  for number, (_, answer) in enumerate(self.found, 1)], [boards],
+                 candidates.COMPUTED)
 
     def keep(self) -> str:
         """Keeps what was found in NAME.memory alone, if that can be written. Returns words that
@@ -68,104 +79,42 @@ class Run:
         return ""
 
 
-class State:
-    """What is made of the files of NAME as they are: what the last check remembers, what former
-    checks kept, whether the table is asked for or as it was written, the levels as they are now,
-    and what the collection becomes: its levels with what was typed, their text, the candidates for
-    their answers; and once these are audited, the texts of the answers and of the report, and what
-    has no place in the collection."""
+class Former(NamedTuple):
+    """The files of NAME as they are."""
 
-    def __init__(self, run: Run) -> None:
-        self.files = own_files.Files(run.name, run.has_backups)
-        self.memory = self.files.memory()
-        self.has_table = run.options.csv or (
-            texts.digest(self.files.before.get(SHEET, b"")) == self.memory.made.get(SHEET))
-        kept_text = self.files.before.get(KEPT_XSB, b"")
-        self.stored = self.left = shelf.read(
-            kept_text, self.files.answers(KEPT_ANSWERS, len(levels.read(kept_text))))
-        written = self.memory.written.collection
-        is_same = written.blocks and self.files.levels() == level_texts.text(written.blocks)
-        self.mine = written if is_same else merging.collection(_own_blocks(self.files))
-        # the levels whose numbers NAME.answers has, and the highest number that it may have
-        self.former = written if written.blocks else self.mine
-        self.most = max(len(self.former.levels), len(self.mine.blocks))
-        if not run.is_begun:
-            run.is_begun, run.before = True, self._before(run.program)
-            run.found += self.memory.found
-        self.merged = merging.merged(self.memory.written, self.mine, run.exports,
-                                     [entry.block for entry in self.stored.entries])
-        self.now = self.merged.written.collection
-        self.text = noted(run.program, level_texts.text(self.now.blocks))
-        self.answers = self.report = b""
-        self.pool = Pool(self.now, run.options.best)
-        self._take(run)
+    files: own_files.Files
+    memory: memory.Memory
+    # what former checks kept
+    stored: shelf.Kept
+    # the levels whose numbers NAME.answers has, and those of NAME.xsb as they are now
+    written: Snapshot
+    mine: Snapshot
+    # the highest number of a level that an answers file may have
+    most: int
+    # whether the table is asked for, or is there as it was written
+    has_table: bool
 
-    def _before(self, program: auditor.Auditor) -> Optional[Snapshot]:
-        """Returns the former levels with the report on them, of a new audit if that isn't whole."""
-        if XSB not in self.files.before:
-            return None
-        count = len(self.former.levels)
-        known = report.read(self.files.before.get(REPORT, b""))
-        if known.fault(count):
-            first = {record.level: record.text
-                     for record in reversed(self.files.answers(ANSWERS, self.most).records)}
-            rows = b"\n".join(answers.spelled(level.rows) for level in self.former.levels)
-            with Audits(program, rows, count) as audits:
-                known = audits.audit(answers.text([first[level] for level in sorted(first)
-                                                   if level <= count]))
-        return self.former._replace(lines=known.lines)
 
-    def _take(self, run: Run) -> None:
-        """Takes over the former answers, those of the exports, and those of other files: by the
-        board of the level that each names."""
-        numbers = {at: number for number, at in enumerate(self.merged.written.places, 1)}
-        own, other = (self._own_answers(end) for end in (ANSWERS, OTHER))
-        own.records.extend(other.records)
-        own.rest.extend(other.rest)
-        self.pool.add_own(own, self.former, self.mine, set(self.memory.computed))
-        self.pool.add_stored(self.stored)
-        self.pool.add_exported([record._replace(level=numbers[record.level - 1])
-                                for record in run.records])
-        for name, more in run.more:
-            self.pool.add_file(name, more, self.former)
+class State(NamedTuple):
+    """What the collection becomes."""
 
-    def _own_answers(self, end: str) -> answers.Answers:
-        """Returns the records of an answers file, each solution with its letters in their case. In
-        a file whose answers were all accepted they are."""
-        found = self.files.answers(end, self.most)
-        if texts.digest(self.files.before.get(end, b"")) != self.memory.made.get(end):
-            found.records[:] = [in_case(it, (self.former, self.mine)) for it in found.records]
-        return found
-
-    def audit(self, run: Run) -> None:
-        """Audits the best answers, after certificates were made for levels without one."""
-        run.shown.show("auditing")
-        run.give(self.pool)
-        with Audits(run.program, self.text, len(self.now.levels)) as audits:
-            self._audit(run, audits)
-            if left := [form for form in self.unanswered() if form.key not in run.made]:
-                run.shown.show("making certificates")
-                run.made.update(form.key for form in left)
-                made = [(self.now.forms[number - 1], answer)
-                        for number, answer in audits.made([form.level for form in left])]
-                run.found += made
-                if made:
-                    run.give(self.pool)
-                    self._audit(run, audits)
-        self.left = self._left()
-
-    def _audit(self, run: Run, audits: Audits) -> None:
-        self.answers, read = self.pool.audited(audits.audit,
-                                               lambda text: noted(run.program, text))
-        self.report = noted(run.program, audits.text)
-        self.now = self.now._replace(lines=read.lines)
+    former: Former
+    merged: merging.Merged
+    pool: Pool
+    # the levels as they are now, with their lines of the report once they are audited
+    now: Snapshot
+    text: bytes
+    answers: bytes = b""
+    report: bytes = b""
+    # what has no place in the collection
+    left: shelf.Kept = shelf.Kept([], [])
 
     def unanswered(self) -> List[forms.Form]:
         """Returns the legal levels that have no accepted answer."""
         return [self.now.forms[line.level - 1] for line in self.now.lines
                 if not line.is_answered and line.words[:1] != ["board"]]
 
-    def mistake(self, line: report.Line) -> str:
+    def mistake(self, line: Line) -> str:
         """Returns the mistake in the line of an answer that a report line names, or ""."""
         if line.words[:1] != ["line"]:
             return ""
@@ -173,18 +122,36 @@ class State:
         record = next(it for it in found if it.level == line.level)
         return mistakes.of_report(record, self.now.levels[line.level - 1], line)
 
-    def _left(self) -> shelf.Kept:
-        """Returns what has no place in the collection."""
-        back, titles = self.merged.back, {level.title.encode() for level in self.now.levels}
-        stored = [entry._replace(block=entry.block._replace(above=(), below=()))
-                  if at in back else entry for at, entry in enumerate(self.stored.entries)]
-        stored = [entry for at, entry in enumerate(stored)
-                  if entry.record or at not in back or entry.stays(titles)]
-        entries = self.pool.left(self.stored._replace(entries=stored))
-        for index, block in self.merged.away:
-            level = self.mine.levels[index]
-            entries.append(shelf.Entry(shelf.head_of(level.number, level.title), block))
-        return self.stored._replace(entries=entries)
+
+def begun(run: Run) -> State:
+    """Returns the state of the files as they are, before an audit."""
+    former = read(run)
+    merged = merge(run, former)
+    now = merged.written.collection
+    return State(former, merged, choose(run, former, merged), now,
+                 noted(run.program, level_texts.text(now.blocks)))
+
+
+# ---- the files
+
+def read(run: Run) -> Former:
+    """Reads the files of NAME."""
+    files = own_files.Files(run.name, run.has_backups)
+    remembered = files.memory()
+    has_table = run.options.csv or (
+        texts.digest(files.before.get(SHEET, b"")) == remembered.made.get(SHEET))
+    kept = files.before.get(KEPT_XSB, b"")
+    stored = shelf.read(kept, files.answers(KEPT_ANSWERS, len(levels.read(kept))))
+    last = remembered.written.collection
+    is_same = last.blocks and files.levels() == level_texts.text(last.blocks)
+    mine = last if is_same else merging.collection(_own_blocks(files))
+    written = last if last.blocks else mine
+    most = max(len(written.levels), len(mine.blocks))
+    former = Former(files, remembered, stored, written, mine, most, has_table)
+    if not run.is_begun:
+        run.is_begun, run.before = True, _before(run.program, former)
+        run.found += remembered.found
+    return former
 
 
 def _own_blocks(files: own_files.Files) -> List[level_texts.Block]:
@@ -198,3 +165,102 @@ def _own_blocks(files: own_files.Files) -> List[level_texts.Block]:
     if text.strip() and not found:
         raise texts.Stop(f"{name}.xsb has no level: move it away")
     return found
+
+
+def _before(program: auditor.Auditor, former: Former) -> Optional[Snapshot]:
+    """Returns the former levels with the report on them, of a new audit if that isn't whole."""
+    files, written = former.files, former.written
+    if XSB not in files.before:
+        return None
+    count = len(written.levels)
+    known = report.read(files.before.get(REPORT, b""))
+    if known.fault(count):
+        first = {record.level: record.text
+                 for record in reversed(files.answers(ANSWERS, former.most).records)}
+        rows = b"\n".join(answers.spelled(level.rows) for level in written.levels)
+        with Audits(program, rows, count) as audits:
+            known = audits.audit(answers.text([first[level] for level in sorted(first)
+                                               if level <= count]))
+    return written._replace(lines=known.lines)
+
+
+# ---- the collection
+
+def merge(run: Run, former: Former) -> merging.Merged:
+    """Merges what was typed with the exports."""
+    return merging.merged(former.memory.written, former.mine, run.exports,
+                          [entry.block for entry in former.stored.entries])
+
+
+def choose(run: Run, former: Former, merged: merging.Merged) -> Pool:
+    """Returns the candidates for the levels: former answers, those of the exports, and those of
+    other files, by the board of the level that each names."""
+    now, written = merged.written.collection, former.written
+    numbers = {at: number for number, at in enumerate(merged.written.places, 1)}
+    own, other = (_own_answers(former, end) for end in (ANSWERS, OTHER))
+    own.records.extend(other.records)
+    own.rest.extend(other.rest)
+    pool = Pool(now, run.options.best)
+    computed = set(former.memory.computed)
+    for given in pool.add(own.records, [written, former.mine], candidates.OWN):
+        for target in given.targets if texts.digest(given.record.text) in computed else ():
+            target.is_computed = True
+    pool.add_comments(own, written)
+    pool.add(former.stored.records(), [former.stored.collection()], candidates.STORED)
+    pool.add([it._replace(level=numbers[it.level - 1]) for it in run.records], [now],
+             candidates.EXPORTED)
+    for name, more in run.more:
+        pool.add([in_case(it, (now, written)) for it in more.records], [now, written],
+                 candidates.FILE, name)
+    return pool
+
+
+def _own_answers(former: Former, end: str) -> answers.Answers:
+    """Returns the records of an answers file, each solution with its letters in their case. In a
+    file whose answers were all accepted they are."""
+    files = former.files
+    found = files.answers(end, former.most)
+    if texts.digest(files.before.get(end, b"")) != former.memory.made.get(end):
+        found.records[:] = [in_case(it, (former.written, former.mine)) for it in found.records]
+    return found
+
+
+# ---- the audit
+
+def audit(run: Run, state: State) -> State:
+    """Audits the best answers, after certificates were made for levels without one."""
+    run.shown.show("auditing")
+    run.give(state.pool)
+    with Audits(run.program, state.text, len(state.now.levels)) as audits:
+        state = _audited(run, state, audits)
+        if left := [form for form in state.unanswered() if form.key not in run.made]:
+            run.shown.show("making certificates")
+            run.made.update(form.key for form in left)
+            made = [(state.now.forms[number - 1], answer)
+                    for number, answer in audits.made([form.level for form in left])]
+            run.found += made
+            if made:
+                run.give(state.pool)
+                state = _audited(run, state, audits)
+    return state._replace(left=_left(state))
+
+
+def _audited(run: Run, state: State, audits: Audits) -> State:
+    chosen, found = state.pool.audited(audits.audit, lambda text: noted(run.program, text))
+    return state._replace(answers=chosen, report=noted(run.program, audits.text),
+                          now=state.now._replace(lines=found.lines))
+
+
+def _left(state: State) -> shelf.Kept:
+    """Returns what has no place in the collection."""
+    back, titles = state.merged.back, {level.title.encode() for level in state.now.levels}
+    stored = state.former.stored
+    entries = [entry._replace(block=entry.block._replace(above=(), below=()))
+               if at in back else entry for at, entry in enumerate(stored.entries)]
+    entries = [entry for at, entry in enumerate(entries)
+               if entry.record or at not in back or entry.stays(titles)]
+    left = state.pool.left(stored._replace(entries=entries))
+    for index, block in state.merged.away:
+        level = state.former.mine.levels[index]
+        left.append(shelf.Entry(shelf.head_of(level.number, level.title), block))
+    return stored._replace(entries=left)

@@ -36,7 +36,7 @@ def lines(run: Run, state: State, problems: Sequence[str]) -> Iterator[str]:
         (places.get(level.number) or f"{name}.xsb line {level.line}") + ": "
         + _unanswered(level, line, state.mistake(line))
         for level, line in zip(now.levels, now.lines) if not line.is_answered])
-    yield from searched(state.unanswered(), state.memory.outcomes, run.outcomes)
+    yield from searched(state.unanswered(), state.former.memory.outcomes, run.outcomes)
     found = changes.changes(run.before, now) if run.before else []
     yield from changed(found)
     edited = [number for number, form in enumerate(now.forms, 1)

@@ -18,10 +18,10 @@ import math
 import os
 from typing import Dict, List, Optional, Sequence, Tuple
 
-from .. import (answers, auditor, forms, memory, origins, output, own_files, sheet, sources,
-                summary, system, texts, transaction)
+from .. import (answers, auditor, check_run, forms, memory, origins, output, own_files, sheet,
+                sources, summary, system, texts, transaction)
 from ..builder import BOTH, MOVES, PUSHES, Collection
-from ..check_run import Run, State
+from ..check_run import Inputs, Run, State
 from ..conversion import Conversion, Reading, code
 from ..outcomes import Result
 from ..own_files import (ANSWERS, KEPT_ANSWERS, KEPT_XSB, MEMORY, OTHER, PAGE, REPORT, SHEET, XSB,
@@ -94,7 +94,7 @@ def gathered(options: argparse.Namespace) -> Run:
     for end in () if options.compare else (*own_files.ENDS, *[SHEET] * options.csv, MEMORY):
         output.check_writable(options.name + end)
     more = [(name, answers.read_file(name, rising=False)) for name in options.answers]
-    return Run(options, shown, program, more, exports_of(options, shown))
+    return Run(Inputs(options, shown, program, more, exports_of(options, shown)))
 
 
 def exports_of(options: argparse.Namespace, shown: Progress) -> Conversion:
@@ -145,14 +145,13 @@ def settled(given: Run, state: Optional[State] = None) -> State:
     for _ in range(ROUNDS):
         try:
             with own_files.alone(given.name, given.shown):
-                made = state or State(given)
-                made.audit(given)
+                made = check_run.audit(given, state or check_run.begun(given))
                 given.shown.show("writing")
                 files = contents(given, made)
                 with unbroken():
-                    made.files.write(files)
-                given.has_backups = made.files.has_backups
-                given.written.update(made.files.written)
+                    made.former.files.write(files)
+                given.has_backups = made.former.files.has_backups
+                given.written.update(made.former.files.written)
                 return made
         except transaction.Changed as changed:
             if state:
@@ -170,9 +169,8 @@ def compared(given: Run) -> int:
     that is write-protected."""
     may_change = os.access(os.path.dirname(os.path.abspath(given.name)), os.W_OK)
     with own_files.alone(given.name, given.shown) if may_change else contextlib.nullcontext():
-        state = State(given)
-        state.audit(given)
-        changed = state.files.changed(contents(given, state))
+        state = check_run.audit(given, check_run.begun(given))
+        changed = state.former.files.changed(contents(given, state))
     given.shown.clear()
     for line in changed or [f"{texts.shown(given.name)}: no file would change"]:
         print(line)
@@ -181,10 +179,11 @@ def compared(given: Run) -> int:
 
 def contents(given: Run, state: State) -> Dict[str, Optional[bytes]]:
     """Returns the contents of the files by the ends of their names, None where there is none."""
-    state.memory.outcomes.join(given.outcomes)
-    remembered = state.memory._replace(written=state.merged.written,
-                                       computed=state.pool.computed(),
-                                       found=given.without(state.now.forms))
+    former = state.former
+    former.memory.outcomes.join(given.outcomes)
+    remembered = former.memory._replace(written=state.merged.written,
+                                        computed=state.pool.computed(),
+                                        found=given.without(state.now.forms))
     kept_text, kept_answers = state.left.files()
     other = noted(given.program, state.pool.other_answers())
     names = page_names(given)
@@ -193,12 +192,12 @@ def contents(given: Run, state: State) -> Dict[str, Optional[bytes]]:
         number: {"file": texts.shown(place.published), "line": place.line, "left": left}
         for number, (place, left) in found.items()}
     table = {SHEET: sheet.text(state.now.levels, state.now.lines, names[0], sources)
-             } if state.has_table else {}
+             } if former.has_table else {}
     files = [state.text, state.answers, state.report]
     made_of = texts.digest(b"\n".join([ascii([
         code(), page.skeleton(), names, sources]).encode(), *files]))
-    made = state.files.now.get(PAGE) or b""
-    if state.memory.made.get(PAGE) != f"{made_of} {texts.digest(made)}":
+    made = former.files.now.get(PAGE) or b""
+    if former.memory.made.get(PAGE) != f"{made_of} {texts.digest(made)}":
         made, fault = page.written(files, names, sources=sources)
         if fault:
             raise texts.Stop(f"the report isn't of these levels and answers: {fault}")
@@ -217,25 +216,32 @@ def contents(given: Run, state: State) -> Dict[str, Optional[bytes]]:
 # ---- the search
 
 def searched(given: Run, state: State) -> State:
-    """Searches the levels that are left, and brings the files up to date as results come."""
-    known = state.memory.outcomes
+    """Searches the levels that are left."""
     if not (given.options.solver or given.options.seconds > 0 < given.options.search):
         return state
-
-    def take(way: str, results: Sequence[Tuple[forms.Form, Result]]) -> None:
-        nonlocal state
-        for form, result in results:
-            for outcomes in (known, given.outcomes):
-                outcomes.keep(form.digest, way, result.what, result.seconds)
-            if result.record:
-                given.found.append((form, answers.answer_of(result.record)))
-        state = settled(given, state)
-
     # loads the search and the solvers
     from .. import rounds
-    rounds.search([*rounds.ways(given.options, given.program, given.shown, known)],
-                  lambda: state.unanswered(), take)
-    return state
+    search = Search(given, state)
+    rounds.search([*rounds.ways(given.options, given.program, given.shown, search.known)],
+                  lambda: search.state.unanswered(), search.take)
+    return search.state
+
+
+class Search:
+    """A search of the levels that are left, and the state as it was written last."""
+
+    def __init__(self, given: Run, state: State) -> None:
+        self.given, self.state = given, state
+        self.known = state.former.memory.outcomes
+
+    def take(self, way: str, results: Sequence[Tuple[forms.Form, Result]]) -> None:
+        """Brings the files up to date with results."""
+        for form, result in results:
+            for outcomes in (self.known, self.given.outcomes):
+                outcomes.keep(form.digest, way, result.what, result.seconds)
+            if result.record:
+                self.given.found.append((form, answers.answer_of(result.record)))
+        self.state = settled(self.given, self.state)
 
 
 # ---- the summary
