@@ -54,6 +54,18 @@ class Archives(Case):
         self.assertEqual((result.status, result.err), (
             0, "convert: 4 levels, 0 solutions, 0 left out\n"))
 
+    def test_the_list_of_files_is_read_once(self) -> None:
+        """It would take seconds to read it for each of thousands of files, in a zip in a zip too.
+        """
+        inner = self.archive(*(f"{number}.txt" for number in range(9)))
+        for name, data in (("a.zip", inner), ("b.zip", self.packed(c_zip=inner))):
+            self.write(name, data)
+            with unittest.mock.patch.object(zipfile, "ZipFile", wraps=zipfile.ZipFile) as opened:
+                found = sources.listed([name])
+                self.assertEqual([it.read() for it in found], [ONE.encode()] * 9)
+                self.assertLessEqual(opened.call_count, 2)
+        sources.close()
+
     def test_too_deep_or_large(self) -> None:
         """What isn't unpacked is reported, and no bomb takes the memory."""
         data = ONE.encode()

@@ -72,6 +72,7 @@ class Reading:
         with contextlib.suppress(texts.Stop, KeyError, TypeError, ValueError):
             for export in self.listed:
                 export.read()
+            sources.close()
             if self.digest() == data["digest"]:
                 return Conversion(
                     data["digest"],

@@ -3,6 +3,7 @@ within them, and what gzip packed. A file .sokoignore in a folder has names and 
 and folders there that aren't read."""
 import contextlib
 import fnmatch
+import functools
 import gzip
 import io
 import os
@@ -12,7 +13,7 @@ import unicodedata
 import zipfile
 from collections import Counter
 from typing import (IO, Callable, ContextManager, Dict, Iterator, List, NamedTuple, Optional,
-                    Sequence, Set, Tuple, cast)
+                    Sequence, Set, Tuple, Union, cast)
 
 from . import texts
 
@@ -29,6 +30,8 @@ _NUMBER = re.compile("([0-9]+)")
 _MOST_DIGITS = 99
 IsOut = Callable[[str], bool]
 Opened = Callable[[], ContextManager[IO[bytes]]]
+# a file on the disk by its name, or the bytes of one in an archive
+Source = Union[str, bytes]
 
 
 class Export(NamedTuple):
@@ -197,21 +200,35 @@ class _Room:
 
 def _in_file(path: str) -> Iterator[Export]:
     """Yields a file, or the files in it if it is an archive."""
-    export = Export(path, lambda: texts.read(path))
-    yield from _unpacked(export, lambda: open(path, "rb"), 0, _Room())
+    close()
+    yield from _unpacked(Export(path, lambda: texts.read(path)), path, 0, _Room())
 
 
-def _unpacked(export: Export, opened: Opened, depth: int, room: _Room) -> Iterator[Export]:
+@functools.lru_cache(maxsize=MOST_NESTED)
+def _archive(source: Source) -> zipfile.ZipFile:
+    """Returns a zip archive. It stays open, so that its list of files is read once for them all."""
+    return zipfile.ZipFile(source if isinstance(source, str) else io.BytesIO(source))
+
+
+def close() -> None:
+    """Closes the archives that were read last."""
+    _archive.cache_clear()
+
+
+def _opened(source: Source) -> IO[bytes]:
+    return open(source, "rb") if isinstance(source, str) else io.BytesIO(source)
+
+
+def _unpacked(export: Export, source: Source, depth: int, room: _Room) -> Iterator[Export]:
     """Yields an export, or the files in it if it is an archive, around which are `depth` others."""
     members: List[zipfile.ZipInfo] = []
     try:
-        with opened() as file:
+        with _opened(source) as file:
             head = file.read(len(_ZIP)) if depth < MOST_NESTED else b""
             is_archive = head == _ZIP and zipfile.is_zipfile(file)
         if is_archive:
-            with opened() as file, zipfile.ZipFile(file) as archive:
-                members = [it for it in map(_named, archive.infolist())
-                           if not it.is_dir() and not _is_hidden(it.filename)]
+            members = [it for it in map(_named, _archive(source).infolist())
+                       if not it.is_dir() and not _is_hidden(it.filename)]
     except MemoryError:
         raise
     except Exception as error:  # Each form of a damaged archive has errors of its own.
@@ -223,10 +240,10 @@ def _unpacked(export: Export, opened: Opened, depth: int, room: _Room) -> Iterat
     elif is_archive:
         for member in sorted(members, key=lambda it: _order(it.filename)):
             name = f"{export.name}/{member.filename}"
-            yield from _inner(name, _member(opened, member), depth, room)
+            yield from _inner(name, _member(source, member), depth, room)
     elif head.startswith(_GZIP):
         name = re.sub(r"(?i)\.gz\Z", "", os.path.basename(export.name))
-        yield from _inner(f"{export.name}/{name}", _gunzipped(opened), depth, room)
+        yield from _inner(f"{export.name}/{name}", _gunzipped(source), depth, room)
     else:
         yield export
 
@@ -244,18 +261,14 @@ def _named(member: zipfile.ZipInfo) -> zipfile.ZipInfo:
     return member
 
 
-def _member(opened: Opened, member: zipfile.ZipInfo) -> Opened:
-    @contextlib.contextmanager
-    def unpacked() -> Iterator[IO[bytes]]:
-        with opened() as file, zipfile.ZipFile(file) as archive, archive.open(member) as inner:
-            yield inner
-    return unpacked
+def _member(source: Source, member: zipfile.ZipInfo) -> Opened:
+    return lambda: _archive(source).open(member)
 
 
-def _gunzipped(opened: Opened) -> Opened:
+def _gunzipped(source: Source) -> Opened:
     @contextlib.contextmanager
     def unpacked() -> Iterator[IO[bytes]]:
-        with opened() as file, gzip.GzipFile(fileobj=file) as inner:
+        with _opened(source) as file, gzip.GzipFile(fileobj=file) as inner:
             yield cast(IO[bytes], inner)
     return unpacked
 
@@ -288,7 +301,7 @@ def _inner(name: str, opened: Opened, depth: int, room: _Room) -> Iterator[Expor
         yield _stopped(name, str(stop))
         return
     export = Export(name, lambda: data)
-    yield from _unpacked(export, lambda: io.BytesIO(data), depth + 1, room)
+    yield from _unpacked(export, data, depth + 1, room)
 
 
 def _unreadable(name: str, why: str) -> Export:

@@ -115,6 +115,7 @@ def read_files(collection: Collection, listed: Sequence[sources.Export]) -> None
                           sources.levels_of(export, listed))
         else:
             _read_export(reader, export, data)
+    sources.close()
     try:
         reader.read()
         writing.write(reader)
