@@ -92,7 +92,8 @@ class Beside(Check):
         said = "mine.xsb was changed by somebody else"
         self.assertEqual((result.status, result.err.splitlines()),
                          (2, [f"check: {said}: reading again"] * 3
-                          + [f"check: {said}, again and again: the files are as they were"]))
+                          + [f"check: {said}, again and again: close it there, and run check "
+                             "again. The files are as they were"]))
         now = {name: self.read(name) for name in os.listdir()}
         self.assertEqual(now.pop("mine.xsb").replace(b"typed\n", b""), files.pop("mine.xsb"))
         self.assertEqual(now, files)
@@ -112,8 +113,8 @@ class Beside(Check):
             result = self.tool("check", "mine", "a.txt")
         self.assertEqual(result.status, 2)
         self.assertEqual(result.err.splitlines()[-1], "check: mine.xsb was changed by somebody "
-                         "else, again and again: the files are as they were, and the next run has "
-                         "what was found")
+                         "else, again and again: close it there, and run check again. The files "
+                         "are as they were, and the next run has what was found")
         self.write("a.txt", CORNER)  # nor with a run in between that has no place for it
         self.check("mine", "a.txt")
         self.write("a.txt", CORNER + "\n" + LONG.replace("Solution", "No solution"))
@@ -133,6 +134,22 @@ class Beside(Check):
         self.assertEqual(result.status, 2)
         self.assertTrue(result.err.startswith("check: mine.answers is there, but not its levels"))
         self.assertEqual({name: self.read(name) for name in os.listdir()}, files)
+
+    def test_a_file_that_lost_its_levels_has_a_backup(self) -> None:
+        """That is named: who moves the file away loses what was typed."""
+        self.write("a.txt", CORNER)
+        self.check("mine", "a.txt")
+        for text, said in ((b"", "mine.answers is there, but not its levels in mine.xsb: "),
+                           (b"nothing\n", "mine.xsb has no levels: ")):
+            for backup in (b"a backup\n", None):
+                self.write("mine.xsb", text)
+                if os.path.exists("mine.xsb~"):
+                    os.remove("mine.xsb~")
+                if backup:
+                    self.write("mine.xsb~", backup)
+                result = self.check("mine", "a.txt")
+                back = "put these back from mine.xsb~, or " if backup else ""
+                self.assertIn(f"check: {said}{back}", result.err)
 
     @needs_program
     def test_slip_during_the_search_has_no_find_lost(self) -> None:

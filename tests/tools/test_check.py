@@ -525,7 +525,7 @@ class Screen(Check):
         said = self.read("said").decode()
         self.assertIn(" \rcheck: auditing", said)
         self.assertIn(" \rcheck: level 1: found a solution (1 of 1 done, 1 found)\r\n", said)
-        self.assertIn("mine: 1 levels, 1 solved, 0 unsolvable, 0 refused, 0 missing\r\n", said)
+        self.assertIn("mine: 1 level, 1 solved, 0 unsolvable, 0 refused, 0 missing\r\n", said)
 
 
 class Unchanged(Check):

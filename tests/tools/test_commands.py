@@ -164,7 +164,7 @@ class Named(Case):
     def test_report_that_is_not_whole(self) -> None:
         self.write("a.xsb", ONE + "\n" + ONE)
         for text, why in (("", "it isn't a report"), (ONE, "it isn't a report"),
-                          ("level 1 missing\n", "it is cut: it has 1 levels and no total line"),
+                          ("level 1 missing\n", "it is cut: it has 1 level and no total line"),
                           ("level 1 missing\ntotal 2 solved 0 unsolvable 0 refused 0 missing 2\n",
                            "its level numbers aren't 1 to 2"),
                           ("level 1 missing\nx\n", "line 2 isn't a line of a report")):

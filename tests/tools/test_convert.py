@@ -67,6 +67,18 @@ class Levels(Case):
                 self.assertEqual(result.status, 0, result.err)
                 self.assertIn(heading.encode(), found)
 
+    def test_what_seems_to_be_no_level(self) -> None:
+        """The question fits what is wrong: rows are missing, or several levels are one."""
+        for text, said in (
+                ("#######\n#  $ .#\n#######\n", "has 0 players: are these all of its rows?"),
+                ("#####  #####\n#@$.#  #@$.#\n#####  #####\n",
+                 "has 2 players: are these several levels?"),
+                ("####\n#@ #\n####\n", "has no box: are these all of its rows?"),
+                ("#####\n#@$. \n#####\n", "isn't closed by walls: are these all of its rows?")):
+            result, _, _ = self.convert(text)
+            self.assertEqual((result.status, result.err.splitlines()[0]),
+                             (1, f"convert: mine.txt line 1: level 1 {said}"))
+
     def test_heading_between_two_levels(self) -> None:
         for heading in ("### 1 ###", "#2.", "#3 Bob", "#1 "):
             result, found, _ = self.convert(ONE + heading + "\n" + OTHER)

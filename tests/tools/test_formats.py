@@ -45,11 +45,11 @@ def collection(chance: random.Random) -> Listed:
     return found
 
 
-def is_solved(listed: Tuple[Rows, str, str]) -> bool:
-    """Whether the letters of a level solve it, or there are none."""
+def is_right(listed: Tuple[Rows, str, str]) -> bool:
+    """Whether a level has a box, and its letters solve it or there are none."""
     rows, _, letters = listed
-    level = levels.Level(1, [row.encode() for row in rows], 1)
-    return not letters or Board(level).replay(letters.encode()).fault is None
+    board = Board(levels.Level(1, [row.encode() for row in rows], 1))
+    return bool(board.boxes) and (not letters or board.replay(letters.encode()).fault is None)
 
 
 # ---- the writers
@@ -146,7 +146,7 @@ class ThereAndBack(Case):
                 self.assertEqual(plain, ["\n".join(rows) for rows, _, _ in listed], (name, text))
                 self.assertEqual(kept, {n: letters for n, (_, _, letters) in enumerate(listed, 1)
                                         if letters}, (name, text, result.err))
-                self.assertEqual(result.status, int(not all(map(is_solved, listed))),
+                self.assertEqual(result.status, int(not all(map(is_right, listed))),
                                  (name, text, result.err))
                 if name != "mazes":
                     self.assertEqual([level.title.strip("'") for level in levels.read(found)],

@@ -87,7 +87,8 @@ class Sources(checking.Check):
         self.write("a.txt", ONE)
         self.assertEqual(self.sources("a.txt", "b.txt"), {
             "1": {"file": "a.txt", "line": 1, "left": []},
-            "2": {"file": "b.txt", "line": 2, "left": []},
+            "2": {"file": "b.txt", "line": 2,
+                  "left": ["line 2: level 2 has no box: are these all of its rows?"]},
             "3": {"file": "b.txt", "line": 5,
                   "left": ["line 5: level 3 has 0 players: are these all of its rows?"]},
             "4": {"file": "b.txt", "line": 10, "left": [

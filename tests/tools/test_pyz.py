@@ -38,7 +38,7 @@ class Pyz(Case):
         """It reads, searches, audits, and writes the page."""
         result = self.runs("check", "my", "*.txt")
         self.assertEqual(result.out.decode().splitlines(),
-                         ["my: 1 levels, 1 solved, 0 unsolvable, 0 refused, 0 missing",
+                         ["my: 1 level, 1 solved, 0 unsolvable, 0 refused, 0 missing",
                           auditor.REFERENCE_NOTE,
                           "wrote: my.html, my.xsb, my.answers, my.report, my.memory"])
         self.assertEqual(result.status, 0)

@@ -50,9 +50,13 @@ class Board:
         if self.fault == "size":
             return f"has more than {LARGEST_SIDE} columns or rows"
         if self.player is None:
-            return f"has {texts.count(len(self.players), 'player')}: are these all of its rows?"
+            found = len(self.players)
+            return f"has {texts.count(found, 'player')}: are these " + (
+                "several levels?" if found else "all of its rows?")
         if self.fault == "open":
             return "isn't closed by walls: are these all of its rows?"
+        if self.fault == "box":
+            return "has no box: are these all of its rows?"
         return None
 
     @cached_property

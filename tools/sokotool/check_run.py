@@ -2,6 +2,7 @@
 exports, `choose` candidates for the answers, and `audit` the best ones."""
 import argparse
 import contextlib
+import os
 from typing import List, NamedTuple, Optional, Sequence, Set, Tuple
 
 from . import (answers, auditor, candidates, forms, level_texts, levels, memory, merging, mistakes,
@@ -157,13 +158,15 @@ def read(run: Run) -> Former:
 def _own_blocks(files: own_files.Files) -> List[level_texts.Block]:
     """Returns the levels of NAME.xsb as they are now."""
     text, name = files.levels() or b"", texts.shown(files.name)
+    back = (f"put these back from {name}.xsb~, or " if os.path.exists(files.name + XSB + "~")
+            else "")
     # While an editor saves, the file may be empty for a moment.
     if not text.strip() and ANSWERS in files.before:
-        raise texts.Stop(f"{name}.answers is there, but not its levels in {name}.xsb: name it "
-                         "by --answers, under another name")
+        raise texts.Stop(f"{name}.answers is there, but not its levels in {name}.xsb: {back}name "
+                         f"{name}.answers by --answers, under another name")
     found = level_texts.read(text)
     if text.strip() and not found:
-        raise texts.Stop(f"{name}.xsb has no level: move it away")
+        raise texts.Stop(f"{name}.xsb has no levels: {back}move it away")
     return found
 
 

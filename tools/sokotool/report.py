@@ -72,9 +72,10 @@ class Report(NamedTuple):
         if self.strays:
             return f"line {self.strays[0]} isn't a line of a report"
         if self.total is None:
-            return f"it is cut: it has {len(self.lines)} levels and no total line"
+            return f"it is cut: it has {texts.count(len(self.lines), 'level')} and no total line"
         if self.total[0] != levels:
-            return f"it has {self.total[0]} levels, and the collection has {levels}"
+            return (f"it has {texts.count(self.total[0], 'level')}, and the collection has "
+                    f"{levels}")
         if [line.level for line in self.lines] != [*range(1, levels + 1)]:
             return f"its level numbers aren't 1 to {levels}"
         return None

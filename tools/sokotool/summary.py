@@ -22,7 +22,7 @@ def lines(run: Run, state: State, problems: Sequence[str]) -> Iterator[str]:
     now, name = state.now, texts.shown(run.name)
     count = {status: sum(line.status == status for line in now.lines)
              for status in ("solved", "unsolvable", "refused", "missing")}
-    yield f"{name}: {len(now.lines)} levels, " + ", ".join(
+    yield f"{name}: {texts.count(len(now.lines), 'level')}, " + ", ".join(
         f"{number} {status}" for status, number in count.items())
     if run.program.is_reference and not auditor.is_quiet():
         yield auditor.REFERENCE_NOTE

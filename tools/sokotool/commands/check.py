@@ -161,7 +161,8 @@ def settled(given: Run, state: Optional[State] = None) -> State:
             given.shown.keep(f"{changed}: reading again")
         except texts.Stop as stop:
             raise texts.Stop(f"{stop}{given.keep()}") from None
-    raise texts.Stop(f"{why}, again and again: the files are as they were{given.keep()}")
+    raise texts.Stop(f"{why}, again and again: close it there, and run check again. The files are "
+                     f"as they were{given.keep()}")
 
 
 def compared(given: Run) -> int:
