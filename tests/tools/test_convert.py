@@ -343,6 +343,12 @@ class Limits(Case):
         self.assertEqual((result.status, len(rows_of(found)[0].split("\n")[0])), (0, 255))
         self.assertEqual(self.convert("256#\n#@$.251-#\n256#\n")[0].status, 1)
 
+    def test_long_lines_between_levels(self) -> None:
+        """None takes long to be no title."""
+        for line in ("\u2192" * 30_000 + "[", "<a " + 'name="b" ' * 30_000 + "{"):
+            self.takes_less(8, lambda line=line: self.convert(  # type: ignore[misc]
+                f"{ONE}\n{line}\n{OTHER}"))
+
     def test_long_solutions(self) -> None:
         result, _, solved = self.convert(ONE + "Solution\n99999999999999999999(r)\n" + OTHER +
                                          "Solution: 40000000r\n")

@@ -3,7 +3,8 @@
 
 const MOST_PLAYED = 1 << 20, MOST_STEPS = 1e8, MOST_PIECES = 2000, MOST_TRIES = 100, TRY = 20,
     LONG = 8;
-const LETTERS_ALONE = /^[0-9() \t,;.'"`*-]*[lurdLURD][lurdLURD0-9() \t,;.'"`*-]*$/;
+// a mail may end a line by "=" that goes on in the next one
+const LETTERS_ALONE = /^[0-9() \t,;.'"`*-]*[lurdLURD][lurdLURD0-9() \t,;.'"`*-]*=?$/;
 const BETWEEN = /[ \t,;.'"`*-]/g, LOOSE = /(?<![\w(])\d+(?=[ \t,;.'"`*-]|$)/g;
 const AMONG_WORDS =
     /(?<![\p{L}\p{N}])[0-9(]*[lurdLURD][lurdLURD0-9() \t,;.'"`*-]*(?![\p{L}\p{N}])/gu;
@@ -33,7 +34,7 @@ const ALPHABETS = [
 
 // The letters of a line without what may be between them, or beside them as numbers and brackets.
 function packed(text) {
-    const whole = text.replace(/^\W*LURD\W+(?=\w)/i, "").replace(LOOSE, " ").replace(/\([\s\d]*$/,
+    const whole = text.replace(/^\W*LURD\W+(?=\w)/i, "").replace(/=$/, "").replace(LOOSE, " ").replace(/\([\s\d]*$/,
         "").replace(BETWEEN, "");
     return expanded(whole, MOST_PLAYED)
         ?? (/[()]/.test(whole) ? whole.replace(/[()]/g, "") : whole);

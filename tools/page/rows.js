@@ -115,12 +115,14 @@ function joinedIn(line) {
     for (const mark of ROW_ENDS) {
         const parts = line.split(mark), rows = [], around = [""];
         for (let first = 0, last; first < parts.length; first = last) {
+            const begin = cellsAtEnd(parts[first]);
             last = first + 1;
-            while (last < parts.length - 1 && parts[last].includes("#") && CELLS.test(parts[last]))
-                last++;
-            const begin = cellsAtEnd(parts[first]),
-                end = /^[-#@+$*._ 0-9bBpPo()]*/.exec(parts[last] ?? "")[0];
-            const some = [begin, ...parts.slice(first + 1, last),
+            while (begin.includes("#") && last < parts.length - 1 && parts[last].includes("#")
+                && CELLS.test(parts[last])) last++;
+            const end = /^[-#@+$*._ 0-9bBpPo()]*/.exec(parts[last] ?? "")[0];
+            // a cell of a table has a blank on both sides
+            const isCell = first && begin === parts[first] && begin[0] === " " && end.endsWith(" ");
+            const some = [begin.slice(isCell ? 1 : 0), ...parts.slice(first + 1, last),
                 end].filter(it => it.includes("#"));
             const found = some.length > 2 && begin.includes("#") ? spelled(some) : null;
             around[around.length - 1] += found ? parts[first].slice(0, -begin.length)
@@ -143,6 +145,7 @@ const BESIDE = new RegExp("^\\s*[\"'|`]?([-_ ]*#[-#@+$*._ ]*?#)[-_ ]*"
 const STRING = /^(.*?)(["'`])([-#@+$*._ ]+)(?:\\r)?(?:\\n)?\2([^\w"'`]*)$/;
 const BEFORE =
     /^(?!\s*(?:[;#]|\/\/))[^\w"'`]*(?:[^"'`]*[=:({[]\s*|("|')\w+\1\s*:[^\w"'`]*)?[rbfuRBFU]?$/;
+const KEYED = new RegExp(`^[A-Za-z]\\w{0,15} ?= ?(${ROW})$`);
 const BETWEEN_ROWS = /^[^\w({["'`]*[rbfuRBFU]?$/;
 // the tag of a row in SokoSolve, and what its characters are
 const TAGGED = /^\s*<Row>([~#.OXP$*]+)<\/Row>\s*$/,
@@ -158,9 +161,11 @@ function cellIn(line) {
         ? { ...row, rows: [before], ends: true, rest: after } : null;
 }
 
-// The row that a line has as a string, or null. `lead` is its mark, since the rows of a level are
-// strings of the same kind.
+// The row that a line has as a string, or as the value of a key, or null. `lead` is its mark, since
+// the rows of a level are strings of the same kind.
 function stringIn(line) {
+    const keyed = KEYED.exec(line);
+    if (keyed) return { kind: "string", rows: [keyed[1]], lead: "=" };
     const [, before, mark, row, after] = STRING.exec(line) ?? [];
     return row?.includes("#") && BEFORE.test(before)
         ? { kind: "string", rows: [row], lead: mark, begins: !BETWEEN_ROWS.test(before),
@@ -281,11 +286,13 @@ function findLevel(lines, first, last, faults) {
     }
     if (areFew || areWalls) for (const it of run) it.row = null;
     else lines[first].starts = true;
-    const bullet = run[0].row?.rows[0].slice(0, 2);
-    if (run.length > 2 && /^[*.] /.test(bullet)
-        && run.every(({ row }) => row?.rows.every(it => it.startsWith(bullet)))) {
-        for (const { row } of run) row.rows = row.rows.map(it => it.slice(2));
-        faults.push({ number, words: "each row has a bullet in front, which is left out",
+    // a bullet, or the mark of a patch
+    const mark = /^(?:[*.] |\+)/.exec(run[0].row?.rows[0])?.[0];
+    if (run.length > 2 && mark
+        && run.every(({ row }) => row?.rows.every(it => it.startsWith(mark)))) {
+        for (const { row } of run) row.rows = row.rows.map(it => it.slice(mark.length));
+        const what = mark === "+" ? "the + of a patch" : "a bullet";
+        faults.push({ number, words: `each row has ${what} in front, which is left out`,
             isNote: true });
     }
 }

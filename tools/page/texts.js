@@ -81,40 +81,57 @@ const NAMES_OF_TITLES = utf8("titel|titre|titolo|t\u00edtulo|titulo|tytu\u0142|n
     + "\u30bf\u30a4\u30c8\u30eb");
 const keyed = keys => new RegExp(`^(?:[-*>]|${SPACE})*(?:${keys})${EQUALS}[ \\t]*`);
 const TITLE = keyed("title"), NAME = keyed(NAMES_OF_TITLES);
-const KEY = new RegExp(`^(?:[-*>;#]|${SPACE})*[A-Za-z\\x80-\\xff-]+${COLON}`);
+const KEY =
+    new RegExp(`^(?:[-*>;#]|${SPACE})*[A-Za-z\\x80-\\xff][A-Za-z\\x80-\\xff-]*${COLON}`);
 const MARKUP = "<(?:[/?]|!(?:--\\s*)?)?[A-Za-z][^<>]*>|\\[/?(?:b|i|u|s|h|pre|code|quote|spoiler|size"
     + "|color|center|url|img|list)(?:=[^\\]]*)?\\]";
-const TAGS = new RegExp(`^(?:${MARKUP}|\`\`\`.*|~~~.*|[^A-Za-z0-9\\x80-\\xff])*$`, "is");
+const TAGS = new RegExp(`^(?:${MARKUP}|\`\`\`.*|~~~.*|\\\\(?:begin|end)\\{\\w+\\*?\\}`
+    + "|[^A-Za-z0-9\\x80-\\xff])*$", "is");
+// a tag of no web page that gives what it holds a name
+const NAMING_TAG = new RegExp("^<(?!(?:meta|input|a|img|link|param|form|button|select|iframe|object"
+    + "|div|span|table|td|p)\\b)[A-Za-z][\\w:.-]*\\s[^<>]*?\\b(?:name|title)\\s*=\\s*"
+    + "[\"']([^<>\"']+)[\"'][^<>]*>$", "i");
+// what is around a heading: marks of wikis and chats, or a command
+const AROUND = new RegExp("^(?:(={2,}|\\*{2,}|_{2,}|'{2,})\\s*([^\\s=*_'](?:.*[^\\s=*_'])?)\\s*\\1"
+    + "|\\\\[A-Za-z]+\\*?\\{([^{}]+)\\})$", "s");
+const QUOTED = /^(["'])(.*)\1$/s;
 // tags, and the mark of a heading or of an entry in a list
 const MARKS = new RegExp(`${MARKUP}|^(?:#+|[-*>])[ \\t]+`, "gi"), ENTRY = /^[-*+][ \t]/;
 // lines of a chat, with a time or a name; of a table; and marks of a merge
 const NO_TITLE = new RegExp(
     "^(?:\\[?\\d{1,2}:\\d\\d(?::\\d\\d)?\\]?\\s|<(?!(?:[a-z]|h[1-6]|pre|code|center|div|span"
-    + "|font|em|strong|title|tt|td|th|tr|li|small|big|br|hr)\\b)[\\w.-]+>\\s|[<>=]{7}|\\|"
+    + "|font|em|strong|title|tt|td|th|tr|li|small|big|br|hr)\\b)[\\w.-]+>\\s|[<>=]{7}|@@ |\\|"
     + "|[^\\s,;]*[,;][^\\s,;]*[,;]\\S*\\s*$|[^\\t]+\\t[^\\t]+\\t)", "i");
 const AUTHOR = /^(?:by|author)\b/i;
 // letters alone, and what of them is a title: digits, or a word whose last letter is no push
 const ONLY_LETTERS = /^[lurdLURD0-9() \t]*$/, ONLY_DIGITS = /^(?:[0-9 \t]*|[LURD][lurd]{2,})$/;
 const SOLUTION = new RegExp(
-    `^\\W*(?:[A-Za-z'\\x80-\\xff]+${SPACE}+){0,2}solution\\b(?:[^:=]*[:=]|\\W*[0-9(])`, "i");
+    `^[^\\w'\\x80-\\xff]*(?:[A-Za-z'\\x80-\\xff]+${SPACE}+){0,2}[\\x80-\\xff]*solution\\b`
+        + "(?:[^:=]*[:=]|\\W*[0-9(])", "i");
 // The flag i would take \xe3 for \xc3 in the bytes of UTF-8.
 const lowered = line => line.replace(/[A-Z]+/g, letters => letters.toLowerCase());
 const stripped = line => line.replace(/^[ \t\n\r\v\f]+|[ \t\n\r\v\f]+$/g, "");
 // what a line says after a key, or null
 function after(key, line, low) {
     const match = key.exec(low);
-    return match && line.slice(match[0].length);
+    if (!match) return null;
+    const said = line.slice(match[0].length);
+    return /=[ \t]*$/.test(match[0]) ? QUOTED.exec(stripped(said))?.[2] ?? said : said;
 }
 
 // the title that a line of text is, or ""
 function titleIn(line) {
     let text = stripped(line.replace(/^[; \t\v\f]+/, ""));
+    const named = NAMING_TAG.exec(text);
+    if (named) return stripped(named[1]);
     if (KEY.test(line) || TAGS.test(text) || ONLY_LETTERS.test(line) || NO_TITLE.test(text)
         || /[:,]$/.test(text)) return "";
     // A page has its own title before its first heading.
     const end = text.toLowerCase().indexOf("</title>") + 8;
     if (end > 7 && stripped(text.slice(end))) text = text.slice(end);
     for (let bare; (bare = stripped(text.replace(MARKS, ""))) !== text;) text = bare;
+    const around = AROUND.exec(text);
+    if (around) text = stripped(around[2] ?? around[3]);
     return SOLUTION.test(line) || isRow(text) ? "" : text;
 }
 

@@ -39,24 +39,33 @@ _BY = re.compile(rb"[-*>;#\s]*(?:" + "|".join((
     "authors?", "autor", "auteur", "autore", "upphovsman", "\u0430\u0432\u0442\u043e\u0440",
     "\u0410\u0432\u0442\u043e\u0440", "\u4f5c\u8005")).encode() + rb")" + _EQUALS +
     rb"[ \t]*(.*)", re.I | re.S)
-_KEY = re.compile(rb"[-*>;#\s]*[A-Za-z\x80-\xff-]+" + _COLON)
+_KEY = re.compile(rb"[-*>;#\s]*[A-Za-z\x80-\xff][A-Za-z\x80-\xff-]*" + _COLON)
 _TAG = (rb"<(?:[/?]|!(?:--\s*)?)?[A-Za-z][^<>]*>|\[/?(?:b|i|u|s|h|pre|code|quote|spoiler|size|color"
         rb"|center|url|img|list)(?:=[^\]]*)?\]")
-_TAGS = re.compile(rb"(?:" + _TAG + rb"|```.*|~~~.*|[^A-Za-z0-9\x80-\xff])*", re.S | re.I)
+_TAGS = re.compile(rb"(?:" + _TAG + rb"|```.*|~~~.*|\\(?:begin|end)\{\w+\*?\}"
+                   rb"|[^A-Za-z0-9\x80-\xff])*", re.S | re.I)
+# a tag of no web page that gives what it holds a name
+_NAMING_TAG = re.compile(
+    rb"<(?!(?:meta|input|a|img|link|param|form|button|select|iframe|object|div|span|table|td|p)\b)"
+    rb"[A-Za-z][\w:.-]*\s[^<>]*?\b(?:name|title)\s*=\s*[\"']([^<>\"']+)[\"'][^<>]*>", re.I)
 # tags, and the mark of a heading or of an entry in a list
 _MARKS = re.compile(_TAG + rb"|\A(?:#+|[-*>])[ \t]+", re.I)
+# what is around a heading: marks of wikis and chats, or a command
+_AROUND = re.compile(rb"(={2,}|\*{2,}|_{2,}|'{2,})\s*([^\s=*_'](?:.*[^\s=*_'])?)\s*\1"
+                     rb"|\\[A-Za-z]+\*?\{([^{}]+)\}", re.S)
+_QUOTED = re.compile(rb"([\"'])(.*)\1", re.S)
 # lines of a chat, with a time or a name; of a table; and marks of a merge
 _NO_TITLE = re.compile(
     rb"\[?[0-9]{1,2}:[0-9]{2}(?::[0-9]{2})?\]?\s|<(?!(?:[a-z]|h[1-6]|pre|code|center|div|span|font"
     rb"|em|strong|title|tt|td|th|tr|li|small|big|br|hr)\b)[\w.-]+>\s"
-    rb"|[<>=]{7}|\||[^\s,;]*[,;][^\s,;]*[,;][^\s]*\s*\Z|[^\t]+\t[^\t]+\t", re.I)
+    rb"|[<>=]{7}|@@ |\||[^\s,;]*[,;][^\s,;]*[,;][^\s]*\s*\Z|[^\t]+\t[^\t]+\t", re.I)
 _ENTRY = re.compile(rb"[-*+][ \t]")
 _AUTHOR = re.compile(rb"(?:by|author)\b", re.I)
 _LETTERS = re.compile(rb"[lurdLURD0-9() \t]*")
 # digits, or a word whose last letter is no push
 _DIGITS = re.compile(rb"[0-9 \t]*|[LURD][lurd]{2,}")
-_SOLUTION = re.compile(rb"\W*(?:[A-Za-z'\x80-\xff]+\s+){0,2}solution\b(?:[^:=]*[:=]|\W*[0-9(])",
-                       re.I)
+_SOLUTION = re.compile(rb"[^\w'\x80-\xff]*(?:[A-Za-z'\x80-\xff]+\s+){0,2}[\x80-\xff]*solution\b"
+                       rb"(?:[^:=]*[:=]|\W*[0-9(])", re.I)
 _OTHER, _ROW, _BELOW, _ABOVE, _NAMED, _SHORT, _BY_LINE, _FILE = range(8)
 _ROWS = re.compile(b"%b+" % bytes([_ROW]))
 
@@ -204,16 +213,25 @@ def _keyed(lines: List[bytes], kinds: bytes, gap: Tuple[int, int],
     """Returns what the last line of a kind says after its key between two lines, or ""."""
     at = kinds.rfind(key[0], *gap)
     match = key[1].match(lines[at]) if at >= 0 else None
-    return texts.shown(match.group(1)).strip() if match else ""
+    if not match:
+        return ""
+    said = match.group(1).strip()
+    is_set = lines[at][:match.start(1)].rstrip().endswith(b"=")
+    quoted = _QUOTED.fullmatch(said) if is_set else None
+    return texts.shown(quoted[2] if quoted else said).strip()
 
 
 def title_in(line: bytes) -> bytes:
     """Returns the title that a line of text is, or nothing.
 
-    A line with a key such as `Author: ..`, a solution, the heading of one, tags and a line without
-    a letter or digit are no titles.
+    A line with a key such as `Author: ..`, a solution, the heading of one, tags, a line without a
+    letter or digit and a long one are no titles.
     """
+    if len(line) > MOST_TITLE:
+        return b""
     text = line.lstrip(b"; \t\v\f").rstrip()
+    if named := _NAMING_TAG.fullmatch(text):
+        return named[1].strip()
     if _KEY.match(line) or _TAGS.fullmatch(text) or _LETTERS.fullmatch(line) or (
             _NO_TITLE.match(text) or text.endswith((b":", b","))):
         return b""
@@ -222,6 +240,8 @@ def title_in(line: bytes) -> bytes:
     text = text[len(text) - len(rest):] if rest.strip() else text
     while (bare := _MARKS.sub(b"", text).strip()) != text:
         text = bare
+    if around := _AROUND.fullmatch(text):
+        text = (around[2] or around[3]).strip()
     return b"" if _SOLUTION.match(line) or is_row(text) else text
 
 

@@ -5,7 +5,7 @@
 - joined    the rows of a level in one line, between other words, as in a table or a string
 - marked    floor outside the walls as ~ x ^
 - dressed   between tags and the like
-- string    a row in a string of a program
+- string    a row in a string of a program, or as the value of a key
 - beside    a row with a quote, a comma or a remark beside it
 
 Each may be indented by tabs, or quoted by '>' as in mail. The lines beside them decide which are
@@ -34,6 +34,7 @@ _THINGS = frozenset(PLAYERS + BOXES + GOALS)
 _TITLE = re.compile(r"""["'](?:title|name)["']\s*:\s*(?:"([^"]+)"|'([^']+)')""", re.I)
 _KEY = re.compile(r"""(["'])\w+\1\s*:""")
 _KEY_BEFORE = re.compile(r"""[^\w"'`]*(["'])\w+\1\s*:[^\w"'`]*""")
+_KEYED = re.compile(rf"[A-Za-z]\w{{0,15}} ?= ?([{ROW}]*#[{ROW}]*)")
 _BETWEEN_ROWS = re.compile(r"""[^\w({\["'`]*[rbfuRBFU]?""")
 _QUOTES = "\"'`"
 
@@ -90,7 +91,7 @@ def row_of(line: str, is_bare: bool = False) -> Optional[Row]:
             return Row("joined", spelled, lead, goes_on=True)
     if "#" in core and _MARKED.fullmatch(core):
         return Row("marked", (core,), lead)
-    found = _string(core) or _cell(core) or _beside(core)
+    found = _string(core) or _keyed(core) or _cell(core) or _beside(core)
     if found:
         return found
     bare = line if is_bare else markup.narrow(markup.untagged(line))
@@ -145,12 +146,14 @@ def _levels_within(parts: List[str], mark: str) -> Tuple[List[str], List[str]]:
     around: List[List[str]] = [[]]
     first = 0
     while first < len(parts):
-        last = first + 1
-        while last < len(parts) - 1 and "#" in parts[last] and _CELLS.fullmatch(parts[last]):
+        last, begin = first + 1, _cells_at_end(parts[first])
+        while "#" in begin and last < len(parts) - 1 and "#" in parts[last] and (
+                _CELLS.fullmatch(parts[last])):
             last += 1
-        begin = _cells_at_end(parts[first])
         end = _CELLS.match(parts[last])[0] if last < len(parts) else ""  # type: ignore[index]
-        some = [it for it in (begin, *parts[first + 1:last], end) if "#" in it]
+        # a cell of a table has a blank on both sides
+        is_cell = first > 0 and begin == parts[first] and begin[:1] == end[-1:] == " "
+        some = [it for it in (begin[is_cell:], *parts[first + 1:last], end) if "#" in it]
         spelled = _spelled(some) if len(some) >= FEWEST_ROWS and "#" in begin else None
         if spelled:
             around[-1].append(parts[first][:len(parts[first]) - len(begin)])
@@ -189,6 +192,12 @@ def _words_of(around: Sequence[str]) -> Tuple[str, str]:
     is_title = len(words) == 1 and len(around) == 2 and not re.search("[:={}<>()\\[\\]]", words[0])
     rest = f"{around[0]} {end}".strip()
     return (words[0], rest.replace(words[0], "", 1)) if is_title else ("", rest)
+
+
+def _keyed(core: str) -> Optional[Row]:
+    """Returns the row that a line has as the value of a key, such as L01=#####."""
+    match = _KEYED.fullmatch(core)
+    return Row("string", (match[1],), "=") if match else None
 
 
 def _string(core: str) -> Optional[Row]:

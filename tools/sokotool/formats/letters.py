@@ -11,7 +11,8 @@ WIDE = "arrows or wide characters"
 LONGEST = 20_000
 _WORD = "lurdLURD0123456789"
 _RUN = re.compile(rf"[{_WORD}(){BETWEEN}]+")
-_ALONE = re.compile(rf"[0-9(){BETWEEN}]*[lurdLURD][{_WORD}(){BETWEEN}]*")
+# a mail may end a line by '=' that goes on in the next one
+_ALONE = re.compile(rf"[0-9(){BETWEEN}]*[lurdLURD][{_WORD}(){BETWEEN}]*=?")
 _PURE = re.compile(rf"[lurdLURD](?:[lurdLURD{BETWEEN}]*[lurdLURD])?")
 _FRONT = re.compile(r"[>;\s|]*(?:[\[(]?[0-9]+[.):\]]\s+)?")
 _LOOSE_NUMBER = re.compile(rf"(?<![\w(])[0-9]+(?=[{BETWEEN}]|$)")
@@ -90,8 +91,8 @@ def packed(line: str) -> str:
 
 
 def _packed(bare: str) -> str:
-    text = re.sub(r"\([\s0-9]*\Z", "", _LOOSE_NUMBER.sub(" ", bare).rstrip()).translate(_NO_BETWEEN)
-    return text
+    text = _LOOSE_NUMBER.sub(" ", bare).rstrip("= \t")
+    return re.sub(r"\([\s0-9]*\Z", "", text).translate(_NO_BETWEEN)
 
 
 def among_words(line: str) -> List[str]:

@@ -226,6 +226,9 @@ def drawn_in(run: Sequence[Row]) -> Tuple[List[List[str]], str]:
         if len(rows) >= FEWEST_ROWS and {row[:2] for row in rows} in ({"* "}, {". "}):
             found[at] = [row[2:] for row in rows]
             note = "each row has a bullet in front, which is left out"
+        elif len(rows) >= FEWEST_ROWS and all(row.startswith("+") for row in rows):
+            found[at] = [row[1:] for row in rows]
+            note = "each row has the + of a patch in front, which is left out"
     return found, note
 
 
