@@ -2,15 +2,18 @@
 import base64
 import json
 import random
+import re
 import shutil
 import subprocess
 import unittest
-from typing import Dict, List, NamedTuple, Sequence, Tuple
+from typing import Dict, List, NamedTuple, Sequence, Tuple, Union
 
 from sokotool import answers, levels, sources
 from sokotool.board import board_of
 from sokotool.builder import Collection
 from sokotool.commands import convert
+from tests.tools import test_encodings
+from tests.tools.exports import ALPHA
 from tests.tools.helping import TOP, Case
 from tests.tools.readings import Wanted, readings
 from tests.tools.test_exports import made_by, plain
@@ -46,20 +49,22 @@ def contents(text: bytes, solved: bytes, titles: Sequence[str] = ()) -> List[Wan
             for at, level in enumerate(found)]
 
 
-def converted(text: str) -> Read:
+def converted(text: Union[str, bytes]) -> Read:
     """What convert gets from an export."""
+    data = text if isinstance(text, bytes) else text.encode()
     said: List[Tuple[str, bool]] = []
     collection = Collection(report=lambda place, why, is_fault: said.append(
         (place.said(why), is_fault)))
-    convert.read_files(collection, [sources.Export("a.txt", text.encode, False)])
+    convert.read_files(collection, [sources.Export("a.txt", lambda: data, False)])
     ((found, solved),) = collection.parts()
     return Read(contents(found, solved), [why for why, _ in said],
                 any(is_fault for _, is_fault in said))
 
 
-def on_the_page(texts: Sequence[str]) -> List[Read]:
+def on_the_page(texts: Sequence[Union[str, bytes]]) -> List[Read]:
     """What the page gets from exports, by its own scripts outside a browser."""
-    given = [[["a.txt", base64.b64encode(text.encode()).decode()]] for text in texts]
+    given = [[["a.txt", base64.b64encode(
+        it if isinstance(it, bytes) else it.encode()).decode()]] for it in texts]
     ran = subprocess.run(["node", f"{TOP}/tests/tools/reading.js", *SCRIPTS],
                          input=json.dumps(given).encode(), stdout=subprocess.PIPE, check=True)
     return [Read(contents(base64.b64decode(it["levels"]), base64.b64decode(it["answers"]),
@@ -94,6 +99,21 @@ class Readings(Case):
         for case, read in zip(cases, on_the_page([case.text for case in cases])):
             with self.subTest(case.name):
                 self.assertEqual(read.levels, converted(case.text).levels, case.text)
+
+    @unittest.skipUnless(shutil.which("node"), "there is no node")
+    def test_encodings(self) -> None:
+        """Titles and letters in each encoding that is guessed, in many and in two lines, above a
+        line of UTF-8."""
+        made = []
+        for codec, lines in test_encodings.LINES.items():
+            # Some versions of node take Windows-1252 for Latin-1.
+            usable = [it for it in lines.split("|")
+                      if codec != "cp1252" or not re.search(rb"[\x80-\x9f]", it.encode(codec))]
+            made += ["".join(f"{line}\n{ALPHA}\nrRR\n\n" for line in some).encode(codec)
+                     + "\u03a9: rRR\n".encode() for some in (usable, usable[:2])]
+        for data, read in zip(made, on_the_page(made)):
+            with self.subTest(data):
+                self.assertEqual(read.levels, converted(data).levels, data)
 
     @unittest.skipUnless(shutil.which("node"), "there is no node")
     def test_made_ones(self) -> None:

@@ -49,12 +49,87 @@ async function unzipped(bytes, room) {
 
 // ---- encodings
 
-// Whether bytes that aren't UTF-8 are Chinese: pairs of GB 2312, most of them of its frequent
-// characters, and no other byte past ASCII.
-function isChinese(text) {
-    const pairs = text.match(/[\xa1-\xf7][\xa1-\xfe]/g) ?? [];
-    return pairs.filter(it => /^[\xa1-\xa3\xb0-\xd7]/.test(it)).length > pairs.length * .8
-        && !/[\x80-\xff]/.test(text.replace(/[\xa1-\xf7][\xa1-\xfe]/g, ""));
+// The same table as in sokotool's encodings.py: which bytes are usual in each encoding, which are
+// less so, and which others are a character; how much its characters count; and the name that a
+// decoder has for it. They are in the order in which equal guesses count.
+const MOST_GUESSED = 1 << 16, LEAST_GUESS = .5, MARGIN = .05, CAPITALS = .9, PAIRS = .93;
+const NO_LETTER_BEFORE = "(?<![A-Za-z\xc0-\xff])", NO_LETTER_AFTER = "(?![A-Za-z\xc0-\xff])";
+function european(letters, signs) {
+    const few = `[${letters}\x92]{1,2}`;
+    return [`(?<=[A-Za-z])(?:${few}(?![\x80-\xff])|\x94(?![A-Za-z]))`
+        + `|(?<![\x80-\xff])${few}(?=[A-Za-z])`
+        + `|${NO_LETTER_BEFORE}[${letters}${signs}]{1,2}${NO_LETTER_AFTER}`
+        + `|(?<![A-Za-z])[${signs}]`];
+}
+const cyrillic = (capitals, small) => [
+    `${NO_LETTER_BEFORE}[${capitals}]?[${small}]+${NO_LETTER_AFTER}`
+        + `|[\x84\x85\x91-\x97\xab\xb9\xbb]${NO_LETTER_AFTER}`,
+    `${NO_LETTER_BEFORE}[${capitals}]{2,}${NO_LETTER_AFTER}`];
+const pattern = ([usual, other = "(?!)", rare = "(?!)"]) =>
+    new RegExp(`(${usual})|(${other})|${rare}|[\x80-\xff]`, "g");
+const ENCODINGS = Object.entries({
+    "Windows-1252": ["windows-1252", 1, european("\xc0-\xd6\xd8-\xf6\xf8-\xff",
+        "\x80\x85\x91-\x97\x99\xa1-\xa3\xa7\xa9\xab\xae\xb0-\xb3\xb7\xbb-\xbf\xd7")],
+    "Windows-1251": ["windows-1251", 1,
+        cyrillic("\xc0-\xdf\xa8\xaa\xaf\xb2", "\xe0-\xff\xb3\xb8\xba\xbf")],
+    "KOI8-R": ["koi8-r", 1, cyrillic("\xe0-\xff\xb3", "\xc0-\xdf\xa3")],
+    GB18030: ["gb18030", PAIRS,
+        ["[\xa1-\xa3\xb0-\xd7][\xa1-\xfe]", , "[\x81-\xfe][0-9@-~\x80-\xfe]"]],
+    "EUC-JP": ["euc-jp", PAIRS,
+        ["[\xa1\xa3-\xa5\xb0-\xcf][\xa1-\xfe]", , "[\xa1-\xfe][\xa1-\xfe]"]],
+    Big5: ["big5", PAIRS, ["[\xa1-\xc6][@-~\xa1-\xfe]", , "[\x81-\xfe][@-~\xa1-\xfe]"]],
+    "Shift-JIS": ["shift_jis", PAIRS, ["[\x81-\x83\x88-\x97][@-~\x80-\xfc]", "[\xa6-\xdf]{2,}",
+        "[\x81-\x9f\xe0-\xfc][@-~\x80-\xfc]"]],
+    CP437: ["", 1, european("\x80-\xa5\xe1", "\xab-\xae\xf1\xf8\xfd")],
+}).map(([name, [label, part, forms]]) => ({ name, label, part, find: pattern(forms) }));
+// the characters of CP437 beyond ASCII, which no browser decodes
+const CP437 = ""
+    + "\u00c7\u00fc\u00e9\u00e2\u00e4\u00e0\u00e5\u00e7\u00ea\u00eb\u00e8\u00ef\u00ee\u00ec\u00c4"
+    + "\u00c5\u00c9\u00e6\u00c6\u00f4\u00f6\u00f2\u00fb\u00f9\u00ff\u00d6\u00dc\u00a2\u00a3\u00a5"
+    + "\u20a7\u0192\u00e1\u00ed\u00f3\u00fa\u00f1\u00d1\u00aa\u00ba\u00bf\u2310\u00ac\u00bd\u00bc"
+    + "\u00a1\u00ab\u00bb\u2591\u2592\u2593\u2502\u2524\u2561\u2562\u2556\u2555\u2563\u2551\u2557"
+    + "\u255d\u255c\u255b\u2510\u2514\u2534\u252c\u251c\u2500\u253c\u255e\u255f\u255a\u2554\u2569"
+    + "\u2566\u2560\u2550\u256c\u2567\u2568\u2564\u2565\u2559\u2558\u2552\u2553\u256b\u256a\u2518"
+    + "\u250c\u2588\u2584\u258c\u2590\u2580\u03b1\u00df\u0393\u03c0\u03a3\u03c3\u00b5\u03c4\u03a6"
+    + "\u0398\u03a9\u03b4\u221e\u03c6\u03b5\u2229\u2261\u00b1\u2265\u2264\u2320\u2321\u00f7\u2248"
+    + "\u00b0\u2219\u00b7\u221a\u207f\u00b2\u25a0\u00a0";
+
+// The encoding in which the most bytes of a text are usual.
+function guessed(text) {
+    const found = ENCODINGS.map(({ part, find }) => {
+        let good = 0, total = 0;
+        for (const [{ length }, usual, other] of text.slice(0, MOST_GUESSED).matchAll(find)) {
+            total += length;
+            good += usual ? length : other ? length * CAPITALS : 0;
+        }
+        return total ? part * good / total : 0;
+    });
+    const best = found.indexOf(Math.max(...found));
+    return ENCODINGS[found[best] >= Math.max(LEAST_GUESS, found[0] + MARGIN) ? best : 0];
+}
+
+// bytes in a guessed encoding
+const decoded = (bytes, { label }) => label ? new TextDecoder(label).decode(bytes)
+    : textOf(bytes).replace(/[\x80-\xff]/g, it => CP437[it.charCodeAt(0) - 128]);
+
+// The text of bytes that are UTF-8 in part, and the encoding of the other lines.
+const CHARACTER = /[\xc2-\xdf][\x80-\xbf]|[\xe0-\xef][\x80-\xbf]{2}|[\xf0-\xf4][\x80-\xbf]{3}/g;
+function mixedText(bytes) {
+    const text = textOf(bytes), parts = [], others = [];
+    for (let at = 0, end; at < text.length; at = end) {
+        end = text.indexOf("\n", at) + 1 || text.length;
+        const line = text.slice(at, end),
+            isUtf8 = !/[\x80-\xff]/.test(line.replace(CHARACTER, ""));
+        if (!isUtf8 && others.length < MOST_GUESSED) others.push(line);
+        if (isUtf8 === parts.at(-1)?.isUtf8) parts.at(-1).end = end;
+        else parts.push({ at, end, isUtf8 });
+    }
+    const encoding = guessed(others.join(""));
+    return { encoding: encoding.name, text: parts.map(({ at, end, isUtf8 }) => {
+        const some = bytes.subarray(at, end);
+        return isUtf8 ? new TextDecoder("utf-8", { ignoreBOM: at > 0 }).decode(some)
+            : decoded(some, encoding);
+    }).join("") };
 }
 
 // The encoding with two or four bytes to a character that zero bytes at fixed places or a mark
@@ -90,8 +165,7 @@ function readBytes(bytes) {
     try {
         return { text: new TextDecoder("utf-8", { fatal: true }).decode(bytes), encoding: "" };
     } catch {
-        const encoding = isChinese(textOf(bytes)) ? "gb18030" : "windows-1252";
-        return { text: new TextDecoder(encoding).decode(bytes), encoding };
+        return mixedText(bytes);
     }
 }
 
@@ -272,7 +346,7 @@ function partOf(name, bytes, head, isAlone) {
         words: form.includes(":") ? `is ${form}` : `is ${form}, no text` });
     else if (zero >= 0) faults.push({ number: text.slice(0, zero).split("\n").length,
         words: "a zero byte: what comes from here on isn't read" });
-    if (!form && /^(?:windows|gb|utf-32)/.test(encoding))
+    if (!form && encoding && !encoding.startsWith("utf-16"))
         faults.push(note(`isn't UTF-8: read as ${encoding}`));
     if (/^sokoban-answers/m.test(text) && /^unsolvable\r?$/m.test(text)) {
         faults.push({ number: 0,

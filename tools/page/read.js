@@ -233,7 +233,7 @@ class Reading {
     isSame() {
         const [{ isAlone, encoding, text }] = this.parts;
         return this.parts.length === 1 && isAlone && !this.isChanged
-            && /^(?:|windows-1252)$/.test(encoding) && !isXml(text)
+            && /^(?:|Windows-1252)$/.test(encoding) && !isXml(text)
             && !/\r(?!\n)|[\v\f\x85\u2028\u2029\ufeff]/.test(text);
     }
     result() {

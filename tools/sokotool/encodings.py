@@ -1,41 +1,78 @@
-"""Guesses the encoding of lines that aren't UTF-8, by the words that they would have."""
-import codecs
+"""Guesses the encoding of lines that aren't UTF-8, by which bytes are usual in each encoding.
+
+The page has the same table (`tools/page/files.js`).
+"""
 import contextlib
 import re
-from typing import Callable, Dict, Iterator, Tuple
+from typing import Dict, NamedTuple, Pattern
 
 CP1252 = "Windows-1252"
-# Python's names by those that people know, in the order in which equal guesses count
-CODECS = {CP1252: "cp1252", "Windows-1251": "cp1251", "KOI8-R": "koi8-r", "GB18030": "gb18030",
-          "Shift-JIS": "cp932", "CP437": "cp437"}
 # the bytes that are looked at
 MOST = 1 << 16
-# what counts against pairs of bytes, which letters of one byte often are as well
-_DOUBT = 0.93
-# how plausible a letter of Shift-JIS of one byte is, which many letters of other encodings are too
-_NARROW = 0.6
-# how good words have to be, and how much better than those of Windows-1252
-_LEAST, _MARGIN = 0.5, 0.1
-# the letters of Latin languages come before this one
-_LATIN = "\u0250"
-_WORD = re.compile(r"[^\W\d_]+|[^\x00-\x7f]")
-# a first letter, and no capitals after it
-_PROPER = re.compile(".[^A-Z\u00c0-\u00de\u0410-\u042f]*")
-_SIGNS = set("\u201c\u201d\u2018\u2019\u201e\u201a\u2013\u2014\u2026\u2022\u00ab\u00bb\u00a9\u00ae"
-             "\u2122\u00b0\u00b7\u00a7\u00bf\u00a1\u00a3\u20ac\u00d7\u00bd\u00bc\u00be\u00b2\u00b3"
-             "\u00a0\u2116")
-# how common the letters of Russian are, and one of Ukrainian: of ten, then of some more, and others
-_COMMON = {letter: part for part, letters in (
-    (1.0, "\u043e\u0435\u0430\u0438\u043d\u0442\u0441\u0440\u0432\u043b"),
-    (0.8, "\u043a\u043c\u0434\u043f\u0443\u0456"),
-    (0.6, "\u044f\u044b\u044c\u0433\u0437\u0431\u0447")) for letter in letters}
+# how good the best encoding has to be, and how much better than Windows-1252
+_LEAST, _MARGIN = 0.5, 0.05
+# how much characters of two bytes count, since pairs of letters of one byte are often such too, and
+# words in capitals, since those are small letters in another encoding
+_PAIRS, _CAPITALS = 0.93, 0.9
+# ASCII letters, those of western Europe, and signs that are beside no letter
+_ASCII, _LATIN = "A-Za-z", "\xc0-\xd6\xd8-\xf6\xf8-\xff"
+_SIGNS = "\x80\x85\x91-\x97\x99\xa1-\xa3\xa7\xa9\xab\xae\xb0-\xb3\xb7\xbb-\xbf\xd7"
+_END, _BEGIN = (f"(?{it}[{_ASCII}\xc0-\xff])" for it in ("!", "<!"))
+
+
+class _Form(NamedTuple):
+    """An encoding: Python's name for it, how much its characters count, which bytes are usual, which
+    are less so, and which others are a character."""
+
+    codec: str
+    part: float
+    usual: str
+    other: str = "(?!)"
+    rare: str = "(?!)"
+
+    def pattern(self) -> Pattern[str]:
+        return re.compile(f"({self.usual})|({self.other})|{self.rare}|[\x80-\xff]")
+
+
+def _european(letters: str, signs: str) -> str:
+    """Returns the usual bytes where most letters of words are ASCII: one or two letters beside
+    those, or alone, and signs."""
+    few = f"[{letters}\x92]{{1,2}}"
+    return (f"(?<=[{_ASCII}])(?:{few}(?![\x80-\xff])|\x94(?![{_ASCII}]))"
+            f"|(?<![\x80-\xff]){few}(?=[{_ASCII}])"
+            f"|{_BEGIN}[{letters}{signs}]{{1,2}}{_END}|(?<![{_ASCII}])[{signs}]")
+
+
+def _cyrillic(capitals: str, small: str) -> Dict[str, str]:
+    """Returns the usual bytes where a word has a capital at most at its beginning, and those of
+    words in capitals."""
+    return {"usual": f"{_BEGIN}[{capitals}]?[{small}]+{_END}|[\x84\x85\x91-\x97\xab\xb9\xbb]{_END}",
+            "other": f"{_BEGIN}[{capitals}]{{2,}}{_END}"}
+
+
+# by the names that people know, in the order in which equal guesses count
+_FORMS: Dict[str, _Form] = {
+    CP1252: _Form("cp1252", 1, _european(_LATIN, _SIGNS)),
+    "Windows-1251": _Form("cp1251", 1, **_cyrillic("\xc0-\xdf\xa8\xaa\xaf\xb2",
+                                                   "\xe0-\xff\xb3\xb8\xba\xbf")),
+    "KOI8-R": _Form("koi8-r", 1, **_cyrillic("\xe0-\xff\xb3", "\xc0-\xdf\xa3")),
+    "GB18030": _Form("gb18030", _PAIRS, "[\xa1-\xa3\xb0-\xd7][\xa1-\xfe]",
+                     rare="[\x81-\xfe][0-9@-~\x80-\xfe]"),
+    "EUC-JP": _Form("euc-jp", _PAIRS, "[\xa1\xa3-\xa5\xb0-\xcf][\xa1-\xfe]",
+                    rare="[\xa1-\xfe][\xa1-\xfe]"),
+    "Big5": _Form("big5hkscs", _PAIRS, "[\xa1-\xc6][@-~\xa1-\xfe]",
+                  rare="[\x81-\xfe][@-~\xa1-\xfe]"),
+    "Shift-JIS": _Form("cp932", _PAIRS, "[\x81-\x83\x88-\x97][@-~\x80-\xfc]", "[\xa6-\xdf]{2,}",
+                       "[\x81-\x9f\xe0-\xfc][@-~\x80-\xfc]"),
+    "CP437": _Form("cp437", 1, _european("\x80-\xa5\xe1", "\xab-\xae\xf1\xf8\xfd"))}
+CODECS = {name: form.codec for name, form in _FORMS.items()}
+_PATTERNS = {name: form.pattern() for name, form in _FORMS.items()}
 
 
 def guessed(data: bytes) -> str:
-    """Returns the encoding in which a text has the most plausible words: Windows-1252 if no other
-    one is plausible."""
-    data = data[:MOST]
-    found = {name: _score(data, codec) for name, codec in CODECS.items()}
+    """Returns the encoding in which the most bytes of a text are usual: Windows-1252 if they are in
+    no other one."""
+    found = {name: _score(data[:MOST], name) for name in _FORMS}
     best = max(found, key=lambda name: found[name])
     return best if found[best] >= max(_LEAST, found[CP1252] + _MARGIN) else CP1252
 
@@ -48,67 +85,11 @@ def decoded(line: bytes, name: str) -> str:
     return line.decode("latin-1")
 
 
-def _score(data: bytes, codec: str) -> float:
-    """Returns how much of a text, but for ASCII, is plausible in an encoding: from 0 to 1."""
-    try:
-        # The last character of a long text may be cut.
-        text = codecs.getincrementaldecoder(codec)().decode(data, len(data) < MOST)
-    except UnicodeDecodeError:
-        return 0
+def _score(data: bytes, name: str) -> float:
+    """Returns how usual the bytes of a text beyond ASCII are in an encoding: from 0 to 1."""
     good = total = 0.0
-    for word, part in _parts(text, _JUDGES[codec]):
-        count = sum(not c.isascii() for c in word)
-        good, total = good + count * part, total + count
-    return good / total if total else 0
-
-
-def _parts(text: str, judge: Callable[[str], float]) -> Iterator[Tuple[str, float]]:
-    """Yields the words and signs that aren't ASCII, with how plausible each is."""
-    for match in _WORD.finditer(text):
-        word = match.group()
-        if word.isascii():
-            continue
-        if word.isalpha():
-            yield word, judge(word)
-        else:
-            at = match.start()
-            before, after = text[max(at - 1, 0):at], text[at + 1:at + 2]
-            is_inside = (before + after).isalpha() and bool(before and after) and (
-                min(before, after) < _LATIN)
-            is_sign = word in _SIGNS and (word == "\u2019" or not is_inside)
-            yield word, 1 if is_sign else 0 if is_inside else judge(word)
-
-
-def _latin(word: str) -> float:
-    """Judges a word of a language of western Europe: most of its letters are ASCII."""
-    if not word.isalpha() or max(word) >= _LATIN:
-        return 0
-    others = sum(not c.isascii() for c in word)
-    if not word.isupper() and not _PROPER.fullmatch(word):
-        return 0
-    return 1 if others * 2 <= len(word) or len(word) == 1 else 0.5 if len(word) == 2 else 0
-
-
-def _cyrillic(word: str) -> float:
-    """Judges a word in Cyrillic letters, by the case and how common they are."""
-    if not all("\u0400" <= c <= "\u045f" or c in "\u0490\u0491" for c in word):
-        return 0
-    case = 1 if _PROPER.fullmatch(word) else 0.95 if word.isupper() else 0.2
-    return case * sum(_COMMON.get(c, 0.3) for c in word.lower()) / len(word)
-
-
-def _of_pairs(codec: str, *usual: range) -> Callable[[str], float]:
-    """Returns what judges characters of two bytes by the first one: those in common use are all in
-    one part of the table, and the signs in another."""
-    def judge(word: str) -> float:
-        pairs = (c.encode(codec) for c in word if not c.isascii())
-        marks = [_NARROW if len(pair) == 1 else 1 if any(pair[0] in part for part in usual) else 0.2
-                 for pair in pairs if len(pair) < 3]
-        return _DOUBT * sum(marks) / len(word)
-    return judge
-
-
-_JUDGES: Dict[str, Callable[[str], float]] = {
-    "cp1252": _latin, "cp437": _latin, "cp1251": _cyrillic, "koi8-r": _cyrillic,
-    "gb18030": _of_pairs("gb18030", range(0xb0, 0xd8), range(0xa1, 0xa4)),
-    "cp932": _of_pairs("cp932", range(0x88, 0x98), range(0x81, 0x84))}
+    for match in _PATTERNS[name].finditer(data.decode("latin-1")):
+        size = len(match[0])
+        total += size
+        good += size if match[1] else size * _CAPITALS if match[2] else 0
+    return _FORMS[name].part * good / total if total else 0
