@@ -4,6 +4,7 @@ import os
 import re
 import shutil
 import subprocess
+import tempfile
 import unittest
 from typing import Dict, List, NamedTuple, Set
 
@@ -87,8 +88,21 @@ def sokoaudit() -> Dict[str, Command]:
 class Completions(Case):
     def setUp(self) -> None:
         super().setUp()
+        made = tempfile.TemporaryDirectory()
+        self.addCleanup(made.cleanup)
+        self.made = made.name
         for name in FILES:
             self.write(name, "")
+
+    def file(self, shell: str, program: str) -> str:
+        """The file that completes the words of a program. Those of sokotool are made."""
+        if program == "sokoaudit":
+            return f"{TOP}/completions/" + ("_sokoaudit" if shell == "zsh" else f"sokoaudit.{shell}")
+        name = os.path.join(self.made, shell)
+        if not os.path.exists(name):
+            self.write(name, subprocess.run([f"{TOP}/packaging/completions", shell],
+                                            stdout=subprocess.PIPE, check=True).stdout)
+        return name
 
     def printed(self, *words: str) -> List[str]:
         """Returns the lines that a shell prints."""
@@ -99,18 +113,18 @@ class Completions(Case):
 
     def bash(self, *words: str) -> Set[str]:
         """What bash offers for the last word."""
-        file = os.path.join(TOP, "completions", words[0] + ".bash")
+        file = self.file("bash", words[0])
         return {it for it in self.printed("bash", "-c", BASH, file, *words) if it}
 
     def fish(self, *words: str) -> Set[str]:
         """What fish offers."""
-        file = os.path.join(TOP, "completions", words[0] + ".fish")
+        file = self.file("fish", words[0])
         lines = self.printed("fish", "-N", "-c", FISH, file, " ".join(words))
         return {it.partition("\t")[0].replace("\\", "") for it in lines}
 
     def zsh(self, *words: str) -> Set[str]:
         """What zsh offers, by the descriptions that it gets."""
-        file = os.path.join(TOP, "completions", "_" + words[0])
+        file = self.file("zsh", words[0])
         lines = self.printed("zsh", "-f", "-c", ZSH, "zsh", file, *words)
         options = {match[1]: match[2] for match in map(SPEC.fullmatch, lines) if match}
         places = [re.fullmatch(r"(\*|\d+):[^:]*:(.*)", line) for line in lines]
