@@ -290,10 +290,10 @@ def exports(group: str) -> Callable[[Comparison, Tab], None]:
 
 def titles(check: Comparison, tab: Tab) -> None:
     """Titles and letters beside rows, and what is no title."""
-    for rows, title in (([ALPHA], "One"), ([ALPHA, BETA], "")):
+    for rows in ([ALPHA], [ALPHA, BETA]):
         text = json.dumps([{"title": "One", "rows": it.split("\n")} for it in rows])
         tab.paste("levels", text)
-        check.same(f"the title in a line of {len(rows)}", [title, bool(title)], [
+        check.same(f"the title in a line of {len(rows)}", ["One", True], [
             tab.ask("shownData.levels.at(-1).title"), not tab.told()])
     listed = [{"title": it, "rows": ALPHA.split("\n"), "solution": "rRR"} for it in ("One", "Two")]
     tab.paste("levels", json.dumps(listed, indent=2))

@@ -97,7 +97,7 @@ class Completions(Case):
     def file(self, shell: str, program: str) -> str:
         """The file that completes the words of a program. Those of sokotool are made."""
         if program == "sokoaudit":
-            return f"{TOP}/completions/" + ("_sokoaudit" if shell == "zsh" else f"sokoaudit.{shell}")
+            return f"{TOP}/completions/{'_sokoaudit' if shell == 'zsh' else f'sokoaudit.{shell}'}"
         name = os.path.join(self.made, shell)
         if not os.path.exists(name):
             self.write(name, subprocess.run([f"{TOP}/packaging/completions", shell],

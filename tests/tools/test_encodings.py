@@ -49,6 +49,13 @@ class Encodings(Case):
                 if not data.isascii() and not ("\u0400" <= text[0] and text.isupper()):
                     self.assertEqual(encodings.CODECS[encodings.guessed(data)], codec, text)
 
+    def test_other_encodings(self) -> None:
+        """A language that isn't guessed is read as one of western Europe."""
+        for codec, text in (
+                ("latin2", "\u0141atwy pocz\u0105tek"), ("cp1250", "\u0141atwy pocz\u0105tek"),
+                ("mac_roman", "Gr\u00f6\u00dfe"), ("cp1257", "m\u0101c\u012bba")):
+            self.assertEqual(encodings.guessed(text.encode(codec)), encodings.CP1252, text)
+
     def test_what_is_no_text(self) -> None:
         """Bytes of no language are read as before."""
         for data in (b"", b"\xff\xfd\xa0", bytes(range(128, 256)), b"\x81\x8d", b"\xff" * 70000):

@@ -98,6 +98,8 @@ const CP437 = ""
 function guessed(text) {
     const found = ENCODINGS.map(({ part, find }) => {
         let good = 0, total = 0;
+        // Not all characters of two bytes are alone between ASCII.
+        if (part === PAIRS && !/[\x80-\xff]{2}/.test(text)) return 0;
         for (const [{ length }, usual, other] of text.slice(0, MOST_GUESSED).matchAll(find)) {
             total += length;
             good += usual ? length : other ? length * CAPITALS : 0;

@@ -5,7 +5,11 @@ const MOST_PLAYED = 1 << 20, MOST_STEPS = 1e8, MOST_PIECES = 2000, MOST_TRIES = 
     LONG = 8;
 // a mail may end a line by "=" that goes on in the next one
 const LETTERS_ALONE = /^[0-9() \t,;.'"`*-]*[lurdLURD][lurdLURD0-9() \t,;.'"`*-]*=?$/;
-const BETWEEN = /[ \t,;.'"`*-]/g, LOOSE = /(?<![\w(])\d+(?=[ \t,;.'"`*-]|$)/g;
+const BETWEEN = /[ \t,;.'"`*-]/g, LOOSE = /(?<![\w(])\d+(?=[ \t,;.'"`*-]|$)|(?<!\w)\d+(?=[,;])/g;
+// one of several strings with letters in a line
+const STRING_OF_LETTERS = /["'`]([lurdLURD0-9()]+)["'`]/g;
+const stringsIn = line => [...line.matchAll(STRING_OF_LETTERS)].map(([, it]) => it)
+    .filter((it, i, all) => all.length > 1 && /[lurd]/i.test(it));
 const AMONG_WORDS =
     /(?<![\p{L}\p{N}])[0-9(]*[lurdLURD][lurdLURD0-9() \t,;.'"`*-]*(?![\p{L}\p{N}])/gu;
 const IS_HEAD = new RegExp(
@@ -34,7 +38,8 @@ const ALPHABETS = [
 
 // The letters of a line without what may be between them, or beside them as numbers and brackets.
 function packed(text) {
-    const whole = text.replace(/^\W*LURD\W+(?=\w)/i, "").replace(/=$/, "").replace(LOOSE, " ").replace(/\([\s\d]*$/,
+    const whole = text.replace(/^\W*LURD\W+(?=\w)/i, "").replace(/=$/, "")
+        .replace(LOOSE, " ").replace(/\([\s\d]*$/,
         "").replace(BETWEEN, "");
     return expanded(whole, MOST_PLAYED)
         ?? (/[()]/.test(whole) ? whole.replace(/[()]/g, "") : whole);
@@ -77,8 +82,10 @@ class Groups {
         const bare = bareLine(line), odd = IS_ODD.test(line) ? "arrows or wide characters" : "";
         const areAlone = LETTERS_ALONE.test(bare);
         // several solutions, each after its number
-        const parts = areAlone && bare.length < LONGEST_LINE
+        const numbered = areAlone && bare.length < LONGEST_LINE
             ? bare.split(LOOSE).map(packed).filter(({ length }) => length > 1) : [];
+        const parts = numbered.length > 1 || bare.length >= LONGEST_LINE ? numbered
+            : stringsIn(bare);
         const other = parts.length > 1 ? null : areAlone ? { piece: packed(bare), words: odd }
             : stepsIn(bare.trim());
         // short words of other alphabets are words, unless they are where a solution is expected
@@ -251,8 +258,7 @@ function solutionsIn({ pieces, front }, board) {
         const { solution, count } = isTried ? firstSolution(left, board)
             : { solution: NOT_TRIED, count: 0 };
         if (count) {
-            found.push({ solution, number, isFront,
-                lines: left.slice(0, count).map(({ line }) => line) });
+            found.push({ solution, number, isFront, taken: left.slice(0, count) });
             left = left.slice(count);
         } else if (isFront) {
             left = left.slice(1);

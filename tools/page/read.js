@@ -53,15 +53,25 @@ class Reading {
         const named = row ? null : TITLE_LINE.exec(line);
         const made = row?.rows ?? [named ? `Title: ${named[2]}` : isRow(line) ? `; ${line}` : line];
         // the line that opens a list of rows is no title
-        if (!row && /[[{(]\s*$|=\s*["'`]+\s*$/.test(line)) this.use([it]);
+        if (!row && /[[{(]["'`]*\s*$|=\s*["'`]+\s*$/.test(line)) this.use([it]);
         this.isChanged ||= made.length > 1 || made[0] !== line;
-        for (const text of made) this.put(text, row ? it : Object.assign(it, { line: text }));
-        if (row?.title) this.put(`Title: ${row.title}`, it);
+        const titles = [...row?.titles ?? []];
+        for (const text of made) {
+            if (row && !text) this.putTitle(titles.shift(), it);
+            this.put(text, row ? it : Object.assign(it, { line: text }));
+        }
+        // a row that begins a level has the title of the whole
+        if (row?.begins) this.waiting.push(...titles.map(title =>
+            ({ ...it, line: `Title: ${title}`, words: "", isNoTitle: true })));
+        else this.putTitle(titles.shift(), it);
         if (row?.rest)
             this.waiting.push({ ...it, line: row.rest, words: row.words, isNoTitle: true });
         if (row?.kind === "beside")
             part.faults.push({ number, words: "what is beside the row was left out",
             isNote: true });
+    }
+    putTitle(title, it) {
+        if (title) this.put(`Title: ${title}`, it);
     }
     // Puts what was beside the rows of a level below it. It is no title.
     putBeside() {
@@ -86,6 +96,16 @@ class Reading {
     // says that lines belong to solutions, so that they are no titles
     use(lines) {
         for (const line of lines) line.isUsed = this.isUsed = true;
+    }
+    // Takes letters from their lines.
+    take(pieces) {
+        for (const { line, piece } of pieces) (line.taken ??= []).push(piece);
+        this.use(pieces.map(({ line }) => line));
+    }
+    // Whether letters of one line are those of solutions that were taken from it.
+    isTaken([{ line, piece }, ...others]) {
+        return !others.length
+            && !(line.taken ?? []).reduce((left, it) => left.replace(it, () => ""), piece);
     }
 
     // ---- letters
@@ -115,8 +135,8 @@ class Reading {
         const { found, failed } = i < 0 ? none : solutionsIn(group, this.boardAt(i));
         if (i >= 0) this.add(i, ...found.map(it => ({ ...it, part, isSaved })));
         while (found[0]?.isFront && left.at(-1)?.number === group.front.number) left.pop();
-        this.use([heading, ...found.flatMap(({ lines }) => lines)].filter(it => it
-            && found.length));
+        if (found.length && heading) this.use([heading]);
+        for (const { taken } of found) this.take(taken);
         if (!pieces.length) heads.push(group);
         if (found.length && odd) this.say(part, number, `${odd} were read as letters`, true);
         if (found.length && isTitle)
@@ -134,7 +154,7 @@ class Reading {
         const solution = played(this.boardAt(i), joined(alone.flatMap(it => it.pieces)));
         if (solution.why) return false;
         this.add(i, { solution, number: alone[0].number, part: alone[0].part });
-        this.use(alone.flatMap(({ pieces }) => pieces.map(({ line }) => line)));
+        for (const { pieces } of alone) this.take(pieces);
         return true;
     }
     // Tries letters, whole and line by line, on the level below and on all that have no solution.
@@ -154,10 +174,10 @@ class Reading {
                     this.say(it.part, some.number, `letters that solve level ${i + 1}`, true);
                 isPlaced = true;
             }
-            if (isPlaced) this.use((some === whole ? it.pieces : [some]).map(({ line }) => line));
+            if (isPlaced) this.take(some === whole ? it.pieces : [some]);
             if (isPlaced && some === whole) break;
         }
-        if (!it.isSure || isPlaced) return;
+        if (!it.isSure || isPlaced || this.isTaken(it.pieces)) return;
         if (above && !above.length && it.solution.letters) above.push(it);
         this.say(it.part, it.number,
             `letters that solve no level${steps < MOST_STEPS ? "" : " of those tried"}: `
@@ -234,7 +254,7 @@ class Reading {
         const [{ isAlone, encoding, text }] = this.parts;
         return this.parts.length === 1 && isAlone && !this.isChanged
             && /^(?:|Windows-1252)$/.test(encoding) && !isXml(text)
-            && !/\r(?!\n)|[\v\f\x85\u2028\u2029\ufeff]/.test(text);
+            && !IS_BROKEN.test(text);
     }
     result() {
         for (const i of this.levels.keys()) {

@@ -5,7 +5,11 @@ const MOST_ROWS = 65536, LONGEST_LINE = 20000, LONGEST_STRING = 1000, LONGEST_JO
     MOST_BLANKS = 64;
 const CELL = "#-@+$*._ 0123456789bBpPo()", CELLS = /^[-#@+$*._ 0-9bBpPo()]*$/;
 const PIECES = { b: "$", B: "*", p: "@", P: "+", o: "." }, MAZE = { X: "#", "*": "$", "&": "*" };
-const BREAK = /(\r{0,2}\n(?:\r(?!\n))?|\r)|[\v\f\x85\u2028\u2029]|\ufeff/;
+// what ends a line although it is no end of one to an editor; the last parts begin and end rows in a
+// web page and in XML
+const INNER_BREAK = "[\\v\\f\\x85\\u2028\\u2029\\ufeff]|</?pre\\b[^<>\\n]*>|<!\\[CDATA\\[|\\]\\]>";
+const BREAK = new RegExp(`(\\r{0,2}\\n(?:\\r(?!\\n))?|\\r)|${INNER_BREAK}`, "gi"),
+    IS_BROKEN = new RegExp(`\\r(?!\\n)|${INNER_BREAK}`, "i");
 // what parts the rows of a level that stands in one line
 const ROW_ENDS = ["|", "\\n", "\",\"", "\", \"", "','", "', '", "/", "!"];
 const OTHER_GAME = new RegExp("^\\W*(?:type|variant|game)\\s*[:=]\\s*"
@@ -14,7 +18,7 @@ const OTHER_GAME = new RegExp("^\\W*(?:type|variant|game)\\s*[:=]\\s*"
 // The lines of a text with their numbers. Some breaks are none to an editor, and have no number. Of
 // many blank lines in a row only the first are kept, because a text may have millions.
 function numbered(text) {
-    const lines = [], find = new RegExp(BREAK, "g");
+    const lines = [], find = new RegExp(BREAK);
     let number = 1, at = 0, blanks = 0;
     const put = line => {
         blanks = line ? 0 : blanks + 1;
@@ -87,26 +91,33 @@ function cellsAtEnd(text) {
 const KEYED_TITLE = /["'](?:title|name)["']\s*:\s*(["'])(.+?)\1/i,
     TITLE_LINE = new RegExp(`^\\W*?${KEYED_TITLE.source},?\\s*$`, "i");
 
-// What is beside the levels in a line, given the text around each: the title if a key names it, the
-// text that is kept, and the words that are neither the name of a list nor a key.
-function besideIn([before, ...after]) {
-    const end = after.join(" "),
-        named = after.length > 1 ? null : KEYED_TITLE.exec(before) ?? KEYED_TITLE.exec(end);
-    const [head, tail] = [before, end].map(it => it.replace(named?.[0], ""));
-    const isList = BEFORE.test(head.replace(/["'`]\s*$/, ""));
-    if (!named && after.length === 1) {
-        // in a table the title is the one field of words
-        const fields = `${isList ? "" : head}\t${tail}`.split(/[\t;,|]/)
-            .map(it => it.replace(/^[\s"'`]+|[\s"'`]+$/g, ""))
-            .filter(it => /\p{L}/u.test(it) && /[^\dlurdLURD() ]/.test(it));
-        if (fields.length === 1 && !/[:={}<>()[\]]/.test(fields[0])) {
-            const rest = `${head} ${tail}`.replace(fields[0], "").trim();
-            return { title: fields[0], rest, words: "" };
-        }
+// What is beside the levels in a line, given the text around each: their titles, if keys name them
+// or a field of a table has one, the text that is kept, and the words that are neither the name of a
+// list nor a key.
+function besideIn(around) {
+    const keyed = around.map(it => [...it.matchAll(new RegExp(KEYED_TITLE, "gi"))]);
+    // the title of a level is above it, or below it if none is above the first one
+    const isAbove = keyed[0].length > 0, last = around.length - 1;
+    const named = keyed.map((it, i) => isAbove ? i < last ? it.at(-1) : null : i ? it[0] : null);
+    const texts = around.map((it, i) => named[i] ? it.replace(named[i][0], () => "") : it),
+        rest = texts.join(" ");
+    const isList = BEFORE.test(around[0].replace(/["'`]\s*$/, "")), head = isList ? "" : texts[0];
+    const words = [head, ...texts.slice(1)].join(" ").replace(/(["'])\w+\1\s*:/g, "");
+    if (named.some(it => it)) {
+        const titles = named.map(it => it?.[2] ?? "");
+        return { titles: isAbove ? titles.slice(0, -1) : titles.slice(1), rest: rest.trim(), words };
     }
-    const words = [isList ? "" : head,
-        tail].join(" ").replace(/(["'])\w+\1\s*:/g, "");
-    return { title: named?.[2] ?? "", rest: `${head} ${tail}`.trim(), words };
+    if (around.length > 2) return { titles: [], rest: rest.trim(), words };
+    const fields = `${head}\t${texts[1]}`.split(/[\t;,|]/).map(it => it.trim())
+        .filter(it => /\p{L}/u.test(it) && /[^\dlurdLURD() \t"'`]/.test(it)
+            && !/^(["'])\w+\1\s*:/.test(it));
+    // of several fields the one in quotes
+    const some = fields.length === 1 ? fields
+        : fields.filter(it => it[0] === it.at(-1) && "\"'`".includes(it[0]));
+    const title = some.length === 1 ? some[0].replace(/^[\s"'`]+|[\s"'`]+$/g, "") : "";
+    if (!title || /[:={}<>()[\]]/.test(title)) return { titles: [], rest: rest.trim(), words };
+    return { titles: [title], rest: rest.replace(title, () => "").trim(),
+        words: fields.length === 1 ? "" : words.replace(title, () => "") };
 }
 
 // The levels within one line, as in a table, between other words: their rows, with a blank one
@@ -156,7 +167,7 @@ function cellIn(line) {
     const [before, after, ...more] = line.split("\""), row = { kind: "plain", lead: "", words: "" };
     if (after === undefined || more.length) return null;
     if (isRow(after) && /(?:^|[\t,;])$/.test(before))
-        return { ...row, rows: [after], begins: true, rest: before };
+        return { ...row, rows: [after], begins: true, ...besideIn([before, ""]), words: "" };
     return isRow(before) && /^(?:[\t,;]|$)/.test(after)
         ? { ...row, rows: [before], ends: true, rest: after } : null;
 }

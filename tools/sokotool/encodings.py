@@ -4,7 +4,7 @@ The page has the same table (`tools/page/files.js`).
 """
 import contextlib
 import re
-from typing import Dict, NamedTuple, Pattern
+from typing import Dict, Iterator, Match, NamedTuple
 
 CP1252 = "Windows-1252"
 # the bytes that are looked at
@@ -21,8 +21,8 @@ _END, _BEGIN = (f"(?{it}[{_ASCII}\xc0-\xff])" for it in ("!", "<!"))
 
 
 class _Form(NamedTuple):
-    """An encoding: Python's name for it, how much its characters count, which bytes are usual, which
-    are less so, and which others are a character."""
+    """An encoding: Python's name for it, how much its characters count, which bytes are usual,
+    which are less so, and which others are a character."""
 
     codec: str
     part: float
@@ -30,8 +30,10 @@ class _Form(NamedTuple):
     other: str = "(?!)"
     rare: str = "(?!)"
 
-    def pattern(self) -> Pattern[str]:
-        return re.compile(f"({self.usual})|({self.other})|{self.rare}|[\x80-\xff]")
+    def found(self, text: str) -> Iterator[Match[str]]:
+        """Returns the characters of a text beyond ASCII. Only a text that needs it compiles this.
+        """
+        return re.finditer(f"({self.usual})|({self.other})|{self.rare}|[\x80-\xff]", text)
 
 
 def _european(letters: str, signs: str) -> str:
@@ -65,8 +67,9 @@ _FORMS: Dict[str, _Form] = {
     "Shift-JIS": _Form("cp932", _PAIRS, "[\x81-\x83\x88-\x97][@-~\x80-\xfc]", "[\xa6-\xdf]{2,}",
                        "[\x81-\x9f\xe0-\xfc][@-~\x80-\xfc]"),
     "CP437": _Form("cp437", 1, _european("\x80-\xa5\xe1", "\xab-\xae\xf1\xf8\xfd"))}
+# what a text of characters of two bytes has somewhere, since not all are alone between ASCII
+_TOGETHER = re.compile("[\x80-\xff]{2}")
 CODECS = {name: form.codec for name, form in _FORMS.items()}
-_PATTERNS = {name: form.pattern() for name, form in _FORMS.items()}
 
 
 def guessed(data: bytes) -> str:
@@ -88,8 +91,11 @@ def decoded(line: bytes, name: str) -> str:
 def _score(data: bytes, name: str) -> float:
     """Returns how usual the bytes of a text beyond ASCII are in an encoding: from 0 to 1."""
     good = total = 0.0
-    for match in _PATTERNS[name].finditer(data.decode("latin-1")):
+    text, form = data.decode("latin-1"), _FORMS[name]
+    if form.part == _PAIRS and not _TOGETHER.search(text):
+        return 0
+    for match in form.found(text):
         size = len(match[0])
         total += size
         good += size if match[1] else size * _CAPITALS if match[2] else 0
-    return _FORMS[name].part * good / total if total else 0
+    return form.part * good / total if total else 0

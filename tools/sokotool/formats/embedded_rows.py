@@ -42,8 +42,8 @@ _QUOTES = "\"'`"
 class Row(NamedTuple):
     """A line that may be a row, or several rows of a level, with an empty one between two levels.
     `lead` is what is in front of it, which the rows of a level have in common. `goes_on` joins it
-    to the next line, and `begins` and `ends` part it from others. `title` and `rest` are what is
-    beside it."""
+    to the next line, and `begins` and `ends` part it from others. `titles`, one for each
+    level, and `rest` are what is beside it."""
 
     kind: str
     rows: Tuple[str, ...]
@@ -51,7 +51,7 @@ class Row(NamedTuple):
     goes_on: bool = False
     begins: bool = False
     ends: bool = False
-    title: str = ""
+    titles: Tuple[str, ...] = ()
     rest: str = ""
 
     @property
@@ -134,8 +134,8 @@ def _joined(line: str) -> Optional[Row]:
             continue
         found, around = _levels_within(line.split(mark), mark)
         if found:
-            title, rest = _words_of(around)
-            return Row("joined", tuple(found), title=title, rest=rest)
+            titles, rest = _words_of(around)
+            return Row("joined", tuple(found), titles=titles, rest=rest)
     return None
 
 
@@ -176,22 +176,30 @@ def _cells_at_end(text: str) -> str:
     return cells.rpartition(" ")[2] if re.search("[0-9]", cells) else cells.lstrip(" ")
 
 
-def _words_of(around: Sequence[str]) -> Tuple[str, str]:
-    """Returns what is beside the levels in a line: the title if a key names it or nothing else is
-    there but numbers and letters, and the text that is kept."""
-    before, end = around[0], " ".join(around[1:])
-    named = (_TITLE.search(before) or _TITLE.search(end)) if len(around) == 2 else None
+def _words_of(around: Sequence[str]) -> Tuple[Tuple[str, ...], str]:
+    """Returns what is beside the levels in a line, given the text around each: their titles, if
+    keys name them or a field of a table has one, and the text that is kept."""
+    keyed = [[*_TITLE.finditer(it)] for it in around]
+    # the title of a level is above it, or below it if none is above the first one
+    its = range(len(around) - 1) if keyed[0] else range(1, len(around))
+    named = {at: keyed[at][-1 if keyed[0] else 0] for at in its if keyed[at]}
+    rest = " ".join(it.replace(named[at][0], "", 1) if at in named else it
+                    for at, it in enumerate(around)).strip()
     if named:
-        before, end = before.replace(named[0], ""), end.replace(named[0], "")
-        return named[1] or named[2], f"{before} {end}".strip()
-    if _may_precede(before.rstrip(_QUOTES)):
-        before = ""
-    fields = [it.strip(" \t\"'`") for it in re.split("[\t;,|]", f"{before}\t{end}")]
-    words = [it for it in fields if re.search(r"[^\W\d_]", it)
-             and re.sub("[0-9()lurdLURD ]", "", it) and not _KEY.match(it)]
-    is_title = len(words) == 1 and len(around) == 2 and not re.search("[:={}<>()\\[\\]]", words[0])
-    rest = f"{around[0]} {end}".strip()
-    return (words[0], rest.replace(words[0], "", 1)) if is_title else ("", rest)
+        return tuple(named[at][1] or named[at][2] if at in named else "" for at in its), rest
+    if len(around) > 2:
+        return (), rest
+    before = "" if _may_precede(around[0].rstrip(_QUOTES)) else around[0]
+    fields = [it.strip() for it in re.split("[\t;,|]", f"{before}\t{around[1]}")]
+    words = [it for it in fields if re.search(r"[^\W\d_]", it) and not _KEY.match(it)
+             and re.sub("[0-9()lurdLURD \t\"'`]", "", it)]
+    # of several fields the one in quotes
+    if len(words) > 1:
+        words = [it for it in words if it[0] == it[-1] and it[0] in _QUOTES]
+    title = words[0].strip(" \t\"'`") if len(words) == 1 else ""
+    if not title or re.search("[:={}<>()\\[\\]]", title):
+        return (), rest
+    return (title,), rest.replace(title, "", 1)
 
 
 def _keyed(core: str) -> Optional[Row]:
@@ -233,7 +241,8 @@ def _cell(core: str) -> Optional[Row]:
     if '"' in after or not mark:
         return None
     if is_plain(after) and before[-1:] in tuple("\t,;") + ("",):
-        return Row("plain", (after,), begins=True, rest=before)
+        titles, rest = _words_of([before, ""])
+        return Row("plain", (after,), begins=True, titles=titles, rest=rest)
     if is_plain(before) and (not after or after[0] in "\t,;"):
         return Row("plain", (before,), ends=True, rest=after)
     return None

@@ -15,7 +15,9 @@ _RUN = re.compile(rf"[{_WORD}(){BETWEEN}]+")
 _ALONE = re.compile(rf"[0-9(){BETWEEN}]*[lurdLURD][{_WORD}(){BETWEEN}]*=?")
 _PURE = re.compile(rf"[lurdLURD](?:[lurdLURD{BETWEEN}]*[lurdLURD])?")
 _FRONT = re.compile(r"[>;\s|]*(?:[\[(]?[0-9]+[.):\]]\s+)?")
-_LOOSE_NUMBER = re.compile(rf"(?<![\w(])[0-9]+(?=[{BETWEEN}]|$)")
+_LOOSE_NUMBER = re.compile(rf"(?<![\w(])[0-9]+(?=[{BETWEEN}]|$)|(?<!\w)[0-9]+(?=[,;])")
+# one of several strings with letters in a line
+_STRING = re.compile("[\"'`]([lurdLURD0-9()]+)[\"'`]")
 _NUMBERED = re.compile(r"[>;\s|#(\[]*[0-9]+(?:[.):\];,|=]+\s*|\s+)(?=[lurdLURD(0-9\"'`])")
 _NO_BETWEEN = str.maketrans("", "", BETWEEN)
 _LETTER = re.compile("[lurdLURD]")
@@ -101,7 +103,8 @@ def among_words(line: str) -> List[str]:
 
 
 def _among(line: str) -> List[str]:
-    found: List[str] = []
+    strings = [it for it in _STRING.findall(line) if _LETTER.search(it)]
+    found: List[str] = strings if len(strings) > 1 else []
     for match in _RUN.finditer(line):
         text, (first, end) = match.group(), match.span()
         if first and line[first - 1].isalnum():
@@ -141,6 +144,7 @@ def said_in(line: str) -> Optional[Said]:
     odd = WIDE if markup.has_arrows(line) else ""
     if _ALONE.fullmatch(bare) and not _NAME.match(bare):
         parts = [it for it in map(_packed, _LOOSE_NUMBER.split(bare)) if len(it) > 1]
+        parts = parts if len(parts) > 1 else _STRING.findall(bare)
         if len(parts) < 2:
             return Said(alone=_packed(bare), odd=odd, is_numbered=bool(_NUMBERED.match(line)))
         return Said(odd=odd, among=tuple(dict.fromkeys([_packed(bare), *parts])), is_key=True,

@@ -48,6 +48,8 @@ class Reader:
         self.waiting: List[Tuple[str, int, str, int, bool]] = []
         self.names = Names([], [])
         self._boards: Dict[int, Board] = {}
+        # the letters that were taken from lines
+        self._taken: Dict[Place, List[str]] = {}
         # how many boards were tried for letters that don't solve the level above them
         self._tries = 0
 
@@ -76,11 +78,11 @@ class Reader:
             if note:
                 say(first, note, False)
             export.levels.append([*range(len(self.levels), len(self.levels) + len(found))])
-            title = known.get(first) or (run[0].title if len(run) == len(found) == 1 else "")
-            for drawn in found:
+            named = run[0].titles if len(run[0].titles) == len(found) else ("",) * len(found)
+            for drawn, title in zip(found, named):
                 kept = [row.encode() for row in drawn]
                 self.levels.append(Level(number, levels.Level(
-                    len(self.levels) + 1, kept, counted[first]), title))
+                    len(self.levels) + 1, kept, counted[first]), known.get(first) or title))
         return export
 
     def add_answers(self, file: str, its_levels: Sequence[levels.Level], found: answers.Answers
@@ -180,6 +182,15 @@ class Reader:
         headings = [group.heading] if group.heading else []
         for number, at in [it.place for it in pieces] + headings:
             self.exports[number].used.add(at)
+        for it in pieces:
+            self._taken.setdefault(it.place, []).append(it.letters)
+
+    def _is_taken(self, it: Loose) -> bool:
+        """Returns whether letters of one line are those of solutions that were taken from it."""
+        left = it.pieces[0].letters if len(it.pieces) == 1 else "none"
+        for taken in self._taken.get(it.pieces[0].place, ()):
+            left = left.replace(taken, "", 1)
+        return not left
 
     def _first_solution(self, pieces: Sequence[Piece], board: Board) -> Tuple[Attempt, int]:
         """Returns the solution that the first pieces are, and how many: those up to a blank line if
@@ -254,7 +265,7 @@ class Reader:
         is_meant = group.is_headed and it.attempt is not None and it.attempt.plays and not (
             self.solving[it.above] or it.above + 1 in placed)
         is_title = len(it.pieces) == 1 and self.names.is_title(it.pieces[0].place)
-        if is_sure and not placed and not is_title or is_meant:
+        if (is_sure and not placed and not is_title or is_meant) and not self._is_taken(it):
             self._report(it)
 
     def _report(self, it: Loose) -> None:

@@ -17,7 +17,7 @@ _JSON_TITLE = re.compile(r"""\W*["'](?:title|name)["']\s*:\s*["'](.+)["'],?\s*""
 # a piece of a row, which other things may be beside
 _DRAWN = re.compile("#[-_ #@$.*+]{3,}")
 # the end of a line that opens a list of rows
-_OPENS = re.compile(r"""[\[{(]\Z|=\s*["'`]+\Z""")
+_OPENS = re.compile(r"""[\[{(]["'`]*\Z|=\s*["'`]+\Z""")
 
 
 def write(reader: Reader) -> None:
