@@ -246,6 +246,8 @@ function slcLines(text, faults) {
         } else if (level && (isRow(name) || isSolution(name))) {
             into = isSolution(name) ? level.solutions : level.rows;
             into.push("");
+        } else if (level) {
+            for (const [key, value] of values) level.remarks.push(`${key}: ${value}`);
         }
     };
     for (const { name, isEnd, isEmpty, words, text: some, remark, begin: place,

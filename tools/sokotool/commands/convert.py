@@ -25,7 +25,8 @@ _FORMS = {b"\x1f\x8b": "a gzip file", b"BZh91AY&SY": "a bzip2 file", b"\xfd7zXZ"
           b"7z\xbc\xaf": "a 7-Zip archive", b"Rar!\x1a\7": "a RAR archive",
           b"PK\3\4": "a damaged zip archive, or one too deep in others"}
 # ends of lines that are none to an editor, and count as none; a web page begins one with its tags
-_BREAKS = re.compile("[\v\f\x85\u2028\u2029\ufeff]|</?pre\\b[^<>\n]*>", re.I)
+_BREAKS = re.compile(
+    r"[\v\f\x85\u2028\u2029\ufeff]|</?pre\b[^<>\n]*>|<!\[CDATA\[|\]\]>", re.I)
 
 
 def arguments(parser: argparse.ArgumentParser) -> None:

@@ -5,6 +5,8 @@ import re
 from typing import Dict, List, Optional, Tuple
 from xml.parsers import expat
 
+from .. import levels
+
 # Web pages and other files of XML may begin alike.
 _HEAD = re.compile(r"\s*<(?:\?xml|!--|!DOCTYPE|SokobanLevels)", re.I)
 _ENCODING = re.compile(rb"""\s*<\?xml\s[^>]*?encoding\s*=\s*["']([\w.:-]+)["']""")
@@ -71,7 +73,12 @@ class _Reader:
     def end(self, tag: str) -> None:
         tag, text = tag.rpartition(":")[2], "".join(self.text)
         self.text = []
-        if tag.lower() in _ROWS and self.rows is not None:
+        lines = [it for it in text.split("\n") if it.strip()]
+        if self.rows is not None and tag.lower() not in _ROWS and lines and all(
+                levels.is_row(it.rstrip().encode("utf-8", "replace")) for it in lines):
+            self.rows += [(self.line + at, it.rstrip()) for at, it in enumerate(text.split("\n"))
+                          if it.strip()]
+        elif tag.lower() in _ROWS and self.rows is not None:
             row = re.sub(r"[\r\n]+", "", text).rstrip()
             self.rows += [(self.line, row)] if row or self.rows else []
         elif tag.lower() == "level":
