@@ -24,6 +24,7 @@ PARTS = {
     "conformance reference/sokoaudit text zones": "",
     "newcomer": "bash git tar",
     "tables reference/sokoaudit": "",
+    "ports": "",
     "sources": "git",
     "samples sokoaudit": "bash",
 }
