@@ -50,6 +50,11 @@ PACKAGES = {
         "the program that was built": "cmp bin/sokoaudit $built/sokoaudit",
         "the dependencies": """dpkg-deb -f $room/deb/sokoaudit_*_amd64.deb Depends |
             cmp - <(echo 'libc6 (>= 2.34), python3 (>= 3.8)')""",
+        # in KiB, with its folders
+        "the size that it says": """dpkg-deb -x $room/deb/sokoaudit_*_amd64.deb $room/alone &&
+            files=$(find $room/alone -type f -printf '%s\\n' | awk '{ n += $1 } END { print n }') &&
+            said=$(dpkg-deb -f $room/deb/sokoaudit_*_amd64.deb Installed-Size) &&
+            [ $((files / 1024)) -le $said ] && [ $said -le $((files / 1000 + 400)) ]""",
         "a version that a release follows": """test ${version%-dev} = $version ||
             dpkg --compare-versions $(dpkg-deb -f $room/deb/sokoaudit_*_amd64.deb Version) lt \\
                 ${version%-dev}""",
