@@ -7,11 +7,15 @@ use Rattle.std.specs.Str.{bytes_eq}
 use Rattle.std.proofs.lemmas.Bool.{cases_Bool, leb-true, leb-false, le-leb, lt-leb, ltb-true, ltb-false, lt-ltb, le-ltb}
 use Rattle.std.proofs.lemmas.Slice.Eq.{bytes_eq-Decides}
 use Rattle.answers.specs.declared.fault.AnswersFault.{AnswersFault}
-use Rattle.answers.specs.declared.fault.AnswersFault.TheVariants.{Level, Order, Unknown, Kind}
+use Rattle.answers.specs.declared.fault.AnswersFault.TheVariants.{Level, Order, Unknown}
+use Rattle.answers.specs.declared.fault.AnswersFault.TheVariants as fault
+use Rattle.answers.specs.declared.record_text.Kind.{Kind}
+use Rattle.answers.specs.declared.record_text.Kind.TheVariants.{Solution, Unsolvable}
 use Rattle.answers.specs.Grammar.{Line}
 use Rattle.answers.specs.Body.{Body, LetterLines, PatternLines}
 use Rattle.answers.specs.FirstFault.{IsLevelLine, IsKind}
-use Rattle.answers.specs.Reading.{on_ok, number_in, level_digits, level_in, level_after, body_after}
+use Rattle.answers.specs.Reading.{on_ok, number_in, level_digits, level_in, level_after, body_after, opened}
+use Rattle.answers.specs.Records.{kind_line}
 use Rattle.answers.proofs.Numerals.{number_in-numeral}
 use Rattle.answers.proofs.LineTexts.{level_found, level_again}
 
@@ -111,15 +115,15 @@ pub data Opens (text : List ℕ) (b : Body) : Type 0 where
   certificate : text ≡ codes "unsolvable" → b ≡ PatternLines [] → Opens text b
 
 kind_choice_ok : (a c : Bool) (line : ℕ) (b : Body) → ◌≡◌ {A = Result Body AnswersFault}
-    (cond a (Ok (LetterLines [])) (cond c (Ok (PatternLines [])) (Err (Kind line)))) (Ok b)
+    (cond a (Ok (LetterLines [])) (cond c (Ok (PatternLines [])) (Err (fault.Kind line)))) (Ok b)
     → ((a ≡ true) × (b ≡ LetterLines [])) ⊎ ((c ≡ true) × (b ≡ PatternLines []))
 kind_choice_ok true c line b e = inl (refl, cc)
 kind_choice_ok false true line b e = inr (refl, cc)
 kind_choice_ok false false line b e = absurd cc
 
 kind_choice_err : (a c : Bool) (line : ℕ) (f : AnswersFault)
-    → ◌≡◌ {A = Result Body AnswersFault} (cond a (Ok (LetterLines [])) (cond c (Ok (PatternLines [])) (Err (Kind line)))) (Err f)
-    → (a ≡ false) × (c ≡ false) × (f ≡ Kind line)
+    → ◌≡◌ {A = Result Body AnswersFault} (cond a (Ok (LetterLines [])) (cond c (Ok (PatternLines [])) (Err (fault.Kind line)))) (Err f)
+    → (a ≡ false) × (c ≡ false) × (f ≡ fault.Kind line)
 kind_choice_err true c line f e = absurd cc
 kind_choice_err false true line f e = absurd cc
 kind_choice_err false false line f e = (refl, refl, cc)
@@ -128,10 +132,20 @@ pub kind_taken : (l : Line) (b : Body) → body_after l ≡ Ok b → Opens l.tex
 unfolding body_after
 kind_taken l b e = grind (arith, bytes_eq-Decides, kind_choice_ok)
 
+-- the line of a kind is its kind line
+opens_kind : (text : List ℕ) (kind : Kind) → Opens text (opened kind) → text ≡ kind_line kind
+opens_kind text Solution (solution is same) = is
+opens_kind text Solution (certificate is same) = absurd cc
+opens_kind text Unsolvable (solution is same) = absurd cc
+opens_kind text Unsolvable (certificate is same) = is
+
+pub kind_is : (l : Line) (kind : Kind) → body_after l ≡ Ok (opened kind) → l.text ≡ kind_line kind
+kind_is l kind e = opens_kind l.text kind (kind_taken l (opened kind) e)
+
 pub differs : {a b : List ℕ} → bytes_eq a b ≡ false → a ≢ b
 differs unlike e = grind (arith, bytes_eq-Decides)
 
-pub kind_refused : (l : Line) (f : AnswersFault) → body_after l ≡ Err f → ¬ IsKind l.text × (f ≡ Kind l.number)
+pub kind_refused : (l : Line) (f : AnswersFault) → body_after l ≡ Err f → ¬ IsKind l.text × (f ≡ fault.Kind l.number)
 unfolding body_after
 kind_refused l f e = grind (arith, kind_choice_err, differs)
 
@@ -146,6 +160,6 @@ unfolding body_after
 take_kind l (solution text said) = search
 take_kind l (certificate text said) = search
 
-pub refuse_kind : {l : Line} → ¬ IsKind l.text → body_after l ≡ Err (Kind l.number)
+pub refuse_kind : {l : Line} → ¬ IsKind l.text → body_after l ≡ Err (fault.Kind l.number)
 unfolding body_after
 refuse_kind none = grind (arith, other_text)

@@ -15,7 +15,7 @@ use Rattle.lines.proofs.Cuts.{cut_lines, cut_more, cut_none, first_alone, first_
 use Rattle.answers.specs.declared.line.Left.{Left}
 use Rattle.answers.specs.declared.line.NumberedLine.{NumberedLine}
 use Rattle.answers.specs.Grammar.{Line, NoneEnds, is_kept, numbered}
-use Rattle.answers.specs.Held.{IsCutAtEnd, IsFound, IsSkipped, kept_after, kept_in, line_count, said_line}
+use Rattle.answers.specs.Held.{IsCutAtEnd, IsFound, IsNextKept, IsSkipped, kept_after, kept_in, line_count, said_line}
 
 -- ---- kept lines
 
@@ -89,70 +89,123 @@ module _ (class : ℕ → Bool) (lines found : Left) (line : NumberedLine) (rest
   pub line_left : is_kept (said_line line) ≡ false → kept_in found ≡ kept_in rest
   line_left e = search (found_kept)
 
--- ---- lines before `end`
+-- ---- lines that are passed
 
--- The text is cut after lines that aren't `end`.
-pub record HasPassed (lines left : Left) : Type 0 where
+-- The text is cut after lines of which the kept ones have this property.
+pub record HasPassed (P : List Line → Type 0) (lines left : Left) : Type 0 where
   pub passed : List ℕ
   pub cut : IsLineCut lines.text.now passed left.text.now
   pub number : left.before ≡ lines.before + length (lines_of passed)
-  pub goes_on : NoneEnds (kept_after lines.before passed)
+  pub kept : P (kept_after lines.before passed)
 
-pub passed_none : (lines : Left) → HasPassed lines lines
-passed_none lines = grind (arith, cut_none, lines-nil, lines_in-nil)
+-- No line is kept.
+abbrev pub AreNone : List Line → Type 0
+AreNone lines = lines ≡ []
 
-module _ (lines left : Left) (h : HasPassed lines left) where
+pub passed_none : (P : List Line → Type 0) (lines : Left) → P [] → HasPassed P lines lines
+passed_none P lines none = record {
+  passed = [];
+  cut = cut_none lines.text.now;
+  number = grind (arith, lines-nil);
+  kept = rw lines_in-nil none;
+}
+
+module _ (P : List Line → Type 0) (lines left : Left) (h : HasPassed P lines left) where
   pub passed_count : line_count left ≡ line_count lines
   passed_count = grind (arith, count_both)
 
   pub passed_no_longer : length left.text.now ≤ length lines.text.now
   passed_no_longer = omega (arith, ap length h.cut.parts, length-append h.passed left.text.now)
 
-  passed_kept : kept_in lines ≡ kept_after lines.before h.passed ++ kept_in left
+  pub passed_kept : kept_in lines ≡ kept_after lines.before h.passed ++ kept_in left
   passed_kept = search (kept_both, cut_lines)
 
-  passed_more : {rest : Left} {piece : List ℕ} → IsLineCut left.text.now piece rest.text.now → rest.before ≡ left.before + length (lines_of piece)
-      → NoneEnds (kept_after left.before piece) → HasPassed lines rest
-  passed_more {rest} {piece} cut number none =
+  passed_more : {rest : Left} {piece : List ℕ} → ((xs ys : List Line) → P xs → P ys → P (xs ++ ys)) → IsLineCut left.text.now piece rest.text.now
+      → rest.before ≡ left.before + length (lines_of piece) → P (kept_after left.before piece) → HasPassed P lines rest
+  passed_more {rest} {piece} both cut number more_kept =
       let more = more_lines lines.text.now h.passed left.text.now piece rest.text.now h.cut cut in
       let before = h.number in
       record {
         passed = h.passed ++ piece;
         cut = cut_more lines.text.now h.passed left.text.now piece rest.text.now h.cut cut;
         number = omega (arith, ap length more, length-append (lines_of h.passed) (lines_of piece));
-        goes_on = rw (kept_both lines.before (h.passed ++ piece) h.passed piece more before) (NoneEnds-append (kept_after lines.before h.passed) (kept_after left.before piece) h.goes_on none);
+        kept = rw (kept_both lines.before (h.passed ++ piece) h.passed piece more before) (both (kept_after lines.before h.passed) (kept_after left.before piece) h.kept more_kept);
       }
 
-  pub skipped_passed : {found : Left} → IsSkipped (λ b. b == 101) left found → HasPassed lines found
-  skipped_passed s = search (passed_more, none_ends)
+one_line : (n : ℕ) (text line rest : List ℕ) (first : IsFirstLine text line rest)
+    → kept_after n first.ended ≡ kept_or_not (record { number = n + 1; text = line }) []
+one_line n text line rest first = ap (λ ls. filter is_kept (numbered (n + 1) ls)) (first_alone text line rest first)
+
+-- ---- lines before the first that is kept
+
+AreNone-append : (xs ys : List Line) → AreNone xs → AreNone ys → AreNone (xs ++ ys)
+AreNone-append xs ys none others = grind arith
+
+module _ (lines left : Left) (h : HasPassed AreNone lines left) where
+  pub kept_left : kept_in lines ≡ kept_in left
+  kept_left = passed_kept AreNone lines left h ∙ ap (λ ls. ls ++ kept_in left) h.kept
+
+  pub comments_passed : {found : Left} → IsSkipped (λ b. not (b == 59)) left found → HasPassed AreNone lines found
+  comments_passed s = passed_more AreNone lines left h AreNone-append s.cut s.number (comments_left (left.before + 1) (lines_in s.front) s.others)
+
+  pub other_passed : (line : NumberedLine) (rest : Left) → IsFirstLine left.text.now line.text.now rest.text.now → rest.before ≡ left.before + 1
+      → is_kept (said_line line) ≡ false → HasPassed AreNone lines rest
+  other_passed line rest first before other =
+      passed_more AreNone lines left h AreNone-append first.cut (before ∙ ap (λ ls. left.before + length ls) (sym first.alone))
+      (one_line left.before left.text.now line.text.now rest.text.now first
+      ∙ ap (λ t. cond t (record { number = left.before + 1; text = line.text.now } ∷ []) []) other)
+
+  pub kept_here : (line : NumberedLine) (rest : Left) → IsFirstLine left.text.now line.text.now rest.text.now → rest.before ≡ left.before + 1
+      → IsNextKept lines.before lines.text.now left.text.now line.text.now rest.text.now rest.before
+  kept_here line rest first before = record {
+    skipped = h.passed;
+    cut = h.cut;
+    comments = h.kept;
+    first = first;
+    number = let number = h.number in omega (arith, before, length-map (lines_of h.passed) without_terminator);
+  }
+
+-- ---- lines before `end`
+
+module _ (lines left : Left) (h : HasPassed NoneEnds lines left) where
+  pub skipped_passed : {found : Left} → IsSkipped (λ b. b == 101) left found → HasPassed NoneEnds lines found
+  skipped_passed s = passed_more NoneEnds lines left h NoneEnds-append s.cut s.number (none_ends (left.before + 1) (lines_in s.front) s.others)
 
   pub line_passed : {line : List ℕ} {rest : Left} → IsFirstLine left.text.now line rest.text.now → rest.before ≡ left.before + 1 → line ≢ codes "end"
-      → HasPassed lines rest
+      → HasPassed NoneEnds lines rest
   line_passed {line} {rest} first before other =
       let l : Line = record { number = left.before + 1; text = line } in
-      let kept : kept_after left.before first.ended ≡ kept_or_not l [] =
-      ap (λ ls. filter is_kept (numbered (left.before + 1) ls)) (first_alone left.text.now line rest.text.now first) in
-      passed_more first.cut (before ∙ ap (λ ls. left.before + length ls) (sym first.alone)) (rw kept (end_or_not (is_kept l) l [] other tt))
+      passed_more NoneEnds lines left h NoneEnds-append first.cut (before ∙ ap (λ ls. left.before + length ls) (sym first.alone))
+      (rw (one_line left.before left.text.now line rest.text.now first) (end_or_not (is_kept l) l [] other tt))
 
   -- No line begins as `end` does.
   pub passed_out : AllBeginOutside (λ b. b == 101) (lines_in left.text.now) → NoneEnds (kept_in lines)
-  passed_out others = search (passed_kept, NoneEnds-append, none_ends)
+  passed_out others =
+      rw (passed_kept NoneEnds lines left h)
+      (NoneEnds-append (kept_after lines.before h.passed) (kept_in left) h.kept (none_ends (left.before + 1) (lines_in left.text.now) others))
 
   -- The line that was found is `end`.
   pub cut_here : {class : ℕ → Bool} {from : Left} {line : NumberedLine} {rest : Left} → IsFound class from left line rest → line.text.now ≡ codes "end"
-      → IsCutAtEnd lines (take (length lines.text.now - length left.text.now) lines.text.now) rest
+      → IsCutAtEnd lines (take (length lines.text.now - length left.text.now) lines.text.now) left rest
   cut_here {class} {from} {line} {rest} f is =
       let size : length lines.text.now - length left.text.now ≡ length h.passed = omega (arith, ap length h.cut.parts, length-append h.passed left.text.now) in
       let front : take (length lines.text.now - length left.text.now) lines.text.now ≡ h.passed =
       ap (λ k. take k lines.text.now) size ∙ ap (take (length h.passed)) h.cut.parts ∙ take-append_seam h.passed left.text.now in
       let kept_end : is_kept (said_line line) ≡ true = ap (λ t. is_kept (record { number = line.number; text = t })) is in
       let more = ap length (first_lines left.text.now line.text.now rest.text.now f.first) in
+      let count = passed_count NoneEnds lines left h in
+      let number = h.number in
       rw front (record {
+        cut = h.cut;
+        first = rw (← is) f.first;
+        number = omega (arith, f.before, length-map (lines_of h.passed) without_terminator);
         last = said_line line;
-        kept = passed_kept ∙ ap (λ ls. kept_after lines.before h.passed ++ ls) (line_kept class from left line rest f kept_end);
-        goes_on = h.goes_on;
+        kept =
+            passed_kept NoneEnds lines left h
+            ∙ ap (λ ls. kept_after lines.before h.passed ++ ls) (line_kept class from left line rest f kept_end);
+        goes_on = h.kept;
         ends = is;
-        count = omega (arith, more, passed_count);
-        within = omega (arith, more, passed_count);
-        shorter = omega (arith, first_shorter left.text.now line.text.now rest.text.now f.first, passed_no_longer);
+        count = omega (arith, more);
+        within = omega (arith, more);
+        shorter = omega (arith, first_shorter left.text.now line.text.now rest.text.now f.first, passed_no_longer NoneEnds lines left h);
       })

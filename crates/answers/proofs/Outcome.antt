@@ -1,13 +1,18 @@
 -- What reading gives for a whole text: its first line decides the version, and the kept lines the rest. So reading
 -- returns entries exactly if the text spells them, and a fault exactly if that is its first.
-use Rattle.std.proofs.Common.{◌≡◌, ℕ, ◌⊎◌, Bool, true, false, cond, List, [], ◌∷◌, length, Option, Some, None, Result, Ok, Err, refl, sym, ap, subst, ◌∙◌, inl, inr, ⊎_elim}
-use Rattle.std.specs.Prelude.{codes, IfOk, IfErr, MatchResult}
+use Rattle.std.proofs.Common.{◌≡◌, ℕ, ◌+◌, ◌⊎◌, Bool, true, false, cond, List, [], ◌∷◌, length, Option, Some, None, Result, Ok, Err, refl, sym, ap, subst, ◌∙◌, inl, inr, ⊎_elim, arith}
+use Rattle.std.specs.Prelude.{codes, drop, filter, IfOk, IfErr, MatchResult}
 use Rattle.std.specs.Str.{bytes_eq}
 use Rattle.std.proofs.lemmas.Slice.Eq.{bytes_eq-Decides}
-use Rattle.lines.specs.Lines.{lines_in}
+use Rattle.std.proofs.lemmas.List.{nil_from_length}
+use Rattle.lines.specs.Lines.{IsFirstLine, lines_in}
+use Rattle.lines.proofs.Cuts.{first_lines, lines_in-nil}
 use Rattle.answers.specs.declared.fault.AnswersFault.{AnswersFault}
 use Rattle.answers.specs.declared.fault.AnswersFault.TheVariants.{Header, Level, Order, Unknown, Kind, Unclosed, Memory}
-use Rattle.answers.specs.Grammar.{kept_lines, header_text, HasHeader, SpellsEntries}
+use Rattle.answers.specs.declared.record_text.RecordText.{RecordText}
+use Rattle.answers.specs.Grammar.{is_kept, kept_lines, header_text, numbered, HasHeader, SpellsEntries}
+use Rattle.answers.specs.Held.{kept_after}
+use Rattle.answers.specs.Records.{AreRecordsFrom, HasRecords}
 use Rattle.answers.specs.Body.{Entry}
 use Rattle.answers.specs.FirstFault.{IsFirstAnswersFault}
 use Rattle.answers.specs.Reading.{version_in, header_of, records_under, outcome, Fails, Gives}
@@ -52,6 +57,29 @@ has_header (first ∷ others) is e =
 
 header_is : {text : List ℕ} {version : ℕ} → HasHeader text version → header_of (lines_in text) ≡ Some version
 header_is h = ap header_of h.first ∙ header_read h.known
+
+-- Reading goes on after the first line, by its version.
+pub outcome_after : (text header below : List ℕ) (levels : ℕ) → IsFirstLine text header below
+    → outcome text levels ≡ records_under (version_in header) levels (1 + length (lines_in below)) (kept_after 1 below)
+outcome_after text header below levels first =
+    ap (λ ls. records_under (header_of ls) levels (length ls) (filter is_kept (drop 1 (numbered 1 ls)))) (first_lines text header below first)
+    ∙ ap (λ n. records_under (version_in header) levels n (kept_after 1 below)) (omega arith)
+
+pub outcome_none : (text : List ℕ) (levels : ℕ) → length text ≡ 0 → outcome text levels ≡ Err (Header 1)
+outcome_none text levels none =
+    ap (λ ls. records_under (header_of ls) levels (length ls) (filter is_kept (drop 1 (numbered 1 ls)))) (ap lines_in (nil_from_length text none) ∙ lines_in-nil)
+
+one_version : {text : List ℕ} {a b : ℕ} → header_of (lines_in text) ≡ Some a → HasHeader text b → a ≡ b
+one_version e h = let read = header_is h in cc
+
+-- The records below the header are those of the text.
+pub has_records : {A : Type 0} (items : A → List RecordText) (text header below : List ℕ) (version : ℕ) (r : Result A AnswersFault)
+    → IsFirstLine text header below → version_in header ≡ Some version → IfOk r (λ v. AreRecordsFrom version 1 below (items v))
+    → IfOk r (λ v. HasRecords text (items v))
+has_records items text header below version (Ok v) first read are =
+    let read_here : header_of (lines_in text) ≡ Some version = ap header_of (first_lines text header below first) ∙ read in
+    record { header = header; below = below; first = first; are = λ other h. rw (← one_version read_here h) are }
+has_records items text header below version (Err f) first read are = tt
 
 -- ---- the whole text
 

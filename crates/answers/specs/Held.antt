@@ -1,5 +1,5 @@
 -- The values that reading holds, as what they say: lines, and the rest of a text.
-use Rattle.std.specs.Prelude.{◌≡◌, ℕ, ◌+◌, ◌<◌, Bool, List, ◌∷◌, ◌++◌, filter, length, codes}
+use Rattle.std.specs.Prelude.{◌≡◌, ℕ, ◌+◌, ◌<◌, Bool, List, [], ◌∷◌, ◌++◌, filter, length, codes}
 use Rattle.bstr.specs.Text.{lines_of}
 use Rattle.lines.specs.Lines.{IsFirstLine, IsLineCut, lines_in}
 use Rattle.lines.specs.Starts.{AllBeginOutside}
@@ -38,8 +38,20 @@ pub record IsFound (class : ℕ → Bool) (lines found : Left) (line : NumberedL
   pub number : line.number ≡ found.before + 1
   pub before : rest.before ≡ found.before + 1
 
--- The text is cut into the lines before the first `end` and the rest after it.
-pub record IsCutAtEnd (left : Left) (body : List ℕ) (rest : Left) : Type 0 where
+-- After this number of lines, the first line of the bytes that is neither empty nor a comment is this one: at the beginning of `from`, with
+-- `rest` after it.
+pub record IsNextKept (before : ℕ) (bytes from line rest : List ℕ) (next : ℕ) : Type 0 where
+  pub skipped : List ℕ
+  pub cut : IsLineCut bytes skipped from
+  pub comments : kept_after before skipped ≡ []
+  pub first : IsFirstLine from line rest
+  pub number : next ≡ before + length (lines_in skipped) + 1
+
+-- The text is cut into the lines before the first `end`, which `from` begins with, and the rest after it.
+pub record IsCutAtEnd (left : Left) (body : List ℕ) (from rest : Left) : Type 0 where
+  pub cut : IsLineCut left.text.now body from.text.now
+  pub first : IsFirstLine from.text.now (codes "end") rest.text.now
+  pub number : rest.before ≡ left.before + length (lines_in body) + 1
   pub last : Line
   pub kept : kept_in left ≡ kept_after left.before body ++ last ∷ kept_in rest
   pub goes_on : NoneEnds (kept_after left.before body)

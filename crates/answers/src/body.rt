@@ -1,6 +1,6 @@
 //! Reads the body of a record.
 
-ghost use Rattle.std.specs.Prelude.{◌≡◌, ◌<◌, ◌-◌, ◌^◌, [], map, IfOk};
+ghost use Rattle.std.specs.Prelude.{◌≡◌, ◌+◌, ◌<◌, ◌-◌, ◌^◌, [], map, IfOk};
 ghost use Rattle.answers.specs.Grammar.{HasLettersWithin, said_body};
 ghost use Rattle.answers.specs.Certificates.{certificate_body};
 ghost use Rattle.answers.specs.Records.{SaysOfLevel};
@@ -8,7 +8,7 @@ ghost use Rattle.answers.specs.Held.{kept_in, line_count};
 
 use crate::line::{Left, next_kept};
 use crate::record::{CertificateLine, Record};
-use crate::record_text::{CertificateLines, RecordText};
+use crate::record_text::{CertificateLines, Kind, Place, RecordText};
 use std::alloc::{AllocError, Global};
 
 // Reads the lines of a certificate.
@@ -41,7 +41,7 @@ fn letter_lines<'a>(alloc: Global, lines: Left<'a>) -> Result<Vec<&'a [u8]>, All
 {
     let mut letters = Vec::new(alloc);
     let mut left = lines;
-    while let Some((line, rest)) = next_kept(left) {
+    while let Some((_, line, rest)) = next_kept(left) {
         letters.push(line.text)?;
         left = rest;
     }
@@ -64,6 +64,27 @@ impl<'a> RecordText<'a> {
         ensures { result ≡ self.now.level }
     {
         self.level
+    }
+
+    /// Returns the kind.
+    pub fn kind(&self) -> Kind
+        ensures { result ≡ self.now.kind }
+    {
+        self.kind
+    }
+
+    /// Returns where the record is.
+    pub fn place(&self) -> Place
+        ensures { result ≡ self.now.place }
+    {
+        self.place
+    }
+
+    /// Returns the number of the line with which the body begins.
+    pub fn body_line(&self) -> usize
+        ensures { result ≡ self.now.lines.before + 1 }
+    {
+        self.lines.before + 1
     }
 
     /// Reads what the record says of its level. Letters are borrowed from the text.

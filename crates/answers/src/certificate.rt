@@ -54,7 +54,7 @@ fn zone_before(zone: Zone, rest: Left<'_>) -> CertificateLine
 {
     match next_kept(rest) {
         None => CertificateLine::Zone(zone),
-        Some((line, _after)) => bad_line(line, BadLineWhy::Syntax),
+        Some((_, line, _)) => bad_line(line, BadLineWhy::Syntax),
     }
 }
 
@@ -69,7 +69,7 @@ impl CertificateLines<'_> {
         ensures shorter { IfOk result (λ line. (p : Pattern) → line ≡ CertificateLine.Pattern p
             → length (lines_left self.new) < length (lines_left self.old)) }
     {
-        let Some((line, rest)) = next_kept(self.left) else {
+        let Some((_, line, rest)) = next_kept(self.left) else {
             return Ok(CertificateLine::End);
         };
         if let Some(zone) = first_zone(alloc, self.version, self.patterns, line)? {

@@ -6,7 +6,7 @@
 //! `read` returns Ok exactly for the texts of the grammar, and otherwise the first fault. `split` finds the records of such a
 //! text without reading them; then `RecordText::read` reads one record, and `RecordText::letters` returns the letters of a
 //! solution in pieces of the text. `RecordText::certificate` returns the lines of a certificate, of which
-//! `CertificateLines::next` reads one at a time. `write` writes the canonical text of records, which reads back as the same
+//! `CertificateLines::next` reads one at a time. `RecordText::place` says where a record is. `write` writes the canonical text of records, which reads back as the same
 //! records.
 //!
 //! Read `specs/Grammar.antt` first, then `specs/FirstFault.antt`, `specs/Records.antt`, `specs/Pieces.antt`,
@@ -35,7 +35,7 @@ pub use laws::texts_have_one_reading;
 pub use pattern::{Coord, Pattern, Seeds, Zone};
 pub use reading::read;
 pub use record::{Answers, BadLineWhy, CertificateLine, MadeBody, MadeRecord, Record};
-pub use record_text::{CertificateLines, RecordText};
+pub use record_text::{CertificateLines, Kind, Place, RecordText};
 pub use round_trip::written_is_read;
 pub use splitting::split;
 pub use writing::{WriteFault, write, write_header, write_lone_record, write_record};

@@ -4,7 +4,7 @@ ghost use Rattle.std.specs.Prelude.{◌≡◌, ◌+◌, ◌<◌, ◌≤◌, ◌^
 ghost use Rattle.lines.specs.Lines.{lines_in};
 ghost use Rattle.lines.specs.Starts.{AllBeginOutside};
 ghost use Rattle.answers.specs.Grammar.{NoneEnds, is_kept};
-ghost use Rattle.answers.specs.Held.{IsCutAtEnd, IsFound, IsSkipped, line_count, kept_in, said_line};
+ghost use Rattle.answers.specs.Held.{IsCutAtEnd, IsFound, IsNextKept, IsSkipped, line_count, kept_in, said_line};
 
 use lines::{Byte, Class, NotByte, first_line, first_start};
 
@@ -61,46 +61,38 @@ fn find_line<C: Class>(lines: Left<'_>, class: C) -> Option<(Left<'_>, NumberedL
     Some((found, line, left))
 }
 
-// Returns the first kept line, and the rest of the text.
+// Finds the first kept line. Returns the text from it on, the line, and the rest of the text.
 #[inline]
-pub(crate) fn next_kept(lines: Left<'_>) -> Option<(NumberedLine<'_>, Left<'_>)>
+pub(crate) fn next_kept(lines: Left<'_>) -> Option<(Left<'_>, NumberedLine<'_>, Left<'_>)>
     requires { line_count lines < 2 ^ 64 }
-    ensures some { IfSome result (λ found. kept_in lines.entry ≡ said_line found.0 ∷ kept_in found.1) }
+    ensures some { IfSome result (λ found. kept_in lines.entry ≡ said_line found.1 ∷ kept_in found.2) }
     ensures none { IfNone result (kept_in lines.entry ≡ []) }
-    ensures count { IfSome result (λ found. line_count found.1 ≡ line_count lines.entry) }
-    ensures shorter { IfSome result (λ found. length found.1.text.now < length lines.entry.text.now) }
+    ensures place { IfSome result (λ found. IsNextKept lines.entry.before lines.entry.text.now found.0.text.now found.1.text.now
+        found.2.text.now found.2.before) }
+    ensures count { IfSome result (λ found. line_count found.2 ≡ line_count lines.entry) }
+    ensures shorter { IfSome result (λ found. length found.2.text.now < length lines.entry.text.now) }
 {
     let mut left = lines;
-    while let Some((_, line, rest)) = find_line(left, NotByte(b';')) {
+    while let Some((found, line, rest)) = find_line(left, NotByte(b';')) {
         if is_kept(line) {
-            return Some((line, rest));
+            return Some((found, line, rest));
         }
         left = rest;
     }
     None
 }
 
-// Returns the text from the first line that isn't a comment; all of it if there is no such line.
-pub(crate) fn after_comments(lines: Left<'_>) -> Left<'_>
+// Returns the lines before the first `end`, the text from it on, and the rest of the text after it.
+pub(crate) fn cut_at_end<'a>(lines: Left<'a>) -> Option<(&'a [u8], Left<'a>, Left<'a>)>
     requires { line_count lines < 2 ^ 64 }
-    ensures kept { kept_in lines.entry ≡ kept_in result }
-    ensures count { line_count result ≡ line_count lines.entry }
-    ensures no_longer { length result.text.now ≤ length lines.entry.text.now }
-{
-    skip_to(lines, NotByte(b';')).unwrap_or(lines)
-}
-
-// Returns the lines before the first `end`, and the rest of the text after it.
-pub(crate) fn cut_at_end<'a>(lines: Left<'a>) -> Option<(&'a [u8], Left<'a>)>
-    requires { line_count lines < 2 ^ 64 }
-    ensures some { IfSome result (λ cut. IsCutAtEnd lines.entry cut.0.now cut.1) }
+    ensures some { IfSome result (λ cut. IsCutAtEnd lines.entry cut.0.now cut.1 cut.2) }
     ensures none { IfNone result (NoneEnds (kept_in lines.entry)) }
 {
     let mut left = lines;
     while let Some((found, line, rest)) = find_line(left, Byte(b'e')) {
         if line.text == b"end".as_slice() {
             let size = lines.text.len() - found.text.len();
-            return Some((&lines.text[..size], rest));
+            return Some((&lines.text[..size], found, rest));
         }
         left = rest;
     }

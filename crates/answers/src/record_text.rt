@@ -6,11 +6,24 @@ ghost use Rattle.answers.specs.Grammar.{most_patterns};
 
 use crate::line::Left;
 
-// The kind line of a record.
-#[derive(Clone, Copy, Debug)]
-pub(crate) enum Kind {
+/// The kind line of a record.
+#[derive(Clone, Copy, Debug, PartialEq, Eq)]
+pub enum Kind {
     Solution,
     Unsolvable,
+}
+
+/// Where a record is: how many bytes its text still has at each place.
+#[derive(Clone, Copy, Debug, PartialEq, Eq)]
+pub struct Place {
+    /// From the level line on.
+    pub level: usize,
+    /// After the kind line.
+    pub body: usize,
+    /// From the line `end` on.
+    pub end: usize,
+    /// After the line `end`.
+    pub after: usize,
 }
 
 /// A record as it is in its text, not read yet.
@@ -19,9 +32,10 @@ pub struct RecordText<'a> {
     pub(crate) level: usize,
     pub(crate) version: u8,
     pub(crate) kind: Kind,
-    // The lines before `end`, without comments at their beginning.
+    // The lines between the kind line and `end`.
     pub(crate) lines: Left<'a>,
-    ghost in_range: { lines.before + length (lines_of lines.text.now) < 2 ^ 64 },
+    pub(crate) place: Place,
+    ghost in_range: { lines.before + length (lines_of lines.text.now) + 1 < 2 ^ 64 },
     ghost fits: { length lines.text.now < 2 ^ 64 },
 }
 

@@ -5,14 +5,15 @@ ghost use Rattle.answers.specs.Grammar.{SpellsEntries};
 ghost use Rattle.answers.specs.Body.{Entry};
 ghost use Rattle.answers.specs.FirstFault.{IsFirstAnswersFault};
 ghost use Rattle.answers.specs.Reading.{Gives, HasNextFault, HasNextRecord, body_after, entry_of, level_after, opened, outcome, records_under, version_in};
-ghost use Rattle.answers.specs.Records.{AreEntriesOf};
+ghost use Rattle.answers.specs.Records.{AreEntriesOf, AreRecordsFrom, HasRecords, IsNextRecord};
 ghost use Rattle.answers.specs.Held.{line_count, kept_in, said_line};
 
 use crate::fault::AnswersFault;
-use crate::line::{Left, NumberedLine, after_comments, cut_at_end, next_kept};
+use crate::line::{Left, NumberedLine, cut_at_end, next_kept};
 use crate::pattern_line::{level_digits, number_in};
-use crate::record_text::{Kind, RecordText};
+use crate::record_text::{Kind, Place, RecordText};
 use bstr::ByteSlice;
+use lines::first_line;
 use std::alloc::Global;
 
 #[tactic(auto, unfolding(crate::specs::Reading::version_in))]
@@ -78,30 +79,37 @@ fn next_record<'a>(
     ensures some { IfOk result (λ found. IfSome found (λ next.
         HasNextRecord version levels last (kept_in lines.entry) next.0 (kept_in next.1))) }
     ensures none { IfOk result (λ found. IfNone found (kept_in lines.entry ≡ [])) }
+    ensures place { IfOk result (λ found. IfSome found (λ next.
+        IsNextRecord version lines.entry.before lines.entry.text.now next.0 next.1.text.now next.1.before)) }
     ensures count { IfOk result (λ found. IfSome found (λ next. line_count next.1 ≡ line_count lines.entry)) }
     ensures shorter { IfOk result (λ found. IfSome found (λ next.
         length next.1.text.now < length lines.entry.text.now)) }
     ensures fault { IfErr result (HasNextFault version levels last (line_count lines.entry) (kept_in lines.entry)) }
 {
-    let Some((line, after_level)) = next_kept(lines) else {
+    let Some((from, line, after_level)) = next_kept(lines) else {
         return Ok(None);
     };
     let level = level_after(last, levels, line)?;
-    let Some((line, after_kind)) = next_kept(after_level) else {
+    let Some((_, line, inside)) = next_kept(after_level) else {
         return Err(unclosed(after_level));
     };
     let kind = kind_of(line)?;
-    let from = after_comments(after_kind);
-    let Some((body, rest)) = cut_at_end(from) else {
-        return Err(unclosed(from));
+    let Some((body, end, rest)) = cut_at_end(inside) else {
+        return Err(unclosed(inside));
     };
     let found = RecordText {
         level,
         version,
         kind,
         lines: Left {
-            before: from.before,
+            before: inside.before,
             text: body,
+        },
+        place: Place {
+            level: from.text.len(),
+            body: inside.text.len(),
+            end: end.text.len(),
+            after: rest.text.len(),
         },
     };
     Ok(Some((found, rest)))
@@ -115,8 +123,9 @@ fn records_in<'a>(
     lines: Left<'a>,
 ) -> Result<Vec<RecordText<'a>>, AnswersFault>
     requires { line_count lines + 1 < 2 ^ 64 }
-    ensures { Gives (λ v. map entry_of v.items) result
+    ensures gives { Gives (λ v. map entry_of v.items) result
         (records_under (Some version) levels (line_count lines.entry) (kept_in lines.entry)) }
+    ensures places { IfOk result (λ records. AreRecordsFrom version lines.entry.before lines.entry.text.now records.items) }
 {
     let mut records = Vec::new(alloc);
     let mut last = 0;
@@ -138,15 +147,19 @@ fn outcome<'a>(
     text: &'a [u8],
     levels: usize,
 ) -> Result<Vec<RecordText<'a>>, AnswersFault>
-    ensures { Gives (λ v. map entry_of v.items) result (outcome text.now levels) }
+    ensures gives { Gives (λ v. map entry_of v.items) result (outcome text.now levels) }
+    ensures places { IfOk result (λ records. HasRecords text.now records.items) }
 {
-    let mut lines = text.lines();
-    let Some(version) = lines.next().and_then(version_of) else {
+    if text.is_empty() {
+        return Err(AnswersFault::Header { line: 1 });
+    }
+    let (header, below) = first_line(text);
+    let Some(version) = version_of(header) else {
         return Err(AnswersFault::Header { line: 1 });
     };
     let below = Left {
         before: 1,
-        text: lines.as_bytes(),
+        text: below,
     };
     records_in(alloc, version, levels, below)
 }
@@ -159,6 +172,8 @@ pub fn split(alloc: Global, text: &[u8], levels: usize) -> Result<Vec<RecordText
     // If the text spells entries, their records are found, unless memory runs out.
     ensures only { (entries : List Entry) → SpellsEntries text.now levels entries
         → MatchResult result (λ records. AreEntriesOf records.items entries) (λ e. e ≡ AnswersFault.Memory) }
+    // The records have the places of the text's records.
+    ensures places { IfOk result (λ records. HasRecords text.now records.items) }
 
     // A fault is the first one.
     ensures exact { IfErr result (λ e. (e ≡ AnswersFault.Memory) ⊎ IsFirstAnswersFault text.now levels e) }

@@ -1,68 +1,141 @@
 -- The levels of a text, run by run.
--- The board lines that a text begins with are taken one by one, and their number and the length of the longest are kept. If a text is cut after the run that it begins with, its levels are that run, unless it has no line, and then the levels
--- of what follows the cut: the run is as long as it can be, because a line of text ends it or nothing follows. Each list of lines has a list
--- of levels, by recursion from its end: a board line opens a run or goes on with the run that follows it. There is only one such list: the
--- first run begins at the first board line and ends at the first line of text after that.
-use Rattle.std.proofs.Common.{◌≡◌, ℕ, ◌+◌, ◌<◌, ◌≤◌, ◌==◌, true, List, [], ◌∷◌, ◌++◌, length, max, take, refl, sym, ◌∙◌, ap, subst, ⊎_elim, arith, length-append, append_assoc}
-use Rattle.std.specs.Prelude.{All}
+-- The board lines that a text begins with are taken one by one, and their number and the length of the longest are kept. The run is as long as
+-- it can be, because a line of text ends it or nothing follows. So if only text is passed before it, it is the first level. Each list of lines
+-- has a list of levels, by recursion from its end: a board line opens a run or goes on with the run that follows it. There is only one such
+-- list: the first run begins at the first board line and ends at the first line of text after that.
+use Rattle.std.proofs.Common.{◌≡◌, ℕ, ◌+◌, ◌<◌, ◌≤◌, List, [], ◌∷◌, ◌++◌, length, map, max, take, refl, sym, ◌∙◌, ap, ⊎_elim, arith, length-append, append_assoc}
+use Rattle.std.specs.Prelude.{All, get_or}
 use Rattle.std.proofs.Math.Seq.{take-append_seam}
-use Rattle.std.proofs.lemmas.Bool.{cases_Bool, false≢true, eqb-true}
-use Rattle.std.proofs.lemmas.List.{nil_from_length}
+use Rattle.std.proofs.lemmas.Bool.{cases_Bool, false≢true}
+use Rattle.std.proofs.lemmas.List.{map-append, nil_from_length}
 use Rattle.std.proofs.lemmas.List.Elements.{All-nil, All-cons, All-head, All-tail, All-append, All-push}
-use Rattle.lines.specs.Lines.{IsFirstLine, lines_in}
-use Rattle.lines.proofs.Cuts.{first_lines, first_shorter, lines_in-nil}
-use Rattle.board.specs.Levels.{is_board_line, IsBoardLine, IsText, IsRun, EndsRun, AreLevelsOf}
+use Rattle.bstr.specs.Text.{lines_of, without_terminator}
+use Rattle.lines.specs.Lines.{IsFirstLine, IsLineCut, lines_in}
+use Rattle.lines.proofs.Cuts.{cut_lines_in, cut_more, cut_none, first_alone, first_shorter, lines_in-nil, more_lines}
+use Rattle.board.specs.Levels.{is_board_line, IsBoardLine, IsText, IsRun, EndsRun, AreLevelsOf, IsNextLevel}
 use Rattle.board.specs.Rows.{width_of}
-use Rattle.board.specs.Cut.{IsCut}
+use Rattle.board.specs.Cut.{IsPassed, IsRunCut}
 
 -- ---- the run that a text begins with
 
--- The text begins with board lines, and these have this width and this height.
+-- The text is cut after board lines, and these have this width and this height.
 pub record IsRunSoFar (text rest : List ℕ) (width height : ℕ) : Type 0 where
-  pub rows : List (List ℕ)
-  pub whole : lines_in text ≡ rows ++ lines_in rest
-  pub board : All IsBoardLine rows
-  pub width_is : width ≡ width_of rows
-  pub height_is : height ≡ length rows
+  pub run : List ℕ
+  pub cut : IsLineCut text run rest
+  pub board : All IsBoardLine (lines_in run)
+  pub width_is : width ≡ width_of (lines_in run)
+  pub height_is : height ≡ length (lines_in run)
   pub few : height + length rest ≤ length text
+
+pub run_none : (text : List ℕ) → IsRunSoFar text text 0 0
+run_none text = record {
+  run = [];
+  cut = cut_none text;
+  board = rw lines_in-nil (All-nil IsBoardLine);
+  width_is = ap width_of (sym lines_in-nil);
+  height_is = ap length (sym lines_in-nil);
+  few = omega arith;
+}
 
 width_push : (rows : List (List ℕ)) (row : List ℕ) → width_of (rows ++ row ∷ []) ≡ max (length row) (width_of rows)
 width_push [] row = refl
 width_push (r ∷ rows) row = grind (arith, width_push rows row)
 
--- One more board line makes the run so far longer.
-pub run_more : (text rest row after : List ℕ) (width height : ℕ) → IsRunSoFar text rest width height → IsFirstLine rest row after → IsBoardLine row
-    → IsRunSoFar text after (max (length row) width) (height + 1)
-run_more text rest row after width height so_far first is =
-    let rows = so_far.rows in
-    record {
-      rows = rows ++ row ∷ [];
-      whole = so_far.whole ∙ ap (λ l. rows ++ l) (first_lines rest row after first) ∙ sym (append_assoc rows (row ∷ []) (lines_in after));
-      board = All-push IsBoardLine rows row so_far.board is;
-      width_is = ap (max (length row)) so_far.width_is ∙ sym (width_push rows row);
-      height_is = ap (λ n. n + 1) so_far.height_is ∙ sym (length-append rows (row ∷ []));
-      few = omega (arith, so_far.few, first_shorter rest row after first);
-    }
+pub both_lines : (text front rest piece left : List ℕ) → IsLineCut text front rest → IsLineCut rest piece left → lines_in (front ++ piece) ≡ lines_in front ++ lines_in piece
+both_lines text front rest piece left cut next =
+    ap (map without_terminator) (more_lines text front rest piece left cut next) ∙ map-append without_terminator (lines_of front) (lines_of piece)
 
 module _ (text rest : List ℕ) (width height : ℕ) (so_far : IsRunSoFar text rest width height) where
-  pub rows_are : take height (lines_in text) ≡ so_far.rows
-  rows_are = ap (λ n. take n (lines_in text)) so_far.height_is ∙ ap (take (length so_far.rows)) so_far.whole ∙ take-append_seam so_far.rows (lines_in rest)
+  -- One more board line makes the run so far longer.
+  pub run_more : (row after : List ℕ) → IsFirstLine rest row after → IsBoardLine row → IsRunSoFar text after (max (length row) width) (height + 1)
+  run_more row after first is =
+      let rows = lines_in so_far.run in
+      let lines : lines_in (so_far.run ++ first.ended) ≡ rows ++ row ∷ [] =
+      both_lines text so_far.run rest first.ended after so_far.cut first.cut ∙ ap (λ l. rows ++ l) (first_alone rest row after first) in
+      record {
+        run = so_far.run ++ first.ended;
+        cut = cut_more text so_far.run rest first.ended after so_far.cut first.cut;
+        board = rw lines (All-push IsBoardLine rows row so_far.board is);
+        width_is = ap (max (length row)) so_far.width_is ∙ sym (width_push rows row) ∙ ap width_of (sym lines);
+        height_is = ap (λ n. n + 1) so_far.height_is ∙ sym (length-append rows (row ∷ [])) ∙ ap length (sym lines);
+        few = omega (arith, so_far.few, first_shorter rest row after first);
+      }
 
-  -- If a line of text comes next, the text is cut after the run.
-  pub cut_at_text : (row after : List ℕ) → IsFirstLine rest row after → IsText row → IsCut text height after
-  cut_at_text row after first is = record {
-    between = row ∷ [];
-    whole = rw rows_are (so_far.whole ∙ ap (λ l. so_far.rows ++ l) (first_lines rest row after first));
-    long = ap length rows_are ∙ sym so_far.height_is;
-    board = rw rows_are so_far.board;
-    text_between = All-cons IsText row [] is (All-nil IsText);
-    ends = λ none. absurd (omega arith);
-    shorter = λ _. omega (arith, so_far.few, first_shorter rest row after first);
+  -- The run is as long as it can be if no board line follows.
+  pub run_cut : EndsRun (lines_in rest) → IsRunCut text width height rest
+  run_cut ends = record {
+    run = so_far.run;
+    cut = so_far.cut;
+    board = so_far.board;
+    longest = ends;
+    width_is = so_far.width_is;
+    height_is = so_far.height_is;
   }
 
--- ---- the levels of what is cut
+-- Lines of which the first is text begin with no run.
+pub text_next : (lines : List (List ℕ)) → IsText (get_or lines 0 []) → EndsRun lines
+text_next [] is = tt
+text_next (line ∷ lines) is = is
+
+-- ---- the first level
+
+module _ (text : List ℕ) (width height : ℕ) (after : List ℕ) (cut : IsRunCut text width height after) where
+  pub rows_are : take height (lines_in text) ≡ lines_in cut.run
+  rows_are =
+      ap (λ n. take n (lines_in text)) cut.height_is ∙ ap (take (length (lines_in cut.run))) (cut_lines_in text cut.run after cut.cut)
+      ∙ take-append_seam (lines_in cut.run) (lines_in after)
+
+  pub is_run : 0 < height → IsRun (take height (lines_in text))
+  is_run some = rw rows_are (record { some = omega (arith, cut.height_is); board = cut.board })
+
+  -- The run is the first level of a text that has only text before it.
+  pub is_next : (all : List ℕ) → IsPassed all text → 0 < height → IsNextLevel all text (take height (lines_in text)) after
+  is_next all passed some = record {
+    before = passed.passed;
+    level = cut.run;
+    begins = passed.cut;
+    ends = cut.cut;
+    text_before = passed.text_passed;
+    rows_are = rows_are;
+    run = is_run some;
+    longest = cut.longest;
+  }
+
+  -- If there is no run, a line of text comes first.
+  pub no_run_here : height ≡ 0 → EndsRun (lines_in text)
+  no_run_here none =
+      let nothing : lines_in cut.run ≡ [] = nil_from_length (lines_in cut.run) (sym cut.height_is ∙ none) in
+      rw (cut_lines_in text cut.run after cut.cut, nothing) cut.longest
+
+module _ (text from : List ℕ) (rows : List (List ℕ)) (after : List ℕ) (next : IsNextLevel text from rows after) where
+  -- The levels of a text are its first one and those of what comes after it.
+  pub with_next : (levels : List (List (List ℕ))) → AreLevelsOf levels (lines_in after) → AreLevelsOf (rows ∷ levels) (lines_in text)
+  with_next levels are = (
+    lines_in after,
+    record {
+      before = lines_in next.before;
+      whole =
+          cut_lines_in text next.before from next.begins
+          ∙ ap (λ l. lines_in next.before ++ l) (cut_lines_in from next.level after next.ends ∙ ap (λ l. l ++ lines_in after) (sym next.rows_are));
+      text = next.text_before;
+      run = next.run;
+      longest = next.longest;
+    },
+    are,
+  )
+
+  pub next_within : length from ≤ length text
+  next_within = omega (arith, ap length next.begins.parts, length-append next.before from)
+
+  pub next_shorter : length after < length from
+  next_shorter = some_bytes next.level next.ends.parts (rw next.rows_are at next.run.some)
+    where
+      some_bytes : (level : List ℕ) → from ≡ level ++ after → 0 < length (lines_in level) → length after < length from
+      some_bytes [] parts some = absurd (omega (arith, ap length lines_in-nil))
+      some_bytes (b ∷ level) parts some = omega (arith, ap length parts, length-append (b ∷ level) after)
+
 -- lines of text in front of other lines don't change their levels
-pub after_text : (before lines : List (List ℕ)) (levels : List (List (List ℕ))) → All IsText before → AreLevelsOf levels lines
+after_text : (before lines : List (List ℕ)) (levels : List (List (List ℕ))) → All IsText before → AreLevelsOf levels lines
     → AreLevelsOf levels (before ++ lines)
 after_text before lines [] text all = All-append IsText before lines text all
 after_text before lines (rows ∷ levels) text (after, first, others) = (
@@ -78,37 +151,9 @@ after_text before lines (rows ∷ levels) text (after, first, others) = (
 )
 
 -- a run is one level more in front of lines that don't go on with it
-pub after_run : (rows lines : List (List ℕ)) (levels : List (List (List ℕ))) → IsRun rows → EndsRun lines → AreLevelsOf levels lines
+after_run : (rows lines : List (List ℕ)) (levels : List (List (List ℕ))) → IsRun rows → EndsRun lines → AreLevelsOf levels lines
     → AreLevelsOf (rows ∷ levels) (rows ++ lines)
 after_run rows lines levels run ends are = grind arith
-
--- lines of text, or nothing at all, end a run
-ends_run : (between after : List (List ℕ)) → All IsText between → (length between ≡ 0 → length after ≡ 0) → EndsRun (between ++ after)
-ends_run [] [] text none = tt
-ends_run [] (line ∷ after) text none = grind arith
-ends_run (line ∷ between) after text none = All-head IsText line between text
-
-nothing_after : (between : List (List ℕ)) (after : List ℕ) → (length between ≡ 0 → length after ≡ 0) → length between ≡ 0 → length (lines_in after) ≡ 0
-nothing_after between after ends none = grind (arith, nil_from_length, lines_in-nil)
-
-pub is_run : (bs : List ℕ) (height : ℕ) (after : List ℕ) → IsCut bs height after → 0 < height → IsRun (take height (lines_in bs))
-is_run bs height after cut some = record { some = omega (arith, cut.long); board = cut.board }
-
--- a run that has a line is the first level
-pub levels_with_run : (bs : List ℕ) (height : ℕ) (after : List ℕ) (levels : List (List (List ℕ))) → IsCut bs height after → 0 < height
-    → AreLevelsOf levels (lines_in after) → AreLevelsOf (take height (lines_in bs) ∷ levels) (lines_in bs)
-levels_with_run bs height after levels cut some are =
-    subst (AreLevelsOf (take height (lines_in bs) ∷ levels)) (sym cut.whole)
-    (after_run (take height (lines_in bs)) (cut.between ++ lines_in after) levels (is_run bs height after cut some)
-    (ends_run cut.between (lines_in after) cut.text_between (nothing_after cut.between after cut.ends))
-    (after_text cut.between (lines_in after) levels cut.text_between are))
-
--- an empty run is no level
-pub levels_without_run : (bs : List ℕ) (height : ℕ) (after : List ℕ) (levels : List (List (List ℕ))) → IsCut bs height after → height ≡ 0
-    → AreLevelsOf levels (lines_in after) → AreLevelsOf levels (lines_in bs)
-levels_without_run bs height after levels cut none are =
-    subst (AreLevelsOf levels) (sym (cut.whole ∙ ap (λ n. take n (lines_in bs) ++ (cut.between ++ lines_in after)) none))
-    (after_text cut.between (lines_in after) levels cut.text_between are)
 
 -- ---- each list of lines has its levels
 one_run : (line : List ℕ) → IsBoardLine line → IsRun (line ∷ [])
@@ -197,7 +242,3 @@ one_list (rows ∷ levels) (rows' ∷ others) lines (after, first, rest) (after'
     let same = same_first first.before first'.before rows rows' after after'
     (sym first.whole ∙ first'.whole) first.text first'.text first.run first'.run first.longest first'.longest in
     grind (arith, one_list levels others after rest (rw same.1 rest'))
-
--- ---- the steps of the loop over a text
-pub no_bytes : (n : ℕ) → (n == 0) ≡ true → n ≡ 0
-no_bytes n e = eqb-true n 0 e

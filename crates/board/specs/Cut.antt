@@ -1,22 +1,21 @@
--- A text that is cut after the board lines with which it begins, and after the lines of text that follow them.
-use Rattle.std.specs.Prelude.{◌≡◌, ℕ, ◌<◌, ◌≤◌, List, ◌++◌, length, take, All}
+-- A text that is cut after the board lines with which it begins, or after its first lines of text.
+use Rattle.std.specs.Prelude.{◌≡◌, ℕ, List, length, All}
+use Rattle.lines.specs.Lines.{IsLineCut}
 use Rattle.board.specs.Lines.{lines_in}
-use Rattle.board.specs.Levels.{IsBoardLine, IsText}
+use Rattle.board.specs.Levels.{EndsRun, IsBoardLine, IsText}
+use Rattle.board.specs.Rows.{width_of}
 
--- The text begins with this many board lines. After them come lines of text, and then what follows. Nothing follows if no line of text ends
--- the run.
-pub record IsCut (text : List ℕ) (height : ℕ) (after : List ℕ) : Type 0 where
-  pub between : List (List ℕ)
-  pub whole : lines_in text ≡ take height (lines_in text) ++ (between ++ lines_in after)
-  pub long : length (take height (lines_in text)) ≡ height
-  pub board : All IsBoardLine (take height (lines_in text))
-  pub text_between : All IsText between
-  pub ends : length between ≡ 0 → length after ≡ 0
-  pub shorter : 0 < length text → length after < length text
+-- The text is cut after all board lines with which it begins. They have this width and this height.
+pub record IsRunCut (text : List ℕ) (width height : ℕ) (after : List ℕ) : Type 0 where
+  pub run : List ℕ
+  pub cut : IsLineCut text run after
+  pub board : All IsBoardLine (lines_in run)
+  pub longest : EndsRun (lines_in after)
+  pub width_is : width ≡ width_of (lines_in run)
+  pub height_is : height ≡ length (lines_in run)
 
--- The text begins with lines of text, and goes on with what follows.
+-- The text is cut after lines of text.
 pub record IsPassed (text after : List ℕ) : Type 0 where
-  pub between : List (List ℕ)
-  pub whole : lines_in text ≡ between ++ lines_in after
-  pub text_between : All IsText between
-  pub no_longer : length after ≤ length text
+  pub passed : List ℕ
+  pub cut : IsLineCut text passed after
+  pub text_passed : All IsText (lines_in passed)

@@ -2,6 +2,7 @@
 use Rattle.std.specs.Prelude.{◌≡◌, ℕ, ◌<◌, ◌≤◌, Bool, true, false, ◌&&◌, List, [], ◌∷◌, ◌++◌, length, take, All}
 use Rattle.std.specs.List.{list_any, list_all}
 use Rattle.board.specs.Characters.{is_wall, is_board_character}
+use Rattle.lines.specs.Lines.{IsLineCut, lines_in}
 use Rattle.board.specs.Lines.{byte_at}
 
 -- the most levels that a collection may have
@@ -49,3 +50,14 @@ pub record IsFirstRun (lines rows after : List (List ℕ)) : Type 0 where
 abbrev pub AreLevelsOf : List (List (List ℕ)) → List (List ℕ) → Type 0
 AreLevelsOf [] lines = All IsText lines
 AreLevelsOf (rows ∷ levels) lines = (after : List (List ℕ)) × IsFirstRun lines rows after × AreLevelsOf levels after
+
+-- the first level of a text has these rows: `from` begins with it, and `after` comes after its last row
+pub record IsNextLevel (text from : List ℕ) (rows : List (List ℕ)) (after : List ℕ) : Type 0 where
+  pub before : List ℕ
+  pub level : List ℕ
+  pub begins : IsLineCut text before from
+  pub ends : IsLineCut from level after
+  pub text_before : All IsText (lines_in before)
+  pub rows_are : rows ≡ lines_in level
+  pub run : IsRun rows
+  pub longest : EndsRun (lines_in after)

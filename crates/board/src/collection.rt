@@ -1,11 +1,10 @@
 //! The levels of a collection.
-ghost use Rattle.std.specs.Prelude.{◌≡◌, ◌+◌, ◌≤◌, ◌<◌, ℕ, List, false, length, take, vec_len, IfOk, IfErr, IfSome, IfNone};
+ghost use Rattle.std.specs.Prelude.{◌≡◌, ◌+◌, ◌≤◌, ◌<◌, ℕ, List, false, length, vec_len, All, IfOk, IfErr, IfSome, IfNone};
 ghost use Rattle.cellset.specs.Bits.{bit};
 ghost use Rattle.lines.specs.Lines.{IsFirstLine};
 ghost use Rattle.board.specs.Lines.{first_row, lines_in, without_mark};
-ghost use Rattle.board.specs.Levels.{most_levels, AreLevelsOf, IsBoardLine, IsFront, IsText};
-ghost use Rattle.board.specs.Cut.{IsCut};
-ghost use Rattle.board.specs.Rows.{width_of};
+ghost use Rattle.board.specs.Levels.{most_levels, AreLevelsOf, IsBoardLine, IsFront, IsNextLevel, IsText};
+ghost use Rattle.board.specs.Cut.{IsRunCut};
 
 use crate::characters::{characters_in, walls_in};
 use crate::passing::past_text;
@@ -43,6 +42,16 @@ impl<'a> Model for LevelText<'a> {
         × (level.height ≡ length (take level.height (lines_in level.text.now))) };
 }
 
+/// The first level of a text.
+#[derive(Debug, Drop)]
+pub struct NextLevel<'a> {
+    /// The text from the level on.
+    pub from: &'a [u8],
+    pub level: LevelText<'a>,
+    /// What comes after the last row.
+    pub after: &'a [u8],
+}
+
 /// Why a text has no list of levels.
 #[derive(Clone, Copy, Debug, PartialEq, Eq, Error)]
 pub enum LevelsFault {
@@ -63,28 +72,20 @@ pub fn levels(alloc: Global, text: &[u8]) -> Result<Vec<LevelText<'_>>, LevelsFa
 {
     let mut found = Vec::new(alloc);
     let mut rest = after_mark(text);
-    while !rest.is_empty() {
-        let ((width, height), after) = pass_run(rest);
-        if height > 0 {
-            if found.len() == MAX_LEVELS {
-                return Err(LevelsFault::TooMany);
-            }
-            let level = LevelText {
-                text: rest,
-                width,
-                height,
-            };
-            if found.push(level).is_err() {
-                return Err(LevelsFault::Memory);
-            }
+    while let Some(next) = next_level(rest) {
+        if found.len() == MAX_LEVELS {
+            return Err(LevelsFault::TooMany);
         }
-        rest = after;
+        rest = next.after;
+        if found.push(next.level).is_err() {
+            return Err(LevelsFault::Memory);
+        }
     }
     Ok(found)
 }
 
-// Returns the text without the byte order mark that it may begin with.
-fn after_mark(text: &[u8]) -> &[u8]
+/// Returns the text without the byte order mark that it may begin with.
+pub fn after_mark(text: &[u8]) -> &[u8]
     ensures { result.now ≡ without_mark text.now }
 {
     if text.starts_with(b"\xEF\xBB\xBF") {
@@ -93,18 +94,37 @@ fn after_mark(text: &[u8]) -> &[u8]
     text
 }
 
-// Passes the board lines that a text begins with. Returns the length of the longest and their number, and what comes after the lines of
-// text that follow them.
+/// Finds the first level of a text.
+pub fn next_level(text: &[u8]) -> Option<NextLevel<'_>>
+    ensures some { IfSome result (λ next. IsNextLevel text.now next.from.now next.level next.after.now) }
+    ensures none { IfNone result (All IsText (lines_in text.now)) }
+{
+    let mut from = past_text(text);
+    while !from.is_empty() {
+        let ((width, height), after) = pass_run(from);
+        if height > 0 {
+            let level = LevelText {
+                text: from,
+                width,
+                height,
+            };
+            return Some(NextLevel { from, level, after });
+        }
+        from = past_text(first_line(from).1);
+    }
+    None
+}
+
+// Passes the board lines that a text begins with. Returns the length of the longest and their number, and what comes after them.
 fn pass_run(text: &[u8]) -> ((usize, usize), &[u8])
-    ensures cut { IsCut text.now result.0.1 result.1.now }
-    ensures width { result.0.0 ≡ width_of (take result.0.1 (lines_in text.now)) }
+    ensures { IsRunCut text.now result.0.0 result.0.1 result.1.now }
 {
     let mut rest = text;
     let mut width = 0;
     let mut height = 0;
     while !rest.is_empty() {
         let Some((len, after)) = board_line(rest) else {
-            return ((width, height), past_text(first_line(rest).1));
+            return ((width, height), rest);
         };
         width = len.max(width);
         height += 1;

@@ -3,5 +3,5 @@ pub mod Entries
 pub mod Judging
 pub mod Places
 pub mod Spelled
-pub mod Walks
+pub mod RecordPlaces
 pub mod Written

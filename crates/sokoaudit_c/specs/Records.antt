@@ -1,34 +1,17 @@
 -- Where the records of an answers text are.
 --   span     where a record is, as the entry of C has it
---   rest     the bytes that end the text, and the number of lines before them
 --   total    the length of the text; bytes that end it begin at `total` less their length
-use Rattle.std.specs.Prelude.{◌≡◌, ℕ, ◌+◌, ◌≤◌, ◌==◌, ◌&&◌, not, nat_lt, Bool, true, false, if◌then◌else◌, List, [], ◌∷◌, length, slice_index, codes}
-use Rattle.std.specs.List.{AllByRecursion}
-use Rattle.std.specs.Str.{bytes_eq}
+use Rattle.std.specs.Prelude.{◌≡◌, ℕ, ◌+◌, ◌-◌, ◌≤◌, List, [], ◌∷◌, length, codes}
 use Rattle.lines.specs.Lines.{IsFirstLine, IsLineCut, lines_in}
 use Rattle.answers.specs.Body.{Entry}
-use Rattle.answers.specs.Grammar.{IsBody, Line, NoneEnds, level_text}
-use Rattle.answers.specs.Held.{kept_after}
+use Rattle.answers.specs.Grammar.{IsBody, NoneEnds, level_text}
+use Rattle.answers.specs.Held.{IsNextKept, kept_after}
 use Rattle.answers.specs.Records.{kind_line}
 use Rattle.answers.specs.declared.record_text.Kind.{Kind}
 use Rattle.answers.specs.declared.record_text.Kind.TheVariants.{Solution, Unsolvable}
+use Rattle.answers.specs.declared.record_text.RecordText.{RecordText}
 use Rattle.sokoaudit_c.specs.Outcome.{Holds}
-use Rattle.sokoaudit_c.specs.declared.records.Found.{Found}
 use Rattle.sokoaudit_c.specs.declared.records.RecordSpan.{RecordSpan}
-use Rattle.sokoaudit_c.specs.declared.records.Rest.{Rest}
-use Rattle.sokoaudit_c.specs.declared.records.Wanted.{Wanted}
-use Rattle.sokoaudit_c.specs.declared.records.Wanted.TheVariants.{Kept, End}
-
--- ---- what the contract of C says
-
--- After this number of lines, the first line of the bytes that is neither empty nor a comment is this one: at the beginning of `from`, with
--- `rest` after it.
-pub record IsNextKept (before : ℕ) (bytes from line rest : List ℕ) (next : ℕ) : Type 0 where
-  pub skipped : List ℕ
-  pub cut : IsLineCut bytes skipped from
-  pub comments : kept_after before skipped ≡ []
-  pub first : IsFirstLine from line rest
-  pub number : next ≡ before + length (lines_in skipped) + 1
 
 -- a record of this kind has the kind that include/sokoaudit.h numbers so
 abbrev pub number_of_kind : Kind → ℕ
@@ -78,26 +61,21 @@ pub record AreRecordsIn (text : List ℕ) (version : ℕ) (entries : List Entry)
   pub spans_are : AreRecordsFrom version (length text) 1 below spans entries
   pub written : Holds old new spans
 
--- ---- the walk
+-- A record has this span in a text of this length.
+abbrev pub span_of : ℕ → RecordText → RecordSpan
+span_of total r = record {
+  level = r.level;
+  kind = number_of_kind r.kind;
+  line = r.lines.before + 1;
+  at = total - r.place.level;
+  body = total - r.place.body;
+  body_end = total - r.place.end;
+  end = total - r.place.after;
+}
 
--- The line is one that is looked for.
-abbrev pub is_wanted : Wanted → List ℕ → Bool
-is_wanted Kept text = nat_lt 0 (length text) && not (slice_index text 0 == 59)
-is_wanted End text = bytes_eq text (codes "end")
-
--- The kept lines of the rest of a text.
-abbrev pub kept_in : Rest → List Line
-kept_in rest = kept_after rest.before rest.text.now
-
-abbrev pub number_of_kind_line : List ℕ → ℕ
-number_of_kind_line text = if bytes_eq text (codes "solution") then 1 else 2
-
--- The first wanted line of the text was found.
-pub record IsFirstWanted (wanted : Wanted) (text : Rest) (found : Found) : Type 0 where
-  pub front : List ℕ
-  pub cut : IsLineCut text.text.now front found.from.now
-  pub others : AllByRecursion (λ l. is_wanted wanted l ≡ false) (lines_in front)
-  pub first : IsFirstLine found.from.now found.line.now found.rest.text.now
-  pub is : is_wanted wanted found.line.now ≡ true
-  pub number : found.rest.before ≡ text.before + length (lines_in front) + 1
-  pub count : found.rest.before + length found.rest.text.now ≤ text.before + length text.text.now
+-- The record is in a text of this length.
+pub record IsWithin (total : ℕ) (r : RecordText) : Type 0 where
+  pub level : r.place.level ≤ total
+  pub body : r.place.body ≤ total
+  pub end : r.place.end ≤ total
+  pub after : r.place.after ≤ total

@@ -1,24 +1,18 @@
 -- Where the levels of a text are.
 --   span    the offset of a level's first byte, and that of the byte after its last row
 --   total   the length of the text; bytes that end it begin at `total` less their length
-use Rattle.std.specs.Prelude.{◌≡◌, ℕ, ◌+◌, List, [], ◌∷◌, ◌++◌, length, All}
-use Rattle.lines.specs.Lines.{IsLineCut, lines_in}
-use Rattle.board.specs.Levels.{AreLevelsOf, EndsRun, IsBoardLine, IsRun, IsText}
+use Rattle.std.specs.Prelude.{◌≡◌, ℕ, ◌+◌, List, [], ◌∷◌, length, All}
+use Rattle.lines.specs.Lines.{lines_in}
+use Rattle.board.specs.Levels.{AreLevelsOf, IsNextLevel, IsText}
 use Rattle.board.specs.Lines.{without_mark}
 use Rattle.sokoaudit_c.specs.Outcome.{Holds}
 use Rattle.sokoaudit_c.specs.declared.spans.Span.{Span}
 
--- the first level of bytes that end the text is at this span, and has these rows
+-- the first level of bytes that end the text is at this span, and has these rows; `from` begins with it
 pub record IsNextSpan (total : ℕ) (bytes : List ℕ) (span : Span) (rows : List (List ℕ)) (after : List ℕ) : Type 0 where
-  pub before : List ℕ
-  pub level : List ℕ
-  pub begins : IsLineCut bytes before (level ++ after)
-  pub ends : IsLineCut (level ++ after) level after
-  pub text : All IsText (lines_in before)
-  pub rows_are : rows ≡ lines_in level
-  pub run : IsRun rows
-  pub longest : EndsRun (lines_in after)
-  pub at : span.at + length (level ++ after) ≡ total
+  pub from : List ℕ
+  pub next : IsNextLevel bytes from rows after
+  pub at : span.at + length from ≡ total
   pub end_at : span.end + length after ≡ total
 
 -- bytes that end the text have these levels, in order, at these spans
@@ -35,10 +29,3 @@ pub record HasSpans (text : List ℕ) (old new : List Span) (count : ℕ) : Type
   pub spans_are : AreSpansOf (length text) (without_mark text) spans levels
   pub number : count ≡ length levels
   pub written : Holds old new spans
-
--- the text is cut after the board lines with which it begins
-pub record IsRunCut (text after : List ℕ) : Type 0 where
-  pub run : List ℕ
-  pub cut : IsLineCut text run after
-  pub board : All IsBoardLine (lines_in run)
-  pub longest : EndsRun (lines_in after)

@@ -1,25 +1,18 @@
 //! Where the records of an answers text are.
-//!
-//! `answers` finds the records that an audit judges, and keeps no offsets. So the lines of the text are walked once more, by the
-//! same grammar.
-ghost use Rattle.std.specs.Prelude.{◌≡◌, ◌⊎◌, ℕ, ◌+◌, ◌<◌, ◌≤◌, ◌^◌, true, List, ◌∷◌, length};
-ghost use Rattle.std.specs.List.{list_any};
-ghost use Rattle.lines.specs.Lines.{lines_in};
+ghost use Rattle.std.specs.Prelude.{◌≡◌, ◌⊎◌, ◌<◌, List, All, length, map};
 ghost use Rattle.answers.specs.Body.{Entry};
 ghost use Rattle.answers.specs.FirstFault.{IsFirstAnswersFault};
-ghost use Rattle.answers.specs.Grammar.{AreBlocks, SpellsEntries};
-ghost use Rattle.answers.specs.Records.{AreEntriesOf};
+ghost use Rattle.answers.specs.Grammar.{SpellsEntries};
 ghost use Rattle.answers.specs.declared.fault.AnswersFault.{AnswersFault as Fault};
 ghost use Rattle.answers.specs.declared.fault.AnswersFault.TheVariants as fault_is;
 ghost use Rattle.report.specs.Audit.{error_of};
 ghost use Rattle.report.specs.declared.fault.AuditError.TheVariants as error_of_audit;
 ghost use Rattle.report.specs.declared.fault.DeadError.TheVariants.{Audit};
-ghost use Rattle.sokoaudit_c.specs.Outcome.{outcome_of_answers, outcome_of_error};
-ghost use Rattle.sokoaudit_c.specs.Records.{AreRecordsIn, IsFirstWanted, IsNextRecord, is_wanted, kept_in, number_of_kind_line};
+ghost use Rattle.sokoaudit_c.specs.Outcome.{Holds, outcome_of_answers, outcome_of_error};
+ghost use Rattle.sokoaudit_c.specs.Records.{AreRecordsIn, IsWithin, number_of_kind, span_of};
 
 use crate::outcome::{Outcome, of_answers, of_error};
-use answers::{RecordText, split};
-use lines::first_line;
+use answers::{Kind, RecordText, split};
 use report::{AuditError, DeadError};
 use std::alloc::Global;
 
@@ -67,7 +60,7 @@ pub extern "C" fn sokoaudit_records(
 {
     match split(alloc, answers, levels) {
         Ok(found) => {
-            put_spans(answers, &found, records);
+            put_spans(answers.len(), &found, records);
             *outcome = of_answers(0, found.len());
             0
         }
@@ -78,108 +71,39 @@ pub extern "C" fn sokoaudit_records(
     }
 }
 
-// The rest of a text, and the number of lines before it.
-#[derive(Clone, Copy)]
-struct Rest<'a> {
-    before: usize,
-    text: &'a [u8],
-}
-
-// The lines that are looked for.
-#[derive(Clone, Copy)]
-enum Wanted {
-    // Neither empty nor a comment.
-    Kept,
-    // The line `end`.
-    End,
-}
-
-// A line, the text from it on, and the rest after it.
-#[derive(Clone, Copy)]
-struct Found<'a> {
-    from: &'a [u8],
-    line: &'a [u8],
-    rest: Rest<'a>,
-}
-
-fn is_wanted(wanted: Wanted, line: &[u8]) -> bool
-    ensures { result ≡ is_wanted wanted line.now }
+// Writes where the records are in a text of this length, up to the last one that there is room for.
+fn put_spans(total: usize, records: &[RecordText<'_>], spans: &mut [RecordSpan])
+    requires { All (IsWithin total) records.now }
+    ensures { Holds spans.old spans.new (map (span_of total) records.now) }
 {
-    match wanted {
-        Wanted::Kept => !matches!(line, [] | [b';', ..]),
-        Wanted::End => line == b"end".as_slice(),
+    let taken = records.len().min(spans.len());
+    for at in 0..taken {
+        spans[at] = span_of(total, &records[at]);
     }
 }
 
-// Finds the first line that is wanted.
-fn find_line<'a>(wanted: Wanted, text: Rest<'a>) -> Found<'a>
-    requires some { list_any (is_wanted wanted) (lines_in text.text.now) ≡ true }
-    requires count { text.before + length text.text.now < 2 ^ 64 }
-    ensures { IsFirstWanted wanted text.entry result }
+// Returns where a record is in a text of this length.
+fn span_of(total: usize, text: &RecordText<'_>) -> RecordSpan
+    requires { IsWithin total text.now }
+    ensures { result ≡ span_of total text.now }
 {
-    let mut left = text;
-    loop {
-        let (line, after) = first_line(left.text);
-        let rest = Rest {
-            before: left.before + 1,
-            text: after,
-        };
-        if is_wanted(wanted, line) {
-            return Found {
-                from: left.text,
-                line,
-                rest,
-            };
-        }
-        left = rest;
+    let place = text.place();
+    RecordSpan {
+        level: text.level(),
+        kind: kind_number(text.kind()),
+        line: text.body_line(),
+        at: total - place.level,
+        body: total - place.body,
+        body_end: total - place.end,
+        end: total - place.after,
     }
 }
 
-fn kind_number(line: &[u8]) -> usize
-    ensures { result ≡ number_of_kind_line line.now }
+fn kind_number(kind: Kind) -> usize
+    ensures { result ≡ number_of_kind kind }
 {
-    if line == b"solution".as_slice() { 1 } else { 2 }
-}
-
-// Returns where the record is with which the rest of a text of this length goes on, and what comes after it.
-fn next_span<'a>(total: usize, level: usize, text: Rest<'a>) -> (RecordSpan, Rest<'a>)
-    requires block { (version : ℕ) × (entry : Entry) × (entries : List Entry) × (entry.level ≡ level) × AreBlocks version (kept_in text) (entry ∷ entries) }
-    requires count { text.before + length text.text.now ≤ total }
-    ensures next { (version : ℕ) (entry : Entry) (entries : List Entry) → entry.level ≡ level → AreBlocks version (kept_in text.entry) (entry ∷ entries)
-        → IsNextRecord version total text.entry.before text.entry.text.now result.0 entry result.1.text.now result.1.before × AreBlocks version (kept_in result.1) entries }
-    ensures count { result.1.before + length result.1.text.now ≤ text.entry.before + length text.entry.text.now }
-{
-    let first = find_line(Wanted::Kept, text);
-    let kind = find_line(Wanted::Kept, first.rest);
-    let last = find_line(Wanted::End, kind.rest);
-    let span = RecordSpan {
-        level,
-        kind: kind_number(kind.line),
-        line: kind.rest.before + 1,
-        at: total - first.from.len(),
-        body: total - kind.rest.text.len(),
-        body_end: total - last.from.len(),
-        end: total - last.rest.text.len(),
-    };
-    (span, last.rest)
-}
-
-// Writes where the records are, up to the last one that there is room for.
-fn put_spans(text: &[u8], records: &[RecordText<'_>], spans: &mut [RecordSpan])
-    requires { (levels : ℕ) × (entries : List Entry) × SpellsEntries text.now levels entries × AreEntriesOf records.now entries }
-    ensures { (levels : ℕ) (entries : List Entry) → (spelled : SpellsEntries text.now levels entries) → AreEntriesOf records.now entries
-        → AreRecordsIn text.now spelled.version entries spans.old spans.new }
-{
-    let (_, below) = first_line(text);
-    let mut left = Rest {
-        before: 1,
-        text: below,
-    };
-    for at in 0..records.len() {
-        let (span, rest) = next_span(text.len(), records[at].level(), left);
-        if at < spans.len() {
-            spans[at] = span;
-        }
-        left = rest;
+    match kind {
+        Kind::Solution => 1,
+        Kind::Unsolvable => 2,
     }
 }

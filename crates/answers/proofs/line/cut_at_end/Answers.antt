@@ -3,15 +3,16 @@ use Rattle.std.proofs.Common.{arith, sym, ap, ◌∙◌}
 use Rattle.std.specs.Prelude.{codes}
 use Rattle.std.specs.Str.{bytes_eq}
 use Rattle.std.proofs.lemmas.Slice.Eq.{bytes_eq-Decides}
+use Rattle.answers.specs.Grammar.{NoneEnds}
 use Rattle.answers.proofs.DueLines.{differs}
 use Rattle.answers.proofs.KeptLines.{cut_here, line_passed, passed_count, passed_none, passed_out, skipped_passed, found_shorter, passed_no_longer}
 use Rattle.answers.proofs.line.cut_at_end.Goals as goal
 
 pub loop-found-init : goal.loop-found-init
-loop-found-init c = passed_none c.args.lines
+loop-found-init c = passed_none NoneEnds c.args.lines tt
 
 pub find_line-requires : goal.find_line-requires
-find_line-requires c = grind (arith, passed_count)
+find_line-requires c = omega (arith, passed_count NoneEnds _ _ c.loop-found.invariant)
 
 pub returns-then-eq-clause-some : goal.returns-then-eq-clause-some
 returns-then-eq-clause-some c =
@@ -31,7 +32,7 @@ pub returns-clause-none : goal.returns-clause-none
 returns-clause-none c = passed_out _ _ c.loop-found.invariant c.in_default.ensures.none
 
 pub overflow_sub-size : goal.overflow_sub-size
-overflow_sub-size c = passed_no_longer _ _ (skipped_passed _ _ c.loop-found.invariant c.in-Some.ensures.some.skipped)
+overflow_sub-size c = passed_no_longer NoneEnds _ _ (skipped_passed _ _ c.loop-found.invariant c.in-Some.ensures.some.skipped)
 
 pub loop-found-smaller : goal.loop-found-smaller
 loop-found-smaller c = found_shorter _ _ _ _ _ c.in-Some.ensures.some

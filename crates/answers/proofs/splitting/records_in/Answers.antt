@@ -1,5 +1,5 @@
-use Rattle.std.proofs.Common.{◌≡◌, ◌++◌, [], ◌∷◌, map, sym, ap, ◌∙◌}
-use Rattle.std.proofs.lemmas.List.{map_push}
+use Rattle.std.proofs.Common.{◌≡◌, ◌++◌, [], ◌∷◌, map, sym, ap, ◌∙◌, append_assoc}
+use Rattle.std.proofs.lemmas.List.{append-nil, map_push}
 use Rattle.answers.specs.FirstFault.{last_level}
 use Rattle.answers.specs.Held.{kept_in}
 use Rattle.answers.specs.Reading.{LevelDue, entry_of, run}
@@ -19,4 +19,10 @@ loop-records-preserved c =
       so_far = same.so_far ∙ read before same.last ∙ ap (λ es. run c.args.version c.args.levels es LevelDue (kept_in c.in-Some.rest)) (sym more);
       last = ap last_level more ∙ last_level-push before found;
       count = count ∙ same.count;
+      places = λ more are.
+          rw (c.in-Ok.ensures.items, append_assoc) (same.places (c.in-Some.found ∷ more)
+          (c.in-Some.rest.text.now, c.in-Some.rest.before, rw c.in-Some.is at c.in_ok-found.ensures.place, are));
     }
+
+pub returns-clause-places : goal.returns-clause-places
+returns-clause-places c = rw (append-nil c.loop-records.records.items) at (c.loop-records.invariant.places [] (rw c.in_default.is at c.in_ok-found.ensures.none))

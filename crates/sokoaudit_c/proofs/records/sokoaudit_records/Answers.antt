@@ -4,12 +4,13 @@ use Rattle.report.specs.declared.fault.AuditError.{AuditError}
 use Rattle.report.specs.declared.fault.DeadError.TheVariants.{Audit}
 use Rattle.sokoaudit_c.specs.Outcome.{outcome_of_answers, outcome_of_error}
 use Rattle.sokoaudit_c.specs.declared.outcome.Outcome.{Outcome}
-use Rattle.sokoaudit_c.proofs.Walks.{as_many}
+use Rattle.sokoaudit_c.proofs.RecordPlaces.{as_many, records_in, text_within}
 use Rattle.sokoaudit_c.proofs.records.sokoaudit_records.Goals as goal
 
 pub put_spans-requires : goal.put_spans-requires
 put_spans-requires c =
-    let (entries, spelled, are) = c.in-Ok.ensures.found in (c.args.levels, entries, spelled, rw (← c.deref.ensures.value) at are)
+    let (entries, spelled, are) = c.in-Ok.ensures.found in
+    rw c.deref.ensures.value (text_within c.args.answers.now spelled.version spelled.header _ c.in-Ok.ensures.places)
 
 pub returns-in-Ok-clause-done : goal.returns-in-Ok-clause-done
 returns-in-Ok-clause-done c _ =
@@ -17,7 +18,8 @@ returns-in-Ok-clause-done c _ =
     let held = rw (← c.deref.ensures.value) at are in (
       entries,
       spelled,
-      c.put_spans.ensures c.args.levels entries spelled held,
+      records_in c.args.answers.now spelled.version spelled.header c.deref.result.now (rw (← c.deref.ensures.value) at c.in-Ok.ensures.places) entries _ _ held
+          c.put_spans.ensures,
       c.of_answers.ensures ∙ ap (outcome_of_answers 0) (c.len.ensures ∙ sym c.deref.ensures.len ∙ as_many c.deref.result.now entries held),
     )
 
