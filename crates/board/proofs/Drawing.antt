@@ -1,4 +1,4 @@
--- How a sketch grows, row by row.
+-- How the parts of a board grow, row by row.
 -- A row comes as words with one bit per column. Each part of the row adds the cells whose bits are set, so after all parts the set
 -- has what it had and the cells of the row whose character is of the kind. No other row changes. A set is known by its members, so
 -- its size can be counted as if they were added one by one: one more character of a row changes the character of one cell alone,
@@ -23,8 +23,8 @@ use Rattle.cellset.proofs.Truth.{left_true, right_true, or_cases}
 use Rattle.board.specs.Characters.{space}
 use Rattle.board.specs.Rows.{nth, character_at}
 use Rattle.board.specs.Legal.{count_of_kind}
-use Rattle.board.specs.Sketch.{HasRows, ShowsKind, IsDrawn, IsSketchOf, IsWordOf}
-use Rattle.board.specs.declared.sketch.Sketch.{Sketch}
+use Rattle.board.specs.Parts.{HasRows, ShowsKind, IsDrawn, AreDrawn, IsWordOf}
+use Rattle.board.specs.declared.parts.Parts.{Parts}
 
 -- ---- places counted from 1
 pub nth-nil : {A : Type 0} (n : ℕ) (d : A) → nth [] n d ≡ d
@@ -200,12 +200,12 @@ floor_less walls row q was now = grind (arith, contains-union, cells_total)
 
 -- ---- the four sets
 module _ {S : Type 0} (members : S → Cells) where
-  pub sketch_none : (s : Sketch S) → members s.walls ≡ set.empty → members s.goals ≡ set.empty → members s.boxes ≡ set.empty → members s.room ≡ set.empty
-      → IsSketchOf [] members s
-  sketch_none s walls goals boxes players = search (drawn_none)
+  pub blank_drawn : (s : Parts S) → members s.walls ≡ set.empty → members s.goals ≡ set.empty → members s.boxes ≡ set.empty → members s.room ≡ set.empty
+      → AreDrawn [] members s
+  blank_drawn s walls goals boxes players = search (drawn_none)
 
 -- a row's part is added to the sets, and its walls are taken from the floor
-pub rows_more : {S : Type 0} (extent : S → Extent) (members : S → Cells) (s : Sketch S) (none row : Cells) (walls goals boxes room : S) (floor : CellsOn)
+pub rows_more : {S : Type 0} (extent : S → Extent) (members : S → Cells) (s : Parts S) (none row : Cells) (walls goals boxes room : S) (floor : CellsOn)
     → HasRows extent members s none → extent walls ≡ extent s.walls → extent goals ≡ extent s.goals → extent boxes ≡ extent s.boxes → extent room ≡ extent s.room
     → members walls ≡ set.union (members s.walls) row → floor.extent ≡ s.floor.extent → ((q : Cell) → Has floor.members q ↔ (Has s.floor.members q × Lacks row q))
     → HasRows extent members (record { shape = s.shape; walls = walls; goals = goals; boxes = boxes; room = room; floor = floor; region = s.region }) none

@@ -1,6 +1,6 @@
 pub mod LevelRuns
 pub mod Drawing
-pub mod Parts
+pub mod DrawnParts
 pub mod Verdict
 pub mod OneBoard
 pub mod Blocks

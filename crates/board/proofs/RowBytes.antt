@@ -16,7 +16,7 @@ use Rattle.cellset.proofs.Shifts.{bit_up, bit_up_below}
 use Rattle.cellset.proofs.WordLoops.{zero_bit}
 use Rattle.board.specs.Characters.{space}
 use Rattle.board.specs.Lines.{byte_at, first_row, past_end}
-use Rattle.board.specs.Sketch.{AreKindsOf, IsMaskOf, IsWordOf}
+use Rattle.board.specs.Parts.{AreKindsOf, IsMaskOf, IsWordOf}
 use Rattle.board.specs.declared.row.Kinds.{Kinds}
 use Rattle.lines.specs.Lines.{IsFirstLine}
 use Rattle.board.proofs.FirstRows.{IsFirstRow, first_of, past_cases, row_is}

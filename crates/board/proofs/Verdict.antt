@@ -1,5 +1,5 @@
--- What a level's rows are once their sketch, their one player and their room are there.
--- A sketch has one cell for each character of a kind, so the sizes of its sets are the counts of the characters, and tests of the
+-- What a level's rows are once their parts, their one player and their room are there.
+-- The parts have one cell for each character of a kind, so the sizes of the sets are the counts of the characters, and tests of the
 -- sizes are tests of legality. If the sides are no grid's, one is above the largest, since a level has a row, and each row a wall.
 -- Once the board has its parts, the level is legal unless its room is open.
 use Rattle.std.proofs.Common.{◌≡◌, ◌≢◌, ℕ, ◌≤◌, List, length, sym, ◌∙◌, arith}
@@ -12,8 +12,8 @@ use Rattle.board.specs.Levels.{IsRun}
 use Rattle.board.specs.Characters.{is_wall, is_player, is_box, is_goal}
 use Rattle.board.specs.Rows.{width_of}
 use Rattle.board.specs.Legal.{FitsGrid, HasOnePlayer, HasBox, HasEnoughGoals, ArePartsOf}
-use Rattle.board.specs.Sketch.{IsDrawn, IsLegalUnlessOpen, extent_of}
-use Rattle.board.proofs.Parts.{IsWalked, parts, formed, run_sides}
+use Rattle.board.specs.Parts.{IsDrawn, IsLegalUnlessOpen, extent_of}
+use Rattle.board.proofs.DrawnParts.{IsWalked, parts, formed, run_sides}
 
 -- the sets are drawn from the rows and pass all tests but the last, and walks from the player reach the room
 pub record PassesTests (rows : List (List ℕ)) (shape : Extent) (walls goals boxes players room : Cells) (player : Cell) : Type 0 where

@@ -5,7 +5,7 @@ pub mod Lines
 pub mod Levels
 pub mod Cut
 pub mod Rows
-pub mod Sketch
+pub mod Parts
 pub mod Legal
 pub mod Words
 pub use Rattle.cellset.specs.Shape

@@ -6,7 +6,7 @@ ghost use Rattle.cellset.specs.declared.cell.Cell.{Cell as GridCell};
 ghost use Rattle.board.specs.Board.{IsWellFormed};
 ghost use Rattle.board.specs.Game.{IsFloor};
 
-use crate::sketch::Sketch;
+use crate::parts::Parts;
 use cellset::{Cell, CellSet, Shape};
 use reach::Rows;
 use std::marker::Model;
@@ -16,21 +16,21 @@ use std::marker::Model;
 pub struct Board<S: CellSet> {
     pub(crate) player: Cell,
     // Apart, so that a board is moved without its sets.
-    pub(crate) sketch: Box<Sketch<S>>,
+    pub(crate) parts: Box<Parts<S>>,
 }
 
 impl<S: CellSet> Model for Board<S> {
     ghost use Rattle.board.specs.Game.{Level};
     ghost use Rattle.board.specs.Board.{coded_level, IsWellFormed};
-    ghost use Rattle.board.specs.Sketch.{HasRows, level_in};
+    ghost use Rattle.board.specs.Parts.{HasRows, level_in};
 
     ghost Value = { Level };
 
     ghost coded = { coded_level };
 
-    ghost view = { λ b. level_in S.members b.sketch.value b.player };
+    ghost view = { λ b. level_in S.members b.parts.value b.player };
 
-    ghost invariant = { λ b. HasRows S.extent S.members b.sketch.value (S.members b.sketch.value.room) × IsWellFormed (level_in S.members b.sketch.value b.player) };
+    ghost invariant = { λ b. HasRows S.extent S.members b.parts.value (S.members b.parts.value.room) × IsWellFormed (level_in S.members b.parts.value b.player) };
 }
 
 impl<S: CellSet> Board<S> {
@@ -39,7 +39,7 @@ impl<S: CellSet> Board<S> {
         ensures value { result ≡ self.now.shape }
         ensures formed { IsWellFormed self.now }
     {
-        self.sketch.shape
+        self.parts.shape
     }
 
     /// Returns the walls.
@@ -47,7 +47,7 @@ impl<S: CellSet> Board<S> {
         ensures members { S.members result.now ≡ self.now.walls }
         ensures extent { S.extent result.now ≡ self.now.shape }
     {
-        &self.sketch.walls
+        &self.parts.walls
     }
 
     /// Returns the goals.
@@ -55,7 +55,7 @@ impl<S: CellSet> Board<S> {
         ensures members { S.members result.now ≡ self.now.goals }
         ensures extent { S.extent result.now ≡ self.now.shape }
     {
-        &self.sketch.goals
+        &self.parts.goals
     }
 
     /// Returns the boxes at the start.
@@ -64,7 +64,7 @@ impl<S: CellSet> Board<S> {
         ensures extent { S.extent result.now ≡ self.now.shape }
         ensures formed { IsWellFormed self.now }
     {
-        &self.sketch.boxes
+        &self.parts.boxes
     }
 
     /// Returns the player's cell at the start, on the shape of the board.
@@ -81,7 +81,7 @@ impl<S: CellSet> Board<S> {
         ensures extent { S.extent result.now ≡ self.now.shape }
         ensures formed { IsWellFormed self.now }
     {
-        &self.sketch.room
+        &self.parts.room
     }
 
     /// Returns the room as rows of bits.
@@ -90,7 +90,7 @@ impl<S: CellSet> Board<S> {
         ensures extent { result.now.extent ≡ self.now.shape }
         ensures formed { IsWellFormed self.now }
     {
-        &self.sketch.region
+        &self.parts.region
     }
 
     /// Returns the floor as rows of bits.
@@ -98,6 +98,6 @@ impl<S: CellSet> Board<S> {
         ensures members { (c : GridCell) → Has result.now.members c ↔ IsFloor self.now c }
         ensures extent { result.now.extent ≡ self.now.shape }
     {
-        &self.sketch.floor
+        &self.parts.floor
     }
 }

@@ -13,12 +13,14 @@ mod board;
 mod characters;
 mod collection;
 mod laws;
+mod parts;
 mod passing;
 mod reading;
 mod row;
-mod sketch;
 
 pub use board::Board;
-pub use collection::{LevelText, LevelsFault, MAX_LEVELS, NextLevel, after_mark, levels, next_level};
+pub use collection::{
+    LevelText, LevelsFault, MAX_LEVELS, NextLevel, after_mark, levels, next_level,
+};
 pub use laws::{lines_have_one_list_of_levels, rows_have_one_board};
 pub use reading::{BoardFault, read_board, read_next_board};

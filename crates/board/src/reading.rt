@@ -6,12 +6,12 @@ ghost use Rattle.cellset.specs.CellSet.{only};
 ghost use Rattle.cellset.specs.Shape.{HasSides};
 ghost use Rattle.board.specs.Board.{IsWellFormed};
 ghost use Rattle.board.specs.Legal.{IsBoardOf, IsRefusal};
-ghost use Rattle.board.specs.Sketch.{HasRows, IsLegalUnlessOpen, IsSketchOf, extent_of, level_in};
+ghost use Rattle.board.specs.Parts.{AreDrawn, HasRows, IsLegalUnlessOpen, extent_of, level_in};
 ghost use Rattle.board.specs.Words.{board_words};
 
 use crate::board::Board;
 use crate::collection::LevelText;
-use crate::sketch::{Sketch, blank, draw};
+use crate::parts::{Parts, blank, draw};
 use cellset::{Cell, CellSet, Shape};
 use reach::step::ByWalk;
 use std::alloc::{AllocError, Global};
@@ -83,42 +83,42 @@ pub fn read_next_board<S: CellSet>(
     let Some(shape) = Shape::new(text.width, text.height) else {
         return Err(BoardFault::Size);
     };
-    let mut sketch = blank(alloc, shape, last)?;
-    let player = fill(&mut sketch, text)?;
-    if sketch.region.is_at_edge() {
+    let mut parts = blank(alloc, shape, last)?;
+    let player = fill(&mut parts, text)?;
+    if parts.region.is_at_edge() {
         return Err(BoardFault::Open);
     }
-    Ok(Board { player, sketch })
+    Ok(Board { player, parts })
 }
 
-// Draws the rows of a level on a sketch that has no cells, and finds the room. Returns the player's cell, or the first fault but `Open`.
-fn fill<S: CellSet>(sketch: &mut Sketch<S>, text: &LevelText<'_>) -> Result<Cell, BoardFault>
-    requires shape { sketch.old.shape ≡ extent_of text.now }
-    requires sides { HasSides sketch.old.shape.width sketch.old.shape.height }
-    requires rows { HasRows S.extent S.members sketch.old set.empty }
-    requires blank { IsSketchOf [] S.members sketch.old }
-    ensures legal { IfOk result (λ player. IsLegalUnlessOpen text.now (level_in S.members sketch.new player)) }
-    ensures formed { IfOk result (λ player. IsWellFormed (level_in S.members sketch.new player)) }
-    ensures rows { OnOk result (HasRows S.extent S.members sketch.new (S.members sketch.new.room)) }
+// Draws the rows of a level on parts that have no cells, and finds the room. Returns the player's cell, or the first fault but `Open`.
+fn fill<S: CellSet>(parts: &mut Parts<S>, text: &LevelText<'_>) -> Result<Cell, BoardFault>
+    requires shape { parts.old.shape ≡ extent_of text.now }
+    requires sides { HasSides parts.old.shape.width parts.old.shape.height }
+    requires rows { HasRows S.extent S.members parts.old set.empty }
+    requires blank { AreDrawn [] S.members parts.old }
+    ensures legal { IfOk result (λ player. IsLegalUnlessOpen text.now (level_in S.members parts.new player)) }
+    ensures formed { IfOk result (λ player. IsWellFormed (level_in S.members parts.new player)) }
+    ensures rows { OnOk result (HasRows S.extent S.members parts.new (S.members parts.new.room)) }
     ensures err { IfErr result (IsRefusal text.now) }
 {
-    draw(sketch, text.text);
-    let Some(player) = only_member(&sketch.room) else {
+    draw(parts, text.text);
+    let Some(player) = only_member(&parts.room) else {
         return Err(BoardFault::Player);
     };
-    let boxes = sketch.boxes.len();
+    let boxes = parts.boxes.len();
     if boxes == 0 {
         return Err(BoardFault::Box);
     }
-    if boxes > sketch.goals.len() {
+    if boxes > parts.goals.len() {
         return Err(BoardFault::Goals);
     }
     // Boxes don't bar the way.
-    sketch.region.insert(player);
-    sketch.region.grow::<ByWalk>(&sketch.floor);
+    parts.region.insert(player);
+    parts.region.grow::<ByWalk>(&parts.floor);
     // The set of the one player has memory for the room.
-    sketch.room.clear();
-    sketch.region.store(&mut sketch.room);
+    parts.room.clear();
+    parts.region.store(&mut parts.room);
     Ok(player)
 }
 

@@ -4,7 +4,7 @@
 //! small levels take more instructions. Wider rows gain nothing.
 ghost use Rattle.std.specs.Prelude.{◌≡◌, ◌+◌, ◌<◌, ◌≤◌, ℕ, length, slice_index};
 ghost use Rattle.board.specs.Lines.{byte_at, past_end};
-ghost use Rattle.board.specs.Sketch.{AreKindsOf};
+ghost use Rattle.board.specs.Parts.{AreKindsOf};
 
 use crate::characters::{boxes_in, equal_to, goals_in, players_in, walls_in};
 use cellset::first_bits;

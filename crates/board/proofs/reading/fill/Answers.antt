@@ -1,4 +1,4 @@
--- A sketch has one cell for each character of a kind, so the tests of sizes are tests of the rows. The one member of the set of players is
+-- The parts have one cell for each character of a kind, so the tests of sizes are tests of the rows. The one member of the set of players is
 -- the player, and what walks over the floor reach from its cell is the room. `PassesTests` of `Verdict.antt` says this of the sets. Then
 -- the level of these parts is legal unless its room is open (`legal_of`). The room is kept in the set of players, once that is cleared.
 use Rattle.std.proofs.Common.{◌≡◌, ℕ, List, length, take, sym, ◌∙◌, ap, inr, arith}
@@ -9,7 +9,7 @@ use Rattle.cellset.proofs.Members.{has_empty, same_members}
 use Rattle.cellset.proofs.Truth.{either}
 use Rattle.reach.proofs.Sets.{stored_is}
 use Rattle.cellset.specs.Shape.{Extent}
-use Rattle.board.proofs.Parts.{all_within_width}
+use Rattle.board.proofs.DrawnParts.{all_within_width}
 use Rattle.board.proofs.Verdict.{PassesTests, formed_of, legal_of}
 use Rattle.board.proofs.reading.fill.Given as given
 use Rattle.board.proofs.reading.fill.Goals as goal
@@ -30,8 +30,8 @@ draw-requires-clause-wide g c =
     let is = ap (λ (e : Extent). e.height) c.requires.shape in
     rw (same_rows _ _ _ _ c.text.view_is c.text.invariant.2 is) (rw (sym (ap (λ (e : Extent). e.width) c.requires.shape)) at (all_within_width c.args.text.now))
 
-passed : (g : given.Over) (c : goal.After-store g) → let members = g.S.CellSet.members in let sketch = c.draw.new.sketch in
-    PassesTests c.args.text.now sketch.shape (members sketch.walls) (members sketch.goals) (members sketch.boxes) (members sketch.room)
+passed : (g : given.Over) (c : goal.After-store g) → let members = g.S.CellSet.members in let parts = c.draw.new.parts in
+    PassesTests c.args.text.now parts.shape (members parts.walls) (members parts.goals) (members parts.boxes) (members parts.room)
     (members c.store.new.into) c.in-Some.player
 passed g c =
     let is = ap (λ (e : Extent). e.height) c.requires.shape in
@@ -50,7 +50,7 @@ passed g c =
       some = λ none. c.if-boxes-eq0.false (c.len-boxes.ensures ∙ none);
       enough = omega arith;
       walked = record {
-        floor = c.draw.new.sketch.floor.members;
+        floor = c.draw.new.parts.floor.members;
         start = c.insert.new.self.members;
         floor_is = rows.floor;
         start_is = λ q. let added = rw rows.region at (c.insert.ensures.members q) in

@@ -1,5 +1,5 @@
 use Rattle.std.proofs.Common.{sym, ◌∙◌}
-use Rattle.board.proofs.Parts.{first_is_only}
+use Rattle.board.proofs.DrawnParts.{first_is_only}
 use Rattle.board.proofs.reading.only_member.Goals as goal
 
 pub returns : goal.returns

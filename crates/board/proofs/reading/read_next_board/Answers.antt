@@ -2,7 +2,7 @@
 use Rattle.std.proofs.Common.{inr}
 use Rattle.std.proofs.lemmas.Result.{err_from_is_err_and}
 use Rattle.board.specs.Legal.{IsOpen}
-use Rattle.board.specs.Sketch.{level_in}
+use Rattle.board.specs.Parts.{level_in}
 use Rattle.board.proofs.Verdict.{too_large}
 use Rattle.board.proofs.reading.read_next_board.Goals as goal
 
@@ -19,7 +19,7 @@ pub returns-then-is_at_edge-clause-err : goal.returns-then-is_at_edge-clause-err
 returns-then-is_at_edge-clause-err g c =
     let legal = c.in_ok-player.ensures.legal in
     let found = c.in_ok-player.ensures.rows in
-    let level = level_in g.S.CellSet.members c.fill.new.sketch c.in_ok-player.player in
+    let level = level_in g.S.CellSet.members c.fill.new.parts c.in_ok-player.player in
     let (at, has, edge) = c.if-is_at_edge.ensures in
     let in_room = rw (c.deref.ensures, found.region) at has in
     let on_edge = rw (c.deref.ensures, found.region_extent) at edge in
@@ -29,7 +29,7 @@ pub returns-clause-ok : goal.returns-clause-ok
 returns-clause-ok g c =
     let legal = c.in_ok-player.ensures.legal in
     let found = c.in_ok-player.ensures.rows in
-    let level = level_in g.S.CellSet.members c.fill.new.sketch c.in_ok-player.player in
+    let level = level_in g.S.CellSet.members c.fill.new.parts c.in_ok-player.player in
     let closed = λ (o : IsOpen level).
     c.if-is_at_edge.ensures o.0 (rw (← found.region, ← c.deref.ensures) at o.1) (rw (← found.region_extent, ← c.deref.ensures) at o.2) in
     record { size = legal.size; player = legal.player; box = legal.box; goals = legal.goals; parts = legal.parts; closed = closed }

@@ -3,7 +3,7 @@ use Rattle.std.specs.Prelude.{bit_or}
 use Rattle.std.proofs.lemmas.Bool.{cases_lt}
 use Rattle.board.specs.Characters.{is_wall, is_player, is_box, is_goal}
 use Rattle.board.specs.Lines.{byte_at}
-use Rattle.board.specs.Sketch.{AreKindsOf, IsMaskOf}
+use Rattle.board.specs.Parts.{AreKindsOf, IsMaskOf}
 use Rattle.board.specs.declared.row.Kinds.{Kinds}
 use Rattle.board.proofs.RowBytes.{mask_both}
 use Rattle.board.proofs.row.kinds_from.Goals as goal

@@ -1,4 +1,4 @@
--- The sets of a board while its rows are read.
+-- The parts of a board, as its rows are read.
 use Rattle.std.specs.Prelude.{◌≡◌, ◌≢◌, ◌↔◌, ℕ, ◌+◌, ◌*◌, ◌<◌, ◌≤◌, Bool, false, List, length}
 use Rattle.std.specs.FinSet.{contains, len}
 use Rattle.cellset.specs.Shape.{Extent}
@@ -12,7 +12,7 @@ use Rattle.board.specs.Board.{level_of}
 use Rattle.board.specs.Game.{Level}
 use Rattle.board.specs.Legal.{count_of_kind, ArePartsOf, FitsGrid, HasBox, HasEnoughGoals, HasOnePlayer}
 use Rattle.board.specs.declared.row.Kinds.{Kinds}
-use Rattle.board.specs.declared.sketch.Sketch.{Sketch}
+use Rattle.board.specs.declared.parts.Parts.{Parts}
 
 -- the cells are those whose character is of the kind
 abbrev pub ShowsKind : (ℕ → Bool) → List (List ℕ) → Cells → Type 0
@@ -42,15 +42,15 @@ pub record AreKindsOf (byte : ℕ → ℕ) (n : ℕ) (kinds : Kinds) : Type 0 wh
   pub box : IsMaskOf is_box byte kinds.count kinds.boxes
   pub player : IsMaskOf is_player byte kinds.count kinds.players
 
--- the four sets of a sketch show the rows so far
-pub record IsSketchOf {S : Type 0} (rows : List (List ℕ)) (members : S → Cells) (s : Sketch S) : Type 0 where
+-- the four sets show the rows so far
+pub record AreDrawn {S : Type 0} (rows : List (List ℕ)) (members : S → Cells) (s : Parts S) : Type 0 where
   pub wall : IsDrawn is_wall rows (members s.walls)
   pub goal : IsDrawn is_goal rows (members s.goals)
   pub box : IsDrawn is_box rows (members s.boxes)
   pub player : IsDrawn is_player rows (members s.room)
 
--- everything of a sketch is on its shape, and its rows are its floor and these cells
-pub record HasRows {S : Type 0} (extent : S → Extent) (members : S → Cells) (s : Sketch S) (cells : Cells) : Type 0 where
+-- all parts are on their shape, and their rows are the floor and these cells
+pub record HasRows {S : Type 0} (extent : S → Extent) (members : S → Cells) (s : Parts S) (cells : Cells) : Type 0 where
   pub wall : extent s.walls ≡ s.shape
   pub goal : extent s.goals ≡ s.shape
   pub box : extent s.boxes ≡ s.shape
@@ -64,8 +64,8 @@ pub record HasRows {S : Type 0} (extent : S → Extent) (members : S → Cells) 
 abbrev pub extent_of : List (List ℕ) → Extent
 extent_of rows = record { width = width_of rows; height = length rows }
 
--- the level that a sketch shows once it has the room, by the player's cell
-abbrev pub level_in : {S : Type 0} → (S → Cells) → Sketch S → Cell → Level
+-- the level of these parts once they have the room, by the player's cell
+abbrev pub level_in : {S : Type 0} → (S → Cells) → Parts S → Cell → Level
 level_in members s player = level_of s.shape (members s.walls) (members s.goals) (members s.boxes) player (members s.room)
 
 -- the level is the board of these rows, and legal unless its room is open

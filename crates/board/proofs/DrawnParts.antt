@@ -25,7 +25,7 @@ use Rattle.board.specs.Board.{IsWellFormed}
 use Rattle.board.specs.Levels.{IsBoardLine, IsRun}
 use Rattle.board.specs.Characters.{is_wall, is_player, is_box, is_goal, space}
 use Rattle.board.specs.Rows.{nth, character_at, width_of, Draws, is_one_of}
-use Rattle.board.specs.Sketch.{ShowsKind, extent_of}
+use Rattle.board.specs.Parts.{ShowsKind, extent_of}
 use Rattle.board.specs.Legal.{ArePartsOf}
 use Rattle.board.proofs.Drawing.{nth-nil, nth_past}
 

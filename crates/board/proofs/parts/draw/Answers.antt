@@ -1,12 +1,12 @@
--- The invariant says that the lines of the text that is left are the rows after the first `row` ones, and that the sketch shows those
--- first ones. The first line of the text that is left is the next row, so after it the sketch shows one row more.
+-- The invariant says that the lines of the text that is left are the rows after the first `row` ones, and that the parts show those
+-- first ones. The first line of the text that is left is the next row, so after it the parts show one row more.
 use Rattle.std.proofs.Common.{◌≡◌, ℕ, ◌+◌, ◌<◌, ◌≤◌, List, [], ◌∷◌, length, take, drop, get_or, sym, ◌∙◌, ap, arith, length-drop, get_or-take}
 use Rattle.std.proofs.lemmas.List.{get_or-drop, length-take-le}
 use Rattle.std.proofs.lemmas.List.Elements.{All-get_or}
 use Rattle.lines.proofs.Cuts.{first_lines, lines_in-nil}
 use Rattle.board.specs.Lines.{first_row, lines_in}
 use Rattle.board.proofs.FirstRows.{next_row}
-use Rattle.board.proofs.sketch.draw.Goals as goal
+use Rattle.board.proofs.parts.draw.Goals as goal
 
 some_text : (text : List ℕ) (lines : List (List ℕ)) (row : ℕ) → lines_in text ≡ drop row lines → row < length lines → 0 < length text
 some_text [] lines row left inside = absurd (let none = ap length (sym lines_in-nil ∙ left) ∙ length-drop row lines in omega arith)
@@ -25,9 +25,9 @@ draw_row-next-requires-clause-wide g c =
     let was = c.loop-row.invariant in
     let lines = lines_in c.args.text.now in
     let row = c.loop-row.row in
-    let height = c.args.sketch.now.shape.height in
+    let height = c.args.parts.now.shape.height in
     let long = length-take-le height lines c.requires.high in
-    let fits = All-get_or (λ r. length r ≤ c.args.sketch.now.shape.width) (take height lines) row [] (omega arith) c.requires.wide in
+    let fits = All-get_or (λ r. length r ≤ c.args.parts.now.shape.width) (take height lines) row [] (omega arith) c.requires.wide in
     rw (was.shape, next_is c.loop-row.rest.now lines row was.left) (rw (get_or-take height lines row [] (omega arith)) at fits)
 
 pub loop-row-preserved : goal.loop-row-preserved

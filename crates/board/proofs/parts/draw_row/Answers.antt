@@ -7,7 +7,7 @@ use Rattle.board.specs.Characters.{is_wall, is_player, is_box, is_goal}
 use Rattle.board.specs.Lines.{first_row}
 use Rattle.board.proofs.Drawing.{word_on, part_added, row_drawn, rows_more}
 use Rattle.board.proofs.RowBytes.{next_in_part, next_past_parts, row_word, seen_more, short_row}
-use Rattle.board.proofs.sketch.draw_row.Goals as goal
+use Rattle.board.proofs.parts.draw_row.Goals as goal
 
 pub insert_row-requires : goal.insert_row-requires
 insert_row-requires g c =
@@ -42,7 +42,7 @@ returns-then-kinds-lt64-clause-next g c =
 pub returns-then-kinds-lt64-clause-rows : goal.returns-then-kinds-lt64-clause-rows
 returns-then-kinds-lt64-clause-rows g c =
     let was = c.loop-part.invariant in
-    rows_more g.S.CellSet.extent g.S.CellSet.members c.loop-part.sketch _ _ _ _ _ _ _ was.rows c.insert_row.ensures.extent c.insert_row-in-loop-part.ensures.extent
+    rows_more g.S.CellSet.extent g.S.CellSet.members c.loop-part.parts _ _ _ _ _ _ _ was.rows c.insert_row.ensures.extent c.insert_row-in-loop-part.ensures.extent
     c.insert_row-in-loop-part-2.ensures.extent c.insert_row-in-loop-part-3.ensures.extent c.insert_row.ensures.members c.remove_row.ensures.extent c.remove_row.ensures.members
 
 pub returns-then-kinds-lt64-clause-drawn : goal.returns-then-kinds-lt64-clause-drawn
@@ -76,7 +76,7 @@ loop-part-preserved g c =
       within = more.0;
       before = more.1;
       shape = was.shape;
-      rows = rows_more g.S.CellSet.extent g.S.CellSet.members c.loop-part.sketch _ _ _ _ _ _ _ was.rows c.insert_row.ensures.extent c.insert_row-in-loop-part.ensures.extent
+      rows = rows_more g.S.CellSet.extent g.S.CellSet.members c.loop-part.parts _ _ _ _ _ _ _ was.rows c.insert_row.ensures.extent c.insert_row-in-loop-part.ensures.extent
           c.insert_row-in-loop-part-2.ensures.extent c.insert_row-in-loop-part-3.ensures.extent c.insert_row.ensures.members c.remove_row.ensures.extent c.remove_row.ensures.members;
       wall = part_added is_wall refl line c.args.row c.loop-part.part _ _ _ _ (row_word is_wall refl refl text c.requires.some c.loop-part.part c.loop-part.from _ c.kinds_from-kinds.result c.lead-lead.ensures was.from was.before is _ is.wall) c.insert_row.ensures.members was.wall;
       goal = part_added is_goal refl line c.args.row c.loop-part.part _ _ _ _ (row_word is_goal refl refl text c.requires.some c.loop-part.part c.loop-part.from _ c.kinds_from-kinds.result c.lead-lead.ensures was.from was.before is _ is.goal) c.insert_row-in-loop-part.ensures.members was.goal;
