@@ -116,14 +116,6 @@ fn after_blank(text: &[u8]) -> Option<&[u8]>
     }
 }
 
-// Returns whether a cell comes before another one.
-#[inline]
-fn is_before(a: Coord, b: Coord) -> bool
-    ensures { result ≡ is_before a b }
-{
-    a < b
-}
-
 // Reads cells off the front of a text, up to its end or to a blank and `@`. Adds them to the empty list, and returns the rest.
 fn take_cells<'a>(
     text: &'a [u8],
@@ -138,7 +130,7 @@ fn take_cells<'a>(
         let Some((cell, after)) = take_cell(rest) else {
             return Ok(None);
         };
-        if !is_before(last, cell) {
+        if !(last < cell) {
             return Ok(None);
         }
         cells.push(cell)?;
