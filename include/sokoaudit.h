@@ -7,11 +7,11 @@
  *
  *   Texts     A pointer to bytes and their number, without a zero at the end. They are read and never written. Cast a 'char *' to
  *             'const uint8_t *'.
- *   Buffers   A pointer to bytes that may be written, and their number, the room. If the text is longer than the room, its
- *             beginning fills the buffer, and 'bytes' of the outcome is the length of the whole text: call again with that room.
+ *   Buffers   A pointer to bytes that may be written, and their number, the space. If the text is longer than the space, its
+ *             beginning fills the buffer, and 'bytes' of the outcome is the length of the whole text: call again with that space.
  *             Nothing after the text is written, and no zero is put at its end.
- *   Entries   A pointer to entries that may be written, and their number, the room. If there are more levels than room, the first
- *             ones are written, and 'levels' of the outcome is the number of all levels: call again with that room.
+ *   Entries   A pointer to entries that may be written, and their number, the space. If there are more levels than space, the first
+ *             ones are written, and 'levels' of the outcome is the number of all levels: call again with that space.
  *             SOKOAUDIT_MOST_LEVELS entries are always enough. Nothing after the entries is written. Neither entries nor the outcome
  *             need a value before the call.
  *   NULL      is neither a text nor a buffer, not even one of 0 bytes: pass "" or any other pointer there. The same holds for entries.
@@ -83,8 +83,8 @@ extern "C" {
 /* What a call reports besides the status that it returns. Each call with an outcome sets all numbers, whatever they were; a number that
  * means nothing is 0. */
 struct sokoaudit_outcome {
-    size_t bytes;      /* length of the whole text, even if there was no room for it */
-    size_t levels;     /* number of levels in an audit, even if there was no room for all; the next four say how many of them are .. */
+    size_t bytes;      /* length of the whole text, even if there was no space for it */
+    size_t levels;     /* number of levels in an audit, even if there was no space for all; the next four say how many of them are .. */
     size_t solved;
     size_t unsolvable;
     size_t refused;
@@ -181,45 +181,45 @@ uint32_t sokoaudit_judge(const uint8_t *level, size_t level_length, uint32_t kin
                          struct sokoaudit_line *line);
 
 /* Gives a verdict on each level of a collection, as the report of sokoaudit_audit on the same texts does, without its text: entry 0 is
- * the verdict on level 1. 'bytes' of the outcome is 0. Returns SOKOAUDIT_DONE or SOKOAUDIT_OPEN, also if there was no room for all
+ * the verdict on level 1. 'bytes' of the outcome is 0. Returns SOKOAUDIT_DONE or SOKOAUDIT_OPEN, also if there was no space for all
  * entries, or SOKOAUDIT_FAULT: then no entry is written. */
 uint32_t sokoaudit_lines(const uint8_t *levels, size_t levels_length, const uint8_t *answers, size_t answers_length,
-                         struct sokoaudit_line *lines, size_t room, struct sokoaudit_outcome *outcome);
+                         struct sokoaudit_line *lines, size_t space, struct sokoaudit_outcome *outcome);
 
-/* Writes where the levels of a level text are: entry 0 is level 1. Writes as many entries as there is room for, and returns the number of
+/* Writes where the levels of a level text are: entry 0 is level 1. Writes as many entries as there is space for, and returns the number of
  * all levels. They are the ones that the other calls judge, but there may be more than SOKOAUDIT_MOST_LEVELS, and the text may have any
  * length. Takes no memory. */
-size_t sokoaudit_levels(const uint8_t *levels, size_t levels_length, struct sokoaudit_span *spans, size_t room);
+size_t sokoaudit_levels(const uint8_t *levels, size_t levels_length, struct sokoaudit_span *spans, size_t space);
 
 /* Writes where the records of an answers text are, in the order of their levels. 'levels' is the number of levels that the answers are to;
- * with SIZE_MAX there may be any. Writes as many entries as there is room for; 'records' of the outcome is the number of all records.
+ * with SIZE_MAX there may be any. Writes as many entries as there is space for; 'records' of the outcome is the number of all records.
  * They are the ones that the other calls judge, but the text may have any length. The body of a record is the bytes from 'body' to
  * 'body_end', as sokoaudit_judge takes it. Returns SOKOAUDIT_DONE, or SOKOAUDIT_FAULT: then no entry is written, and 'fault' of the
  * outcome is SOKOAUDIT_OUT_OF_MEMORY or one of the faults of answers, with its line. */
 uint32_t sokoaudit_records(const uint8_t *answers, size_t answers_length, size_t levels, struct sokoaudit_record *records,
-                           size_t room, struct sokoaudit_outcome *outcome);
+                           size_t space, struct sokoaudit_outcome *outcome);
 
 /* Writes the report of an audit: 'sokoaudit audit LEVELS ANSWERS'. Unless the call returns SOKOAUDIT_FAULT, a level that the report
  * calls solved is solved by its own letters with exactly these counts, and no list of moves, of any length, solves one that it
  * calls unsolvable. */
 uint32_t sokoaudit_audit(const uint8_t *levels, size_t levels_length, const uint8_t *answers, size_t answers_length,
-                         uint8_t *report, size_t room, struct sokoaudit_outcome *outcome);
+                         uint8_t *report, size_t space, struct sokoaudit_outcome *outcome);
 
 /* Writes made answers, with a certificate for each level that is found unsolvable: 'sokoaudit make LEVELS'. Returns SOKOAUDIT_DONE
  * or SOKOAUDIT_FAULT. */
-uint32_t sokoaudit_make(const uint8_t *levels, size_t levels_length, uint8_t *answers, size_t room,
+uint32_t sokoaudit_make(const uint8_t *levels, size_t levels_length, uint8_t *answers, size_t space,
                         struct sokoaudit_outcome *outcome);
 
 /* Writes the map of a level with its dead squares: 'sokoaudit dead LEVELS N'. Levels are numbered from 1. Returns SOKOAUDIT_DONE
  * or SOKOAUDIT_FAULT. */
-uint32_t sokoaudit_dead(const uint8_t *levels, size_t levels_length, size_t number, uint8_t *map, size_t room,
+uint32_t sokoaudit_dead(const uint8_t *levels, size_t levels_length, size_t number, uint8_t *map, size_t space,
                         struct sokoaudit_outcome *outcome);
 
 /* Writes the words of an outcome's fault, as the program prints them but without a line end: 'answers line 5 unclosed'. Only 'fault'
- * and 'line' of the outcome are read. Writes as much as there is room for, leaves the rest of the buffer unchanged, and returns the
+ * and 'line' of the outcome are read. Writes as much as there is space for, leaves the rest of the buffer unchanged, and returns the
  * length of the words, up to 64; 0 if there is no fault, and for SOKOAUDIT_BODY_END and SOKOAUDIT_NO_SUCH_KIND, which the program
  * doesn't have. */
-size_t sokoaudit_fault_text(const struct sokoaudit_outcome *outcome, uint8_t *text, size_t room);
+size_t sokoaudit_fault_text(const struct sokoaudit_outcome *outcome, uint8_t *text, size_t space);
 
 #ifdef __cplusplus
 }

@@ -134,11 +134,11 @@ def _check(status, outcome):
 
 def _text(call, *given):
     """The text that a call writes, and its outcome."""
-    outcome, room = _Outcome(bytes=1 << 16), 0
-    while outcome.bytes > room:
-        room = outcome.bytes
-        buffer = ctypes.create_string_buffer(room)
-        _check(call(*given, buffer, room, ctypes.byref(outcome)), outcome)
+    outcome, space = _Outcome(bytes=1 << 16), 0
+    while outcome.bytes > space:
+        space = outcome.bytes
+        buffer = ctypes.create_string_buffer(space)
+        _check(call(*given, buffer, space, ctypes.byref(outcome)), outcome)
     return buffer.raw[:outcome.bytes], outcome
 
 
@@ -167,9 +167,9 @@ def judge(level, kind, body):
 
 def lines(levels, answers):
     """The verdict on each level of a collection, in order: a list of Line, and the Counts."""
-    outcome, room = _Outcome(), min(10000, _bytes(levels).count(b"\n") // 2 + 1)
-    entries = (_Line * room)()
-    given = (*_given(levels, answers), entries, room, ctypes.byref(outcome))
+    outcome, space = _Outcome(), min(10000, _bytes(levels).count(b"\n") // 2 + 1)
+    entries = (_Line * space)()
+    given = (*_given(levels, answers), entries, space, ctypes.byref(outcome))
     _check(_LIBRARY.sokoaudit_lines(*given), outcome)
     return [_line(it) for it in entries[:outcome.levels]], _counts(outcome)
 
@@ -184,11 +184,11 @@ def spans(levels):
 
 def records(answers, levels=ctypes.c_size_t(-1).value):
     """Where the records of answers to this number of levels are, in order: a list of Record."""
-    outcome, room = _Outcome(records=1 << 8), 0
-    while outcome.records > room:
-        room = outcome.records
-        entries = (_Record * room)()
-        given = (*_given(answers), operator.index(levels), entries, room, ctypes.byref(outcome))
+    outcome, space = _Outcome(records=1 << 8), 0
+    while outcome.records > space:
+        space = outcome.records
+        entries = (_Record * space)()
+        given = (*_given(answers), operator.index(levels), entries, space, ctypes.byref(outcome))
         _check(_LIBRARY.sokoaudit_records(*given), outcome)
     return [Record(it.level, Kind(it.kind), it.line, it.at, it.body, it.body_end, it.end)
             for it in entries[:outcome.records]]

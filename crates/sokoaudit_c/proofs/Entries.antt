@@ -1,4 +1,4 @@
--- C gets the entries of the statuses, in order, up to the last one that there is room for.
+-- C gets the entries of the statuses, in order, up to the last one that there is space for.
 -- So what a status means is what its entry claims, and the words of its line are what its entry spells.
 use Rattle.std.proofs.Common.{◌≡◌, ◌⊎◌, ℕ, zero, suc, ◌+◌, ◌<◌, List, [], ◌∷◌, ◌++◌, length, min, get_or, slice_set, take, drop, Option, Some, refl, sym, ◌∙◌, ap, subst, inl, inr, arith}
 use Rattle.std.specs.Prelude.{map}
@@ -47,15 +47,15 @@ entry_at old new statuses holds n line below there = grind (arith, length-map, m
 
 next_entry : {A B : Type 0} (f : A → B) (xs : List A) (old : List B) (k : ℕ) (d : A) → k < length xs → k < length old
     → slice_set (take k (map f xs) ++ drop k old) k (f (get_or xs k d)) ≡ take (suc k) (map f xs) ++ drop (suc k) old
-next_entry f [] old k d below room = absurd (omega arith)
-next_entry f (x ∷ xs) [] k d below room = absurd (omega arith)
-next_entry f (x ∷ xs) (o ∷ old) zero d below room = refl
-next_entry f (x ∷ xs) (o ∷ old) (suc k) d below room = ap (λ ls. f x ∷ ls) (next_entry f xs old k d (omega arith) (omega arith))
+next_entry f [] old k d below space = absurd (omega arith)
+next_entry f (x ∷ xs) [] k d below space = absurd (omega arith)
+next_entry f (x ∷ xs) (o ∷ old) zero d below space = refl
+next_entry f (x ∷ xs) (o ∷ old) (suc k) d below space = ap (λ ls. f x ∷ ls) (next_entry f xs old k d (omega arith) (omega arith))
 
 -- one more entry is written at its position, over the old one
 pub entry_added : {A B : Type 0} (f : A → B) (xs : List A) (old lines : List B) (k taken : ℕ) (d : A) (x : B) → k < taken → taken ≡ min (length xs) (length old)
     → lines ≡ take k (map f xs) ++ drop k old → x ≡ f (get_or xs k d) → slice_set lines k x ≡ take (k + 1) (map f xs) ++ drop (k + 1) old
-entry_added {A = A} {B = B} f xs old lines k taken d x below room so_far is = grind (arith, min-le_left, min-le_right, next_entry)
+entry_added {A = A} {B = B} f xs old lines k taken d x below space so_far is = grind (arith, min-le_left, min-le_right, next_entry)
 
 -- ---- what an entry claims
 right_solved : (rows : List (List ℕ)) (answer : Option Body) (status : Status) → Means rows answer status → (numbers_of status).status ≡ 1

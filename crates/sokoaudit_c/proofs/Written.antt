@@ -1,4 +1,4 @@
--- Entries that are written one after the other, up to the last one that there is room for.
+-- Entries that are written one after the other, up to the last one that there is space for.
 use Rattle.std.proofs.Common.{◌≡◌, ℕ, suc, ◌<◌, ◌≤◌, List, [], ◌∷◌, ◌++◌, length, take, drop, slice_set, ◌∙◌, ap, arith, take_all}
 use Rattle.std.proofs.lemmas.List.{drop_all}
 use Rattle.sokoaudit_c.specs.Outcome.{Holds}
@@ -8,9 +8,9 @@ none_yet old = grind arith
 
 put : {A : Type 0} (old found : List A) (span : A) → length found < length old → slice_set (take (length old) found ++ drop (length found) old) (length found) span
     ≡ take (length old) (found ++ span ∷ []) ++ drop (length (found ++ span ∷ [])) old
-put [] found span room = absurd (omega arith)
-put (o ∷ old) [] span room = grind (arith, take_all)
-put (o ∷ old) (f ∷ found) span room = ap (λ l. f ∷ l) (put old found span (omega arith))
+put [] found span space = absurd (omega arith)
+put (o ∷ old) [] span space = grind (arith, take_all)
+put (o ∷ old) (f ∷ found) span space = ap (λ l. f ∷ l) (put old found span (omega arith))
 
 left_out : {A : Type 0} (old found : List A) (span : A) → length old ≤ length found → take (length old) found ++ drop (length found) old
     ≡ take (length old) (found ++ span ∷ []) ++ drop (length (found ++ span ∷ [])) old
@@ -25,7 +25,7 @@ long_as (o ∷ old) (f ∷ found) = ap suc (long_as old found)
 
 pub one_written : {A : Type 0} (old new found : List A) (count : ℕ) (span : A) → count ≡ length found → Holds old new found → count < length new
     → Holds old (slice_set new count span) (found ++ span ∷ [])
-one_written old new found count span is holds room =
+one_written old new found count span is holds space =
     let long = ap length holds ∙ long_as old found in
     rw (holds, is) (put old found span (omega arith))
 

@@ -1,7 +1,7 @@
 -- What the entries of C claim, over their numbers. No status is named here.
 --   levels    the levels of the levels text, each as its rows
 --   entries   what the answers text says
---   lines     the entries of C, one for each level that there was room for
+--   lines     the entries of C, one for each level that there was space for
 use Rattle.std.specs.Prelude.{◌≡◌, ◌⊎◌, ℕ, ◌+◌, ◌<◌, List, Some}
 use Rattle.std.specs.List.{slice_get}
 use Rattle.answers.specs.Body.{Entry}

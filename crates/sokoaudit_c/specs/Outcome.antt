@@ -1,5 +1,5 @@
 -- What a call of the library leaves in the memory that C lends.
---   holds     the buffer begins with the text, or with as much of it as there is room for; the rest is unchanged
+--   holds     the buffer begins with the text, or with as much of it as there is space for; the rest is unchanged
 --   outcome   the nine numbers of a report, of made answers, of a map or of an error; a number that
 --             means nothing there is 0
 use Rattle.std.specs.Prelude.{ℕ, ◌≡◌, ◌++◌, List, length, take, drop}
@@ -14,7 +14,7 @@ use Rattle.report.specs.declared.fault.Why.TheVariants as why
 use Rattle.report.specs.declared.summary.Summary.{Summary}
 use Rattle.sokoaudit_c.specs.declared.outcome.Outcome.{Outcome}
 
--- the buffer begins with the text, or with as much of it as there is room for; a buffer has bytes or entries
+-- the buffer begins with the text, or with as much of it as there is space for; a buffer has bytes or entries
 abbrev pub Holds : {A : Type 0} → List A → List A → List A → Type 0
 Holds old new text = new ≡ take (length old) text ++ drop (length text) old
 

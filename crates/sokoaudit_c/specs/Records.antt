@@ -52,7 +52,7 @@ AreRecordsFrom version total before bytes (span ∷ spans) (entry ∷ entries) =
     (after : List ℕ) × (next : ℕ) × IsNextRecord version total before bytes span entry after next × AreRecordsFrom version total next after spans entries
 AreRecordsFrom version total before bytes _ _ = ⊥
 
--- The text has the records of these entries after its first line, and the new spans are theirs, up to the last one that there is room for.
+-- The text has the records of these entries after its first line, and the new spans are theirs, up to the last one that there is space for.
 pub record AreRecordsIn (text : List ℕ) (version : ℕ) (entries : List Entry) (old new : List RecordSpan) : Type 0 where
   pub header : List ℕ
   pub below : List ℕ

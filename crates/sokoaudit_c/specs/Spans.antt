@@ -21,7 +21,7 @@ AreSpansOf total bytes [] [] = All IsText (lines_in bytes)
 AreSpansOf total bytes (span ∷ spans) (rows ∷ levels) = (after : List ℕ) × IsNextSpan total bytes span rows after × AreSpansOf total after spans levels
 AreSpansOf total bytes _ _ = ⊥
 
--- there are this many levels in the text, and the new spans are theirs, up to the last one that there is room for
+-- there are this many levels in the text, and the new spans are theirs, up to the last one that there is space for
 pub record HasSpans (text : List ℕ) (old new : List Span) (count : ℕ) : Type 0 where
   pub levels : List (List (List ℕ))
   pub spans : List Span

@@ -139,7 +139,7 @@ pub extern "C" fn sokoaudit_dead(
     }
 }
 
-/// Writes the words of an outcome's fault, or as many bytes of them as there is room for. Returns the length of all words in bytes.
+/// Writes the words of an outcome's fault, or as many bytes of them as there is space for. Returns the length of all words in bytes.
 #[unsafe(no_mangle)]
 pub extern "C" fn sokoaudit_fault_text(outcome: &Outcome, text: &mut [u8]) -> usize
     // The buffer begins with some words, and the rest of it is unchanged.
@@ -158,7 +158,7 @@ pub extern "C" fn sokoaudit_fault_text(outcome: &Outcome, text: &mut [u8]) -> us
     words.as_str().len()
 }
 
-// Copies a text to the beginning of a buffer, or as much of it as there is room for.
+// Copies a text to the beginning of a buffer, or as much of it as there is space for.
 fn put(text: &[u8], buffer: &mut [u8])
     ensures { Holds buffer.old buffer.new text.now }
 {

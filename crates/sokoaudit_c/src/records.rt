@@ -36,7 +36,7 @@ pub struct RecordSpan {
     pub end: usize,
 }
 
-/// Writes where the records of an answers text to this number of levels are, up to the last one that there is room for. Returns 0, or 2 if the
+/// Writes where the records of an answers text to this number of levels are, up to the last one that there is space for. Returns 0, or 2 if the
 /// text has a fault.
 #[unsafe(no_mangle)]
 pub extern "C" fn sokoaudit_records(
@@ -71,7 +71,7 @@ pub extern "C" fn sokoaudit_records(
     }
 }
 
-// Writes where the records are in a text of this length, up to the last one that there is room for.
+// Writes where the records are in a text of this length, up to the last one that there is space for.
 fn put_spans(total: usize, records: &[RecordText<'_>], spans: &mut [RecordSpan])
     requires { All (IsWithin total) records.now }
     ensures { Holds spans.old spans.new (map (span_of total) records.now) }

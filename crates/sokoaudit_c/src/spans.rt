@@ -11,7 +11,7 @@ pub struct Span {
     pub end: usize,
 }
 
-/// Writes where the levels of a text are, up to the last one that there is room for. Returns the number of all levels.
+/// Writes where the levels of a text are, up to the last one that there is space for. Returns the number of all levels.
 #[unsafe(no_mangle)]
 pub extern "C" fn sokoaudit_levels(levels: &[u8], spans: &mut [Span]) -> usize
     ensures { HasSpans levels.now spans.old spans.new result }
