@@ -57,7 +57,7 @@ fn check_tables<S: CellSet>(alloc: Global, tables: &Tables<S>) -> Result<(), Che
         settled: None,
     };
     checker.note_settled(alloc, tables, &mut covered)?;
-    checker.check_pushes(alloc, tables, &covered)
+    checker.check_pushes(tables, &covered)
 }
 
 // Returns whether the list covers the start.
@@ -74,7 +74,7 @@ fn is_start_covered<S: CellSet>(tables: &Tables<S>) -> bool
         if !are_in(boxes, start) {
             continue;
         }
-        if tables.has_root(group) {
+        if tables.is_inside(group, tables.board.player()) {
             return true;
         }
     }
@@ -121,7 +121,7 @@ impl Checker {
             let mut link = counts.first[count] as usize;
             while link > 0 {
                 let group = link - 1;
-                self.note(alloc, tables, covered, group)?;
+                self.note(tables, covered, group)?;
                 link = counts.next[group] as usize;
             }
         }
@@ -131,7 +131,6 @@ impl Checker {
     // Notes a group if the list covers its pushes.
     fn note<S: CellSet>(
         &mut self,
-        alloc: Global,
         tables: &Tables<S>,
         covered: &mut Vec<bool>,
         group: usize,
@@ -146,7 +145,7 @@ impl Checker {
         if covered[group] || tables.is_trapped(tables.groups.boxes(group)) {
             return Ok(());
         }
-        self.settle(alloc, tables, covered, group)?;
+        self.settle(tables, covered, group)?;
         covered[group] = self.lookups.left.is_empty();
         Ok(())
     }
@@ -154,7 +153,6 @@ impl Checker {
     // Checks line by line what each push leads to, if the line's group isn't noted as covered.
     fn check_pushes<S: CellSet>(
         &mut self,
-        alloc: Global,
         tables: &Tables<S>,
         covered: &[bool],
     ) -> Result<(), CheckFault>
@@ -174,7 +172,7 @@ impl Checker {
             if tables.is_trapped(tables.groups.boxes(group)) {
                 continue;
             }
-            self.settle(alloc, tables, covered, group)?;
+            self.settle(tables, covered, group)?;
             if let Some(push) = self.lookups.first_left(tables, group, line) {
                 return Err(CheckFault::Push {
                     line: tables.groups.arena.lines[line].number,
@@ -189,7 +187,6 @@ impl Checker {
     // Finds the pushes out of a group whose results the list doesn't cover, unless it is the group that was settled last.
     fn settle<S: CellSet>(
         &mut self,
-        alloc: Global,
         tables: &Tables<S>,
         covered: &[bool],
         group: usize,
@@ -214,7 +211,7 @@ impl Checker {
             group,
             boxes,
         };
-        self.lookups.settle(alloc, &task)?;
+        self.lookups.settle(&task)?;
         self.settled = Some(group);
         Ok(())
     }

@@ -1,9 +1,8 @@
 //! A coverage that looks states up in tables. It is for callers, as `coverage` says. `PatternList` makes the same tables.
-ghost use Rattle.std.specs.Prelude.{◌≡◌, ◌<◌, ◌↔◌, IfOk, length, map};
+ghost use Rattle.std.specs.Prelude.{◌≡◌, ◌↔◌, IfOk, map};
 ghost use Rattle.board.specs.Game.{State};
 ghost use Rattle.answers.specs.Grammar.{said_pattern};
 ghost use Rattle.certificates.specs.Pattern.{patterns_of, IsCovered, AreLawful};
-ghost use Rattle.patterns.specs.{Lookups.AreLookups, Tables.AreTables};
 
 use crate::coverage::Coverage;
 use answers::Pattern;
@@ -23,7 +22,7 @@ pub struct Index<'a, S: CellSet> {
 
 impl<'a, S: CellSet> Model for Index<'a, S> {
     ghost use Rattle.closure.specs.Index.{Listed, coded_listed};
-    ghost use Rattle.std.specs.Prelude.{◌≡◌, ◌<◌, length};
+    ghost use Rattle.std.specs.Prelude.{◌≡◌};
     ghost use Rattle.std.specs.FinSet as finset;
     ghost use Rattle.patterns.specs.{Arena.lines_in, Lookups.AreLookups, Tables.AreTables};
 
@@ -33,8 +32,7 @@ impl<'a, S: CellSet> Model for Index<'a, S> {
 
     ghost view = { λ index. record { level = index.tables.board.now; lines = lines_in index.tables.groups.arena } };
 
-    ghost invariant = { λ index. AreTables index.tables × (index.tables.trap.members ≡ finset.empty) × AreLookups index.tables index.lookups
-        × (0 < length index.lookups.tree.nodes.items) };
+    ghost invariant = { λ index. AreTables index.tables × (index.tables.trap.members ≡ finset.empty) × AreLookups index.tables index.lookups };
 }
 
 impl<'a, S: CellSet> Index<'a, S> {
@@ -54,23 +52,12 @@ impl<'a, S: CellSet> Index<'a, S> {
         let arena = Arena::with_lines(alloc, board.shape(), patterns)?;
         let trap = Rows::new(alloc, board.shape())?;
         let tables = Tables::build(alloc, board, arena, trap)?;
-        let Ok(lookups) = fill(alloc, &tables) else {
+        let Ok(lookups) = Lookups::new(alloc, &tables) else {
             drop(tables);
             return Err(AllocError);
         };
         Ok(Index { tables, lookups })
     }
-}
-
-// Returns what lookups of any state need.
-fn fill<S: CellSet>(alloc: Global, tables: &Tables<S>) -> Result<Lookups, AllocError>
-    requires { AreTables tables.now }
-    ensures are { IfOk result (AreLookups tables.now) }
-    ensures grown { IfOk result (λ l. 0 < length l.tree.nodes.items) }
-{
-    let mut lookups = Lookups::new(alloc, tables)?;
-    lookups.grow(alloc, tables)?;
-    Ok(lookups)
 }
 
 impl<S: CellSet> Coverage<S> for Index<'_, S> {

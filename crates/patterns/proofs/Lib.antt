@@ -4,9 +4,8 @@ pub mod GroupPushes
 pub mod FirstLeft
 pub mod Grouped
 pub mod Grouping
-pub mod Spanning
 pub mod Spans
-pub mod Hits
+pub mod KeptRows
 pub mod ListedRegions
 pub mod Lists
 pub mod InBuckets

@@ -1,14 +1,18 @@
 -- Cells in one piece. The room of a board is in one piece. Cells in one piece stay so without one of them, if the free neighbours of that
 -- cell are joined without it: a chain through the cell comes from one of them and goes on to another. A free corner joins the two
 -- neighbours beside it, so all four are joined if each but one is joined to the next.
-use Rattle.std.{proofs.Common.◌≡◌, proofs.Common.refl, proofs.Common.sym, proofs.Common.◌∙◌, proofs.Common.ap, proofs.Common.subst, specs.Prelude.◌↔◌}
+use Rattle.std.{proofs.Common.◌≡◌, proofs.Common.false, proofs.Common.refl, proofs.Common.sym, proofs.Common.◌∙◌, proofs.Common.ap, proofs.Common.subst, proofs.Common.arith, proofs.lemmas.Bool.false≢true, specs.Prelude.◌↔◌}
 use Rattle.cellset.specs.{Shape.Extent, Cell.IsOn, Cell.neighbor, Cell.opposite, CellSet.Has, declared.cell.Cell.Cell, declared.dir.Dir.Dir}
 use Rattle.cellset.specs.declared.dir.Dir.TheVariants.{L, U, R, D}
-use Rattle.cellset.proofs.{Members.same_or_other, Neighbors.neighbor_back}
+use Rattle.cellset.proofs.{Members.same, Members.same_itself, Members.same_or_other, Neighbors.neighbor_back}
 use Rattle.reach.specs.{Region.Joined, Region.at_seed, Region.beside, Reached.Reached, Reached.WalksTo}
 use Rattle.reach.proofs.Instances.{joined_is, walked_more}
 use Rattle.board.specs.{Game.Level, Game.IsFloor, Board.IsWellFormed}
-use Rattle.patterns.{specs.Around.AreSidesJoined, specs.Around.IsOnePiece, proofs.Spanning.other_cell}
+use Rattle.patterns.specs.Around.{AreSidesJoined, IsOnePiece}
+
+-- Cells that don't compare equal are two cells.
+pub other_cell : (a b : Cell) → same a b ≡ false → a ≡ b → ⊥
+other_cell a b other e = grind (arith, false≢true, same_itself)
 
 -- If the neighbour in the first direction is free, so are the neighbour in the second one and the corner between them.
 abbrev pub IsLinked : (Cell → Type 0) → Cell → Dir → Dir → Type 0

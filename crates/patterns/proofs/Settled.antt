@@ -6,16 +6,16 @@
 -- either the pattern lacks the box, or the push is one out of the pattern, and the boxes after that one are among the boxes after this
 -- (`subsumed_push`). A pattern that has a box on the cell ahead, and whose other boxes are there, decides by the side from which the box comes
 -- (`ahead_decides`).
-use Rattle.std.proofs.Common.{◌≡◌, [], List, arith}
+use Rattle.std.proofs.Common.{◌≡◌, List, arith}
 use Rattle.std.{specs.Prelude.◌↔◌, specs.Prelude.◌⊎◌, specs.List.Contains}
-use Rattle.cellset.specs.{Cell.neighbor, Cell.opposite, CellSet.Cells, CellSet.CellsOn, CellSet.Has, CellSet.Lacks, declared.cell.Cell.Cell}
+use Rattle.cellset.specs.{Cell.neighbor, Cell.opposite, CellSet.Cells, CellSet.CellsOn, CellSet.Has, CellSet.Lacks, declared.cell.Cell.Cell, declared.dir.Dir.Dir}
 use Rattle.cellset.proofs.{Members.has_insert, Members.has_or_lacks, Members.has_remove, Members.inserted, Members.kept_by_insert, Members.kept_by_remove, Members.not_both, Neighbors.neighbor_back, Truth.either}
 use Rattle.reach.specs.{Region.IsFree, Region.Joined, Region.at_seed, Region.beside, declared.pushes.Push.Push}
 use Rattle.board.specs.{Game.IsFloor, Game.Level, Game.State, Board.IsWellFormed}
 use Rattle.certificates.specs.Pattern.{Pattern, Covers, InPatternRegion, IsCovered, PushesOut, CoversPushesOf}
-use Rattle.patterns.specs.{GroupPushes.IsStepBack, Hits.AreHits, Piece.AreInPiece, Piece.IsFreeOf, Place.AreCoveredAlike, Run.state_after, declared.tree.Hit.Hit}
+use Rattle.patterns.specs.{GroupPushes.IsStepBack, Piece.AreInPiece, Piece.IsFreeOf, Place.AreCoveredAlike, Run.state_after}
 use Rattle.certificates.proofs.RegionCells.{region_lacks}
-use Rattle.patterns.proofs.{Hits.step_decides, Moves.IsWithin, Moves.lacks_within, Moves.moved_beside, Moves.moved_within, Pieces.joined_back, Pieces.joined_free}
+use Rattle.patterns.proofs.{Moves.IsWithin, Moves.lacks_within, Moves.moved_beside, Moves.moved_within, Pieces.joined_back}
 
 -- A push of one of the boxes, which are on floor, to a cell of the floor without one.
 pub record IsMove (level : Level) (boxes : Cells) (push : Push) : Type 0 where
@@ -41,6 +41,15 @@ pub region_free : (level : Level) (pattern : Pattern) (c : Cell) → InPatternRe
 region_free level pattern c (at_seed seed free) = free
 region_free level pattern c (beside d before free) = free
 
+-- A step between free cells of a grid leads back, so a region that has the one cell has the other.
+step_decides : (level : Level) (pattern : Pattern) (c : Cell) (d : Dir) → IsFree level.shape level.walls pattern.boxes c →
+    IsFree level.shape level.walls pattern.boxes (neighbor c d) → InPatternRegion level pattern c ↔ InPatternRegion level pattern (neighbor c d)
+step_decides level pattern c d here there =
+    let back : neighbor (neighbor c d) (opposite d) ≡ c = neighbor_back c d here.on.top here.on.left in (
+      λ inside. beside d inside there,
+      λ inside. rw back at (beside (opposite d) inside (rw back here)),
+    )
+
 -- ---- players of one piece
 module _ (level : Level) (formed : IsWellFormed level) (boxes : Cells) (free : CellsOn) (is : IsFreeOf level boxes free) where
   pub alike : (p q : Cell) → Joined (Has free.members) (λ seed. seed ≡ p) q → AreCoveredAlike level boxes p q
@@ -61,22 +70,6 @@ module _ (level : Level) (formed : IsWellFormed level) (boxes : Cells) (free : C
     -- Pushes by players in a piece.
     pub all_in_piece : (pushes : List Push) → ((push : Push) → Contains pushes push → Part push.player) → AreInPiece level boxes player pushes
     all_in_piece pushes part = search (alike, alike_back)
-
-    -- If a piece has the player and the root, the player's path meets no box that matters.
-    pub rooted_hits : Part level.player → AreHits level boxes player level.player []
-    rooted_hits part pattern within lacks =
-        let chain = piece level.player part in record {
-          free = λ _. lacks_within pattern.boxes boxes level.player within ((is.members level.player).0 (joined_free (Has free.members) (λ seed. seed ≡ player) level.player chain)).1;
-          passed = λ _. (
-            λ inside. (alike player level.player chain pattern (record { boxes = within; player = inside })).player,
-            λ inside. (alike_back player level.player chain pattern (record { boxes = within; player = inside })).player,
-          );
-          first = λ i m lt. absurd (omega arith);
-        }
-
--- A player on the root has a path without hits.
-pub root_hits : (level : Level) (boxes : Cells) (player : Cell) (hits : List Hit) → player ≡ level.player → hits ≡ [] → AreHits level boxes player level.player hits
-root_hits level boxes player hits at none pattern within lacks = grind arith
 
 module _ (level : Level) (boxes : Cells) (push : Push) (is : IsMove level boxes push) where
   -- ---- the player before the push

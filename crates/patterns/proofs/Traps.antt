@@ -14,7 +14,7 @@ use Rattle.certificates.proofs.Sets.{other_member, other_where}
 use Rattle.certificates.specs.Pattern.{Pattern, InPatternRegion, IsCovered, PushesOut, after_push}
 use Rattle.patterns.specs.Trap.{AreOff, IsTrapOf, single}
 use Rattle.certificates.proofs.RegionCells.{region_on, room_outside}
-use Rattle.patterns.proofs.Spanning.{other_cell}
+use Rattle.patterns.proofs.Pieces.{other_cell}
 
 -- No box is on a trap without cells.
 pub none_off : (trap : Cells) → trap ≡ set.empty → (boxes : List Cell) → AreOff trap boxes

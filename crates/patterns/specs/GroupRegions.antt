@@ -1,22 +1,22 @@
--- What is kept of the regions of groups: on which sides of each box they lie, whether they have the root of the tree, and whether they
--- are surely all of the room but the boxes. Nothing is kept of trapped groups.
-use Rattle.std.specs.Prelude.{◌≡◌, ◌↔◌, ℕ, ◌+◌, ◌<◌, false, IsTrue, List, length, slice_index_or}
+-- What is kept of the regions of groups: their rows, and on which sides of each box they lie. Nothing is kept of trapped groups.
+use Rattle.std.specs.Prelude.{◌≡◌, ◌↔◌, ℕ, ◌+◌, ◌<◌, false, List, length, slice_index_or}
 use Rattle.cellset.specs.{CellSet.Cells, CellSet.Has, CellSet.Lacks, declared.cell.Cell.Cell}
 use Rattle.board.specs.Game.{Level}
 use Rattle.certificates.specs.CellLists.{cell_no, cells_in}
 use Rattle.certificates.specs.Pattern.{InPatternRegion}
-use Rattle.patterns.specs.{Sides.IsAround, Trap.AreOff, declared.group_regions.Region.Region}
+use Rattle.patterns.specs.{Kept.AreKept, Kept.IsThere, Kept.KeptHas, Sides.IsAround, Trap.AreOff, declared.kept.Kept.Kept, declared.kept.Region.Region}
 use Rattle.patterns.specs.{declared.group_regions.Regions.Regions, declared.groups.Groups.Groups, Spans.span_at, declared.sides.Sides.Sides}
 use Rattle.patterns.specs.Groups.{boxes_of, position_at}
 
 abbrev pub no_sides : Sides
 no_sides = record { left = false; up = false; right = false; down = false }
 
--- what is kept of the region of a group's position besides its sides: whether it has the root of the tree, unless the group is trapped,
--- and whether it is surely all of the room but the boxes
-pub record IsRegionAt (level : Level) (trap : Cells) (groups : Groups) (g : ℕ) (region : Region) : Type 0 where
-  pub root_in : AreOff trap (boxes_of groups g) → IsTrue region.has_root ↔ InPatternRegion level (position_at level groups g) level.player
-  pub all : IsTrue region.whole → (c : Cell) → Has level.room c → Lacks (cells_in (boxes_of groups g)) c → InPatternRegion level (position_at level groups g) c
+-- the rows that are kept of a group say of each cell of the room but its boxes whether it is in the region of its position, unless the group
+-- is trapped
+pub record IsRegionAt (level : Level) (trap : Cells) (groups : Groups) (kept : Kept) (g : ℕ) (region : Region) : Type 0 where
+  pub there : IsThere kept region
+  pub says : AreOff trap (boxes_of groups g) → (c : Cell) → Has level.room c → Lacks (cells_in (boxes_of groups g)) c
+      → KeptHas kept region c ↔ InPatternRegion level (position_at level groups g) c
 
 -- the entries of a group's boxes say on which sides of them the region of its position lies, unless the group is trapped
 abbrev pub AreSidesAt : Level → Cells → Groups → ℕ → List Sides → Type 0
@@ -26,7 +26,8 @@ AreSidesAt level trap groups g sides =
 
 -- what is kept of the region of each group's position, with an entry for each box in the vector of all boxes
 pub record AreRegions (level : Level) (trap : Cells) (groups : Groups) (regions : Regions) : Type 0 where
+  pub kept : AreKept level.shape regions.kept
   pub long : length regions.sides.items ≡ length groups.arena.boxes.items
   pub count : length regions.of.items ≡ length groups.spans.items
   pub sides : (g : ℕ) → g < length groups.spans.items → AreSidesAt level trap groups g regions.sides.items
-  pub each : (g : ℕ) (r : Region) → g < length groups.spans.items → IsRegionAt level trap groups g (slice_index_or regions.of.items g r)
+  pub each : (g : ℕ) (r : Region) → g < length groups.spans.items → IsRegionAt level trap groups regions.kept g (slice_index_or regions.of.items g r)

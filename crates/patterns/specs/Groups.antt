@@ -6,7 +6,7 @@ use Rattle.board.specs.Game.{Level}
 use Rattle.certificates.specs.CellLists.{cells_in}
 use Rattle.certificates.specs.Pattern.{Pattern, Seeds, whole_room, listed, seed_cells}
 use Rattle.patterns.specs.Chains.{AreChains}
-use Rattle.patterns.specs.{declared.group_regions.Region.Region, declared.groups.Groups.Groups, Arena.boxes_at, Arena.line_at, Arena.list_in, Arena.pattern_at}
+use Rattle.patterns.specs.{declared.groups.Groups.Groups, Arena.boxes_at, Arena.line_at, Arena.list_in, Arena.pattern_at}
 use Rattle.patterns.specs.{Spans.AreSpans, Spans.part, Spans.span_at, declared.arena.Arena.Arena, declared.arena.Span.Span}
 
 -- `of` has the group of each of the first n lines, and `spans` the boxes of each group, which are the boxes of one of these lines

@@ -6,11 +6,10 @@ pub mod Buckets
 pub mod GroupPushes
 pub mod GroupRegions
 pub mod Groups
-pub mod Hits
+pub mod Kept
 pub mod Lookups
 pub mod Piece
 pub mod Place
-pub mod SpanningTree
 pub mod Search
 pub mod Settling
 pub mod Tables

@@ -1,21 +1,19 @@
 -- What lookups rely on, and what they find.
-use Rattle.std.specs.Prelude.{◌≡◌, ◌⊎◌, ℕ, ◌<◌, ◌≤◌, IsTrue, List, length, vec_capacity}
+use Rattle.std.specs.Prelude.{◌≡◌, ◌⊎◌, ℕ, IsTrue, List}
 use Rattle.std.specs.List.{Contains}
 use Rattle.cellset.specs.CellSet.{Has}
 use Rattle.reach.specs.declared.pushes.Push.{Push}
 use Rattle.board.specs.Game.{Level}
 use Rattle.certificates.specs.CellLists.{cells_in}
 use Rattle.certificates.specs.Pattern.{IsCovered, PushesOut, after_push}
-use Rattle.patterns.specs.{Around.IsOnePiece, Buckets.AreBuckets, Place.IsPlace, Piece.IsFreeOf, Settling.IsSettling, SpanningTree.IsTree}
+use Rattle.patterns.specs.{Around.IsOnePiece, Buckets.AreBuckets, Place.IsPlace, Piece.IsFreeOf, Settling.IsSettling}
 use Rattle.patterns.specs.{Groups.list_of, Groups.position_at, declared.groups.Groups.Groups}
 use Rattle.patterns.specs.{declared.lookups.Lookups.Lookups, declared.tables.Tables.Tables, declared.task.Task.Task}
 
--- The buckets are those of the tables, and the scratch memory is on the grid. If the tree was grown, it spans the room, and there is capacity for
--- the hits of any path.
+-- the buckets are those of the tables, and the scratch memory is on the grid
 pub record AreLookups {S : Type 0} (tables : Tables S) (lookups : Lookups) : Type 0 where
   pub buckets : AreBuckets tables.board.now tables.groups lookups.buckets
   pub place : IsPlace tables.board.now lookups.place
-  pub grown : 0 < length lookups.tree.nodes.items → IsTree tables.board.now lookups.tree × (length lookups.tree.nodes.items ≤ vec_capacity lookups.place.hits)
   pub free : lookups.flood.free.extent ≡ tables.board.now.shape
   pub region : lookups.flood.region.extent ≡ tables.board.now.shape
 

@@ -1,10 +1,10 @@
--- A player among boxes, and whether it is in regions of groups.
+-- A player among boxes.
 use Rattle.std.specs.Prelude.{◌≡◌, ℕ, ◌<◌, length}
 use Rattle.cellset.specs.{CellSet.Cells, CellSet.Has, declared.cell.Cell.Cell}
 use Rattle.board.specs.Game.{Level, State}
 use Rattle.certificates.specs.CellLists.{cells_in}
 use Rattle.certificates.specs.Pattern.{Covers, Pattern}
-use Rattle.patterns.specs.{Groups.boxes_of, declared.groups.Groups.Groups, Hits.AreHits, declared.place.Place.Place}
+use Rattle.patterns.specs.{Groups.boxes_of, declared.groups.Groups.Groups, declared.place.Place.Place}
 
 -- a group whose boxes are among these
 pub record IsSubset (groups : Groups) (boxes : Cells) (g : ℕ) : Type 0 where
@@ -20,8 +20,7 @@ AreCoveredAlike level boxes p q =
 abbrev pub state_at : Place → State
 state_at place = record { player = place.player; boxes = place.boxes.members }
 
--- the place is on the board, and the hits are those of the player
+-- the place is on the board
 pub record IsPlace (level : Level) (place : Place) : Type 0 where
   pub extent : place.boxes.extent ≡ level.shape
   pub room : Has level.room place.player
-  pub hits : AreHits level place.boxes.members place.player level.player place.hits.items

@@ -1,8 +1,8 @@
-//! The regions of the groups. No region is kept, only on which sides of the boxes it lies and whether it has the root of the tree.
+//! The regions of the groups.
 //!
 //! For each group one flood of the room without its boxes finds its region. If the boxes part nothing, or a line says `*`, the region is
-//! all that is free, and nothing is flooded.
-ghost use Rattle.std.specs.Prelude.{◌≡◌, ◌+◌, ◌<◌, ◌≤◌, ◌↔◌, ◌⊎◌, ℕ, length, slice_index_or, IfOk, IsTrue, MatchBool};
+//! all that is free, and nothing is flooded. The rows of the region are kept (`kept`), and on which sides of the boxes it lies.
+ghost use Rattle.std.specs.Prelude.{◌≡◌, ◌+◌, ◌++◌, ◌<◌, ◌≤◌, ◌↔◌, ◌⊎◌, ℕ, List, length, slice_index_or, IfOk, IsTrue, MatchBool, OnOk};
 ghost use Rattle.std.specs.FinSet as set;
 ghost use Rattle.cellset.specs.{Cell.IsOn, CellSet.Has, CellSet.Lacks, declared.cell.Cell.Cell as GridCell};
 ghost use Rattle.certificates.specs.CellLists.{cell_no, cells_in};
@@ -13,10 +13,12 @@ ghost use Rattle.board.specs.{Board.IsWellFormed, Game.Level};
 ghost use Rattle.certificates.specs.Pattern.{InPatternRegion, IsLawful};
 ghost use Rattle.patterns.specs.{Arena.pattern_in, Piece.InPiece, Piece.IsFreeOf};
 ghost use Rattle.patterns.specs.Groups.{HasSeedsFrom, HasSeedsOnly, HasStar, IsGrouped, list_of};
+ghost use Rattle.patterns.specs.Kept.{AreKept, IsThere, KeptHas};
 ghost use Rattle.patterns.specs.Sides.{IsAround};
 
 use crate::arena::CellPattern;
 use crate::groups::Groups;
+use crate::kept::{Kept, Region, no_rows};
 use crate::sides::Sides;
 use crate::trap::is_trapped;
 use board::Board;
@@ -25,19 +27,13 @@ use reach::Rows;
 use reach::step::ByWalk;
 use std::alloc::{AllocError, Global};
 
-/// What is kept of the regions of all groups.
+/// The regions of all groups.
 #[derive(Debug, Drop)]
 pub struct Regions {
     /// By box in the vector of all boxes: on which sides of it the region of its group lies.
     pub sides: Vec<Sides>,
     pub of: Vec<Region>,
-}
-
-/// Whether the region of a group has the root. If `whole` holds, it is all of the room but the boxes.
-#[derive(Clone, Copy, Debug, PartialEq, Eq)]
-pub struct Region {
-    pub has_root: bool,
-    pub whole: bool,
+    pub kept: Kept,
 }
 
 /// The rows of a flood: the free cells and the region. If `whole` holds, the free cells are in one piece.
@@ -63,25 +59,22 @@ pub(crate) fn find_regions<S: CellSet>(
     let trapless = trap.is_empty();
     let mut sides = vec![in alloc; Sides::default(); groups.arena.boxes.len()]?;
     let mut of = Vec::with_capacity(alloc, groups.spans.len())?;
+    let mut kept = Kept::new(alloc, board.shape());
     let mut flood = Flood::new(alloc, board.shape())?;
     for group in 0..groups.spans.len() {
         let boxes = groups.boxes(group);
         if !trapless && is_trapped(boxes, trap) {
-            of.push_reserved(Region {
-                has_root: false,
-                whole: false,
-            });
+            of.push_reserved(no_rows(true));
             continue;
         }
         flood.take_out(room, boxes);
         let whole = flood.find_region(groups, group);
         let region = flood.found(whole);
         note_sides(region, boxes, groups.spans[group].from as usize, &mut sides);
-        let has_root = region.has(board.player());
-        of.push_reserved(Region { has_root, whole });
+        of.push_reserved(flood.keep(whole, &mut kept)?);
     }
     drop(flood);
-    Ok(Regions { sides, of })
+    Ok(Regions { sides, of, kept })
 }
 
 impl Flood {
@@ -198,6 +191,24 @@ impl Flood {
                 false
             }
         }
+    }
+
+    // Keeps the region that was found: all that is free, or the rows of the region. What is free is lost.
+    fn keep(&mut self, whole: bool, kept: &mut Kept) -> Result<Region, AllocError>
+        requires kept { AreKept self.old.free.extent kept.old }
+        requires region { self.old.region.extent ≡ self.old.free.extent }
+        ensures extent { self.new.free.extent ≡ self.old.free.extent }
+        ensures region { self.new.region ≡ self.old.region }
+        ensures kept { OnOk result (AreKept self.old.free.extent kept.new) }
+        ensures grown { OnOk result ((more : List ℕ) × (kept.new.words.items ≡ kept.old.words.items ++ more)) }
+        ensures there { IfOk result (IsThere kept.new) }
+        ensures exact { IfOk result (λ r. (c : GridCell) → Has self.old.free.members c → IsOn self.old.free.extent c
+            → MatchBool whole (KeptHas kept.new r c) (KeptHas kept.new r c ↔ Has self.old.region.members c)) }
+    {
+        if whole {
+            return Ok(no_rows(true));
+        }
+        kept.keep(&self.region, &mut self.free)
     }
 
     /// Returns the region that was found: all that is free, or the rows of the region.

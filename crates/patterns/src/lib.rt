@@ -8,8 +8,8 @@
 //! - **Trap**: the cells of the lines of one box with `*` may be a trap, which no box leaves (`trap`). The list covers each state with a box
 //!   on it.
 //! - **Groups**: lines with the same boxes are one group, found by a hash (`groups`, `hints`, `chains`). One flood for each group off the trap
-//!   finds on which sides of its boxes its region lies, unless all that is free is in one piece or a line says `*` (`group_regions`,
-//!   `sides`). No region is kept. That makes the tables (`tables`).
+//!   finds its region, unless all that is free is in one piece or a line says `*` (`group_regions`). Its rows are kept (`kept`), so whether a
+//!   player is in it is one bit, and on which sides of the boxes it lies (`sides`). That makes the tables (`tables`).
 //! - **Pushes by hints** (`pushes`): if a push leads to the trap, it is covered. Otherwise a hash finds the group of just the boxes after the
 //!   push, and one side of the pushed box decides. Groups of which all pushes are settled are noted as covered. Most lists end here.
 //! - **Pushes by lookups** (`settling`, `unsettled`), for a group that isn't noted. Its pushes are open, and other groups settle them. A group
@@ -21,10 +21,9 @@
 //!   settled the last piece, the groups found so far whose boxes are all there, and the groups in the buckets of the cells ahead and of the
 //!   boxes, until nothing is open in the piece. Each group is in the bucket of one of its boxes, the smallest one when it came.
 //! - **States** (`lookups`): a group that covers a state is in the bucket of one of the state's boxes.
-//! - **Where a player is** (`place`, `tree`): a region has the player if it is whole. Otherwise the first box of the group on the player's
-//!   path to the root of a spanning tree decides, by the side on which the path meets it. The tree is grown when it is first needed.
 //!
-//! In the worst case each group is looked at once for each group, and once more for each piece if its boxes are all there.
+//! In the worst case each group is looked at once for each group, and once more for each piece if its boxes are all there. A region takes at
+//! most 8 KB, on the largest board, so a list at most half a gigabyte.
 #![tactic(auto)]
 
 mod arena;
@@ -33,6 +32,7 @@ mod chains;
 mod group_regions;
 mod groups;
 mod hints;
+mod kept;
 mod lookups;
 mod place;
 mod pushes;
@@ -42,14 +42,14 @@ mod sides;
 mod tables;
 mod task;
 mod trap;
-mod tree;
 mod unsettled;
 
 pub use arena::{Arena, CellPattern, Span, StoredLine, part};
 pub use buckets::Buckets;
 pub use chains::Chains;
-pub use group_regions::{Flood, Region, Regions};
+pub use group_regions::{Flood, Regions};
 pub use groups::Groups;
+pub use kept::{Kept, Region};
 pub use lookups::Lookups;
 pub use place::Place;
 pub use pushes::note_hinted;
@@ -58,5 +58,4 @@ pub use sides::Sides;
 pub use tables::Tables;
 pub use task::Task;
 pub use trap::find_trap;
-pub use tree::{Hit, Node, Tree};
 pub use unsettled::{Ahead, Missing, Unsettled};

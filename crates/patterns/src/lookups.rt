@@ -1,5 +1,5 @@
 //! The memory for lookups, and whether a group covers a state.
-ghost use Rattle.std.specs.Prelude.{◌≡◌, ◌<◌, ◌↔◌, ℕ, IfOk, IsTrue, MatchBool, OnOk, length, slice_index};
+ghost use Rattle.std.specs.Prelude.{◌≡◌, ◌<◌, ◌↔◌, ℕ, IfOk, IsTrue, MatchBool, length, slice_index};
 ghost use Rattle.std.specs.FinSet as finset;
 ghost use Rattle.cellset.specs.{Cell.IsOn, SortedList.index};
 ghost use Rattle.certificates.specs.Pattern.{Covers, IsCovered};
@@ -9,22 +9,19 @@ ghost use Rattle.patterns.specs.{Tables.AreTables, Tables.GroupCovers, Place.sta
 
 use crate::buckets::{Buckets, fill_buckets};
 use crate::group_regions::Flood;
-use crate::place::{Place, list_hits};
+use crate::place::Place;
 use crate::search::Search;
 use crate::tables::Tables;
-use crate::tree::{Tree, grow_tree};
 use crate::unsettled::Unsettled;
 use cellset::{Cell, CellSet, MembersOf};
 use certificates::{are_in, is_among};
 use reach::{Push, Rows};
 use std::alloc::{AllocError, Global};
 
-/// The groups by one of their boxes, the tree of the room, and memory for the pushes of one group after another.
+/// The groups by one of their boxes, and memory for the pushes of one group after another.
 #[derive(Debug, Drop)]
 pub struct Lookups {
     pub buckets: Buckets,
-    /// The tree of the room, without nodes until it is needed.
-    pub tree: Tree,
     pub flood: Flood,
     pub place: Place,
     pub unsettled: Unsettled,
@@ -33,7 +30,7 @@ pub struct Lookups {
 }
 
 impl Lookups {
-    /// Returns what lookups in these tables need, but the tree.
+    /// Returns what lookups in these tables need.
     pub fn new<S: CellSet>(alloc: Global, tables: &Tables<S>) -> Result<Lookups, AllocError>
         requires { AreTables tables.now }
         ensures { IfOk result (AreLookups tables.now) }
@@ -42,13 +39,11 @@ impl Lookups {
         let place = Place {
             boxes: Rows::new(alloc, board.shape())?,
             player: board.player(),
-            hits: Vec::new(alloc),
         };
         let flood = Flood::new(alloc, board.shape())?;
         let buckets = fill_buckets(alloc, board, &tables.groups)?;
         Ok(Lookups {
             buckets,
-            tree: Tree::new(alloc),
             flood,
             place,
             unsettled: Unsettled {
@@ -66,31 +61,14 @@ impl Lookups {
         })
     }
 
-    /// Grows the tree, unless it is there. Then no path is longer than the memory for hits.
-    pub fn grow<S: CellSet>(&mut self, alloc: Global, tables: &Tables<S>) -> Result<(), AllocError>
-        requires are { AreLookups tables.now self.old }
-        ensures are { OnOk result (AreLookups tables.now self.new) }
-        ensures grown { OnOk result (0 < length self.new.tree.nodes.items) }
-        ensures same { (self.new.buckets ≡ self.old.buckets) × (self.new.flood ≡ self.old.flood) × (self.new.place.boxes ≡ self.old.place.boxes)
-            × (self.new.unsettled ≡ self.old.unsettled) × (self.new.left ≡ self.old.left) }
-    {
-        if self.tree.nodes.is_empty() {
-            self.tree = grow_tree(alloc, tables.board)?;
-            self.place.hits.reserve(self.tree.nodes.len())?;
-        }
-        Ok(())
-    }
-
     /// Returns whether some group covers the state. Allocates nothing.
     pub fn covers<S: CellSet>(&mut self, tables: &Tables<S>, player: Cell, boxes: &S) -> bool
         requires tables { AreTables tables.now }
         requires off { tables.now.trap.members ≡ finset.empty }
         requires are { AreLookups tables.now self.old }
-        requires grown { 0 < length self.old.tree.nodes.items }
         requires player { IsOn tables.now.board.now.shape player }
         requires boxes { S.extent boxes.now ≡ tables.now.board.now.shape }
         ensures are { AreLookups tables.now self.new }
-        ensures grown { 0 < length self.new.tree.nodes.items }
         ensures exact { IsTrue result ↔ IsCovered tables.now.board.now (list_of tables.now.groups)
             (record { player = player; boxes = S.members boxes.now }) }
     {
@@ -99,8 +77,6 @@ impl Lookups {
         }
         self.place.boxes.load(boxes);
         self.place.player = player;
-        let hits = &mut self.place.hits;
-        list_hits(tables.board, &self.tree, &self.place.boxes, player, hits);
         for cell in MembersOf::new(boxes) {
             if self.is_covered_in_bucket(tables, boxes, cell) {
                 return true;
@@ -151,6 +127,6 @@ impl Lookups {
         if is_among(kept, boxes, self.place.player) {
             return false;
         }
-        self.place.is_inside(tables, group)
+        tables.is_inside(group, self.place.player)
     }
 }

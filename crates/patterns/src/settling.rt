@@ -7,23 +7,23 @@ ghost use Rattle.certificates.specs.CellLists.{cells_in};
 ghost use Rattle.certificates.specs.Pattern.{CoversPushesOf, IsFirstUncovered};
 ghost use Rattle.patterns.specs.{Arena.pattern_at, Groups.boxes_of, Groups.list_of};
 ghost use Rattle.patterns.specs.{Buckets.AreBuckets, Lookups.AreLookups, Lookups.IsReady, Lookups.IsRest};
-ghost use Rattle.patterns.specs.{Hits.AreHits, Piece.AreInPiece, Piece.IsFreeOf, Search.IsSearched, Search.searches_left, Place.IsSubset, Tables.AreTables};
+ghost use Rattle.patterns.specs.{Piece.AreInPiece, Piece.IsFreeOf, Search.IsSearched, Search.searches_left, Place.IsSubset, Tables.AreTables};
 ghost use Rattle.patterns.specs.Settling.{AreOpen, CoversNone, HasAsked, IsOnward, IsPlaceOf, IsPushOut, IsSettled, IsSettling, IsTask};
 
 use crate::buckets::Buckets;
 use crate::hints::{TRIES, hash_of, hash_with, hash_without};
 use crate::lookups::Lookups;
-use crate::place::{Place, list_hits};
+use crate::place::Place;
 use crate::tables::Tables;
 use crate::task::Task;
 use crate::unsettled::Unsettled;
 use cellset::{Cell, CellSet, Dir};
 use reach::{Push, Rows};
-use std::alloc::{AllocError, Global};
+use std::alloc::AllocError;
 
 impl Lookups {
     /// Finds the pushes out of a group whose results no group covers, piece by piece of the room less its boxes.
-    pub fn settle<S: CellSet>(&mut self, alloc: Global, task: &Task<S>) -> Result<(), AllocError>
+    pub fn settle<S: CellSet>(&mut self, task: &Task<S>) -> Result<(), AllocError>
         requires task { IsTask task.now }
         requires are { AreLookups task.now.tables.now self.old }
         ensures are { OnOk result (AreLookups task.now.tables.now self.new) }
@@ -31,7 +31,7 @@ impl Lookups {
         ensures rest { OnOk result (IsRest task.now.tables.now.board.now task.now.tables.now.groups task.now.group self.new.left.items) }
     {
         self.begin(task)?;
-        while self.enter(alloc, task)? {
+        while self.enter(task)? {
             self.unsettled
                 .settle_here(task, &self.place, &self.buckets)?;
             self.left.extend_from_slice(&self.unsettled.here)?;
@@ -49,7 +49,6 @@ impl Lookups {
     {
         self.left.clear();
         self.place.player = task.tables.board.player();
-        self.place.hits.clear();
         load_rows(task.boxes, &mut self.place.boxes);
         self.flood
             .take_out(task.tables.board.room_rows(), task.boxes);
@@ -59,7 +58,7 @@ impl Lookups {
     }
 
     // Enters the piece of the player of an open push. Returns false if none is open.
-    fn enter<S: CellSet>(&mut self, alloc: Global, task: &Task<S>) -> Result<bool, AllocError>
+    fn enter<S: CellSet>(&mut self, task: &Task<S>) -> Result<bool, AllocError>
         requires task { IsTask task.now }
         requires ready { IsReady task.now self.old }
         ensures ready { OnOk result (IsReady task.now self.new) }
@@ -77,37 +76,8 @@ impl Lookups {
         let player = self.unsettled.away[0].player;
         self.flood.find_piece(player);
         self.unsettled.enter(&self.flood)?;
-        let rooted = self.flood.in_piece(task.tables.board.player());
-        self.stand(alloc, task.tables, player, rooted)?;
-        Ok(true)
-    }
-
-    // Takes a player for the one at hand. Grows the tree, unless the player's piece has the root.
-    fn stand<S: CellSet>(
-        &mut self,
-        alloc: Global,
-        tables: &Tables<S>,
-        player: Cell,
-        rooted: bool,
-    ) -> Result<(), AllocError>
-        requires are { AreLookups tables.now self.old }
-        requires player { Has tables.now.board.now.room player }
-        requires rooted { IsTrue rooted → AreHits tables.now.board.now self.old.place.boxes.members player tables.now.board.now.player [] }
-        ensures are { OnOk result (AreLookups tables.now self.new) }
-        ensures player { OnOk result (self.new.place.player ≡ player) }
-        ensures same { (self.new.buckets ≡ self.old.buckets) × (self.new.flood ≡ self.old.flood) × (self.new.place.boxes ≡ self.old.place.boxes)
-            × (self.new.unsettled ≡ self.old.unsettled) × (self.new.left ≡ self.old.left) }
-    {
-        if rooted {
-            self.place.hits.clear();
-            self.place.player = player;
-            return Ok(());
-        }
-        self.grow(alloc, tables)?;
-        let hits = &mut self.place.hits;
-        list_hits(tables.board, &self.tree, &self.place.boxes, player, hits);
         self.place.player = player;
-        Ok(())
+        Ok(true)
     }
 
     /// Returns the first push out of a line of the group among those that are left.

@@ -98,23 +98,15 @@ impl<'a, S: CellSet> Tables<'a, S> {
         self.regions.sides[self.groups.spans[group].from as usize + number]
     }
 
-    /// Returns whether the region of a group has the root of the tree.
-    pub fn has_root(&self, group: usize) -> bool
+    /// Returns whether a cell of the room that is no box of a group is in its region.
+    pub fn is_inside(&self, group: usize, cell: Cell) -> bool
         requires tables { AreTables self.now }
         requires group { group < length self.now.groups.spans.items }
         requires off { AreOff self.now.trap.members (boxes_of self.now.groups group) }
-        ensures { IsTrue result ↔ InPatternRegion self.now.board.now (position_at self.now.board.now self.now.groups group) self.now.board.now.player }
+        requires room { Has self.now.board.now.room cell }
+        requires outside { Lacks (cells_in (boxes_of self.now.groups group)) cell }
+        ensures { IsTrue result ↔ InPatternRegion self.now.board.now (position_at self.now.board.now self.now.groups group) cell }
     {
-        self.regions.of[group].has_root
-    }
-
-    /// Returns true only if the region of a group is all of the room but the boxes.
-    pub fn is_whole(&self, group: usize) -> bool
-        requires tables { AreTables self.now }
-        requires group { group < length self.now.groups.spans.items }
-        ensures { IsTrue result → (c : GridCell) → Has self.now.board.now.room c → Lacks (cells_in (boxes_of self.now.groups group)) c
-            → InPatternRegion self.now.board.now (position_at self.now.board.now self.now.groups group) c }
-    {
-        self.regions.of[group].whole
+        self.regions.kept.has(self.regions.of[group], cell)
     }
 }

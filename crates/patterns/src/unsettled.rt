@@ -183,7 +183,7 @@ impl Unsettled {
         if self.here.is_empty() {
             return;
         }
-        if !place.is_inside(task.tables, group) {
+        if !task.tables.is_inside(group, place.player) {
             return;
         }
         if task.covered[group] {

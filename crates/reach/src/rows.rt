@@ -2,7 +2,7 @@
 //!
 //! With four words always, audits of narrow boards take 1.2 to 1.8 times the instructions, and `make` twice as many. A board of more than
 //! 63 columns gains nothing.
-ghost use Rattle.std.specs.Prelude.{◌≡◌, ◌↔◌, ◌⊎◌, ◌*◌, ◌<◌, ◌≤◌, IfOk, OnOk, OnErr, IsTrue, MatchBool, true, false};
+ghost use Rattle.std.specs.Prelude.{◌≡◌, ◌↔◌, ◌⊎◌, ◌*◌, ◌+◌, ◌<◌, ◌≤◌, IfOk, OnOk, OnErr, IsTrue, MatchBool, true, false};
 ghost use Rattle.std.specs.FinSet as set;
 ghost use Rattle.cellset.specs.Cell.{IsOn};
 ghost use Rattle.cellset.specs.CellSet.{Has, Lacks};
@@ -14,7 +14,8 @@ ghost use Rattle.reach.specs.Rings.{IsRing};
 ghost use Rattle.reach.specs.RowSet.{AreRowsQueued};
 
 use crate::bit_rows::{
-    are_empty, clear, complement, empty, has, is_at_edge, load, occupied, renew, store, subtract,
+    are_empty, clear, complement, empty, has, is_at_edge, load, occupied, renew, span, store,
+    subtract,
 };
 use crate::columns::{columns, insert, remove};
 use crate::grow::grow;
@@ -158,6 +159,14 @@ impl Rows {
         ensures { MatchBool result (self.now.members ≡ set.empty) ((c : GridCell) × Has self.now.members c) }
     {
         by_width!(&self.rows, rows => are_empty(rows))
+    }
+
+    /// Returns the first row that has a cell, and how many rows there are from it to the last one that has. If no row has a cell, there are none.
+    pub fn span(&self) -> (usize, usize)
+        ensures within { result.0 + result.1 ≤ self.now.extent.height + 1 }
+        ensures cells { (c : GridCell) → Has self.now.members c → (result.0 ≤ c.row) × (c.row < result.0 + result.1) }
+    {
+        by_width!(&self.rows, rows => span(rows))
     }
 
     /// Returns whether a cell lies in the first or last row or column of the grid.

@@ -1,7 +1,9 @@
--- A group whose boxes are all there at the start covers it exactly if its region has the root, which is the player's cell.
+-- A group whose boxes are all there at the start covers it exactly if its region has the player's cell.
 use Rattle.std.proofs.{Common.◌<◌, Common.length, Common.refl, Common.arith, lemmas.Bool.false≢true}
 use Rattle.board.specs.Game.{start}
-use Rattle.patterns.{specs.Groups.list_of}
+use Rattle.cellset.proofs.Members.{lacks_where, not_both}
+use Rattle.certificates.specs.CellLists.{cells_in}
+use Rattle.patterns.specs.Groups.{boxes_of, list_of}
 use Rattle.patterns.proofs.{Grouped.boxes_on, Grouped.covered_of_group, InBuckets.no_group_covers, Traps.start_trapped}
 use Rattle.closure.proofs.checking.is_start_covered.Goals.{After-boxes-boxes}
 use Rattle.closure.proofs.checking.is_start_covered.Goals as goal
@@ -23,13 +25,29 @@ are_in-requires g c = λ q has.
     rw c.boxes-start.ensures.extent (boxes_on c.args.tables.now.board.now c.args.tables.now.groups c.requires.lawful c.requires.grouped
     c.loop-group.group (within g (goal.at.are_in-requires g c).After-boxes-boxes) c.boxes-boxes.result.now c.boxes-boxes.ensures q has)
 
-pub returns-then-has_root : goal.returns-then-has_root
-returns-then-has_root g c = (
+pub is_inside-requires : goal.is_inside-requires
+is_inside-requires g c =
+    let tables = c.args.tables.now in
+    let boxes = c.if-not-are_in.ensures in
+    let start = c.boxes-start.ensures.members in
+    let own = c.boxes-boxes.ensures in
+    let formed = c.requires.formed in
+    record {
+      tables = c.requires;
+      group = within g (goal.at.is_inside-requires g c).After-boxes-boxes;
+      off = λ q has. c.if-meets.ensures q (boxes q (rw own has));
+      room = rw c.player.ensures.value formed.here;
+      outside = rw c.player.ensures.value (lacks_where (cells_in (boxes_of tables.groups c.loop-group.group)) tables.board.now.player
+          (λ on. not_both tables.board.now.boxes tables.board.now.player (rw start at (boxes tables.board.now.player (rw own on))) formed.apart));
+    }
+
+pub returns-then-is_inside : goal.returns-then-is_inside
+returns-then-is_inside g c = (
   λ _.
       let level = c.args.tables.now.board.now in
       let groups = c.args.tables.now.groups in
       covered_of_group level groups c.requires.grouped (start level) c.loop-group.group
-      (record { boxes = rw (c.boxes-start.ensures.members, c.boxes-boxes.ensures) at c.if-not-are_in.ensures; player = c.if-has_root.ensures.0 refl }),
+      (record { boxes = rw (c.boxes-start.ensures.members, c.boxes-boxes.ensures) at c.if-not-are_in.ensures; player = rw c.player.ensures.value at (c.if-is_inside.ensures.0 refl) }),
   λ _. refl,
 )
 

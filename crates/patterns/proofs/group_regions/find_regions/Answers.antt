@@ -3,8 +3,8 @@
 -- piece at first (`Pieces.antt`). The flood finds the region of the group's position (`reached_position` in `Grouped.antt`). The boxes of a
 -- group come after the boxes of earlier groups, so their sides stay when its own are noted.
 use Rattle.std.proofs.Common.{◌≡◌, ℕ, ◌+◌, ◌<◌, List, [], ◌∷◌, ◌++◌, length, get_or, sym, ◌∙◌, ap, subst, arith}
-use Rattle.std.proofs.lemmas.{List.length-drop, List.length-take, Bool.false≢true}
-use Rattle.std.specs.Prelude.{◌↔◌, Bool, IsTrue, MatchBool, false, true}
+use Rattle.std.proofs.lemmas.{List.length-drop, List.length-take}
+use Rattle.std.specs.Prelude.{◌↔◌, Bool, MatchBool, false, true}
 use Rattle.std.proofs.lemmas.List.{get_or_default}
 use Rattle.cellset.specs.{Cell.neighbor, CellSet.Cells, CellSet.Has, CellSet.Lacks, declared.cell.Cell.Cell}
 use Rattle.cellset.proofs.{Members.not_both, Truth.either}
@@ -12,7 +12,10 @@ use Rattle.certificates.specs.CellLists.{cell_no, cells_in}
 use Rattle.certificates.specs.Pattern.{InPatternRegion}
 use Rattle.patterns.specs.{Spans.AreSpans, Spans.part, Spans.span_at, Around.IsFlooded}
 use Rattle.patterns.specs.{GroupRegions.AreSidesAt, GroupRegions.IsRegionAt, Groups.boxes_of, Groups.position_at, Trap.AreOff}
-use Rattle.patterns.{specs.declared.group_regions.Region.Region, specs.declared.arena.Span.Span, proofs.Turns.through}
+use Rattle.board.specs.{Board.IsWellFormed, Game.Level}
+use Rattle.patterns.specs.{Kept.AreKept, Kept.IsThere, Kept.KeptHas, Kept.parts_of, Kept.rows_of, declared.groups.Groups.Groups, declared.kept.Kept.Kept}
+use Rattle.patterns.proofs.KeptRows.{column_in, has_more, there_more}
+use Rattle.patterns.{specs.declared.kept.Region.Region, specs.declared.arena.Span.Span, proofs.Turns.through}
 use Rattle.patterns.proofs.{Grouped.boxes_on, Grouped.reached_position, Lists.each_more, Lists.length_more, Numbered.one_more, Pieces.room_is_one, Spans.no_span}
 use Rattle.patterns.proofs.group_regions.find_regions.Goals as goal
 
@@ -29,10 +32,32 @@ chosen_has : (P : Cells → Type 0) (b : Bool) (x y z : Cells) → MatchBool b (
 chosen_has P true x y z is has = rw is has
 chosen_has P false x y z is has = rw is has
 
+-- what was found and kept says of a free cell whether it is in the region
+told : (b : Bool) (free part region : Cells) (c : Cell) (K : Type 0) → MatchBool b (region ≡ free) (region ≡ part) → MatchBool b K (K ↔ Has part c) → Has free c
+    → K ↔ Has region c
+told true free part region c K is all here = (λ _. rw is here, λ _. all)
+told false free part region c K is exact here = rw is exact
+
 region_more : (P : ℕ → Region → Type 0) (of items : List Region) (new : Region) (n : ℕ) → length of ≡ n → items ≡ of ++ new ∷ []
     → ((k : ℕ) (r : Region) → k < n → P k (get_or of k r)) → P n new → (k : ℕ) (r : Region) → k < n + 1 → P k (get_or items k r)
 region_more P of items new n count is old here k r lt =
     rw is (each_more P of new r (λ i before. old i r (omega arith)) (rw count here) k (omega arith))
+
+-- a region that was kept before still is
+still_there : (level : Level) (trap : Cells) (groups : Groups) → IsWellFormed level → (kept new : Kept) (more : List ℕ) → kept.parts ≡ parts_of level.shape
+    → new.parts ≡ kept.parts → new.words.items ≡ kept.words.items ++ more → (k : ℕ) (region : Region) → IsRegionAt level trap groups kept k region
+    → IsRegionAt level trap groups new k region
+still_there level trap groups formed kept new more are parts grown k region was = record {
+  there = there_more kept new region more parts grown was.there;
+  says = λ off q in_room lacks.
+      let same = has_more kept new region more parts grown was.there q (column_in level.shape kept.parts are q (formed.room q in_room).0) in
+      through (same.1, same.0) (was.says off q in_room lacks);
+}
+
+none_there : (kept : Kept) (region : Region) → region.last < region.first → region.at ≡ 0 → IsThere kept region
+none_there kept region none begin =
+    let rows : rows_of region ≡ 0 = omega arith in
+    rw (begin, rows) (omega arith)
 
 pub loop-group-init : goal.loop-group-init
 loop-group-init g c = grind arith
@@ -96,15 +121,25 @@ loop-group-preserved g c =
     let from = span_read spans n c.index.result.now lt c.index.ensures in
     let sides = c.note_sides.new.sides.items in
     let noted = rw (c.boxes-boxes.ensures, from) at c.note_sides.ensures.noted in
-    let new : Region = record { has_root = c.has-has_root.result; whole = c.find_region-whole.result } in
-    let here : IsRegionAt level trap groups n new = record {
-      root_in = λ _. subst (λ q. IsTrue c.has-has_root.result ↔ InPatternRegion level (position_at level groups n) q) c.player.ensures.value
-          (through c.has-has_root.ensures (position c.player.result));
-      all = λ yes q in_room lacks. (position q).0 (rw (← (rw yes at chosen)) at ((is_free q).1 (in_room, lacks)));
+    let old_kept = c.loop-group.kept in
+    let new_kept = c.keep.new.kept in
+    let kept = c.in_ok-keep.ensures in
+    let new = c.in_ok-keep.field-0 in
+    let shape : c.find_region-whole.new.self.free.extent ≡ level.shape = rw (found.same.0, c.take_out.ensures.same.0) inv.free_on in
+    let are : AreKept level.shape new_kept = subst (λ e. AreKept e new_kept) shape kept.kept in
+    let parts : new_kept.parts ≡ old_kept.parts = are.parts ∙ sym inv.kept.parts in
+    let here : IsRegionAt level trap groups new_kept n new = record {
+      there = kept.there;
+      says = λ _ q in_room lacks.
+          let part = c.find_region-whole.new.self.region.members in
+          let is_open = (is_free q).1 (in_room, lacks) in
+          let said = kept.exact q (rw found.same.0 is_open) (rw shape (formed.room q in_room).0) in
+          through (told c.find_region-whole.result free part region q (KeptHas new_kept new q) chosen said is_open) (position q);
     } in
     record {
-      free_on = rw (found.same.0, c.take_out.ensures.same.0) inv.free_on;
-      region_on = rw (found.same.1, c.take_out.ensures.same.1) inv.region_on;
+      free_on = kept.extent ∙ shape;
+      region_on = rw (kept.region, found.same.1, c.take_out.ensures.same.1) inv.region_on;
+      kept = are;
       long = c.note_sides.ensures.long ∙ inv.long;
       count = rw c.push_reserved-in-loop-group.ensures.items (length_more c.loop-group.of.items new ∙ ap (λ k. k + 1) inv.count);
       roomy = rw c.push_reserved-in-loop-group.ensures.capacity inv.roomy;
@@ -114,7 +149,8 @@ loop-group-preserved g c =
           let apart = inside.apart n k lt before in
           rw (← (c.note_sides.ensures.kept ((span_at spans k).from + i) (omega arith))) at (inv.sides k before off i within))
           (λ _ i within d. through (noted i within d) (position (neighbor (cell_no (boxes_of groups n) i) d)));
-      each = region_more (IsRegionAt level trap groups) c.loop-group.of.items _ new n inv.count c.push_reserved-in-loop-group.ensures.items inv.each here;
+      each = region_more (IsRegionAt level trap groups new_kept) c.loop-group.of.items _ new n inv.count c.push_reserved-in-loop-group.ensures.items
+          (λ k r before. still_there level trap groups formed old_kept new_kept kept.grown.0 inv.kept.parts parts kept.grown.1 k _ (inv.each k r before)) here;
     }
 
 pub loop-group-preserved-then-is_trapped : goal.loop-group-preserved-then-is_trapped
@@ -126,23 +162,37 @@ loop-group-preserved-then-is_trapped g c =
     let inv = c.loop-group.invariant in
     let met = c.if-is_trapped.ensures in
     let on : AreOff trap (boxes_of groups n) → ⊥ = λ off. not_both trap met.0 met.2 (off met.0 (rw c.boxes-boxes.ensures at met.1)) in
-    let new : Region = record { has_root = false; whole = false } in
+    let new = c.no_rows.result in
     record {
       free_on = inv.free_on;
       region_on = inv.region_on;
+      kept = inv.kept;
       long = inv.long;
       count = rw c.push_reserved.ensures.items (length_more c.loop-group.of.items new ∙ ap (λ k. k + 1) inv.count);
       roomy = rw c.push_reserved.ensures.capacity inv.roomy;
       sides = one_more (λ k. AreSidesAt level trap groups k c.loop-group.sides.items) n inv.sides (λ off. absurd (on off));
-      each = region_more (IsRegionAt level trap groups) c.loop-group.of.items _ new n inv.count c.push_reserved.ensures.items inv.each
-          (record { root_in = λ off. absurd (on off); all = λ yes. absurd (false≢true yes) });
+      each = region_more (IsRegionAt level trap groups c.loop-group.kept) c.loop-group.of.items _ new n inv.count c.push_reserved.ensures.items inv.each
+          (record { there = none_there c.loop-group.kept new c.no_rows.ensures.none c.no_rows.ensures.begin; says = λ off. absurd (on off) });
     }
 
 pub boxes-boxes-requires : goal.boxes-boxes-requires
 boxes-boxes-requires g c = grind arith
 
 pub returns : goal.returns
-returns g c = grind arith
+returns g c =
+    let groups = c.args.groups.now in
+    let inv = c.loop-group.invariant in
+    let past = c.loop-group-test.false in
+    let within = c.loop-group.auto.group-end in
+    let all = c.len-group-end.ensures ∙ groups.spans.ok.0 in
+    let end : c.loop-group.group ≡ length groups.spans.items = omega arith in
+    record {
+      kept = inv.kept;
+      long = inv.long;
+      count = inv.count ∙ end;
+      sides = λ k lt. inv.sides k (omega arith);
+      each = λ k r lt. inv.each k r (omega arith);
+    }
 
 pub push_reserved-requires : goal.push_reserved-requires
 push_reserved-requires g c = omega arith

@@ -1,7 +1,7 @@
--- The player is on the root at first, whose path has no hits.
+-- The player is at the start at first.
 use Rattle.std.proofs.Common.{◌∙◌, ap, inr}
 use Rattle.cellset.proofs.Truth.{either}
-use Rattle.patterns.proofs.{Asked.onward_asked, Grouped.boxes_on, Pieces.room_is_one, Settled.root_hits}
+use Rattle.patterns.proofs.{Asked.onward_asked, Grouped.boxes_on, Pieces.room_is_one}
 use Rattle.patterns.proofs.lookups.Lookups.begin.Goals as goal
 
 pub load_rows-requires : goal.load_rows-requires
@@ -41,9 +41,7 @@ returns-clause-ready g c =
         place = record {
           extent = c.load_rows.ensures.extent ∙ are.place.extent;
           room = rw c.player-self.ensures.value is.tables.formed.here;
-          hits = root_hits c.args.task.now.tables.now.board.now c.load_rows.new.rows.members c.player-self.result c.clear-2.new.self.items c.player-self.ensures.value c.clear-2.ensures.items;
         };
-        grown = λ some. let grown = are.grown some in (grown.0, rw c.clear-2.ensures.capacity grown.1);
         free = free.same.0 ∙ are.free;
         region = ap (λ r. r.extent) free.same.1 ∙ are.region;
       };

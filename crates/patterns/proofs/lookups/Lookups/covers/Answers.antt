@@ -6,9 +6,6 @@ use Rattle.cellset.specs.SortedList.{index}
 use Rattle.patterns.proofs.InBuckets.{no_group_covers, player_in_room}
 use Rattle.patterns.proofs.lookups.Lookups.covers.Goals as goal
 
-pub list_hits-requires : goal.list_hits-requires
-list_hits-requires g c = grind arith
-
 pub loop-cell-init : goal.loop-cell-init
 loop-cell-init g c = grind arith
 

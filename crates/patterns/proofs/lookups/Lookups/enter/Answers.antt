@@ -1,11 +1,11 @@
 -- The piece of the player of an open push has the players of all pushes that go to those here (`Settled.antt`). The groups that the search has
 -- passed leave as much open as before, since no push is added.
-use Rattle.std.proofs.Common.{sym, ◌∙◌, ap, inl, arith}
+use Rattle.std.proofs.Common.{sym, ◌∙◌, inl, arith}
 use Rattle.std.specs.List.{Contains}
 use Rattle.cellset.{proofs.Truth.either}
 use Rattle.certificates.specs.CellLists.{cells_in}
 use Rattle.patterns.specs.Piece.{InPiece}
-use Rattle.patterns.proofs.{Asked.settling_same, OpenPushes.open_in, Settled.IsPushIn, Settled.all_in_piece, Settled.rooted_hits}
+use Rattle.patterns.proofs.{Asked.settling_same, OpenPushes.open_in, Settled.IsPushIn, Settled.all_in_piece}
 use Rattle.patterns.proofs.lookups.Lookups.enter.Goals as goal
 use Rattle.patterns.proofs.lookups.Lookups.enter.Goals.{After-index}
 
@@ -27,46 +27,37 @@ find_piece-requires g c =
       whole = ready.whole;
     }
 
-pub stand-requires : goal.stand-requires
-stand-requires g c =
-    let ready = c.requires.ready in
-    let are = ready.are in
-    let first = within g (goal.at.stand-requires g c).After-index in
-    let found = c.find_piece.ensures in
-    record {
-      are = record { buckets = are.buckets; place = are.place; grown = are.grown; free = rw found.same.0 are.free; region = found.same.2 ∙ are.region };
-      player = first.room;
-      rooted = λ yes. rw ready.boxes (rooted_hits c.args.task.now.tables.now.board.now c.requires.task.tables.formed (cells_in c.args.task.now.boxes.now)
-          c.args.self.now.flood.free ready.free c.index.result.now.player first.outside (InPiece c.find_piece.new.self) found.piece
-          (rw c.player.ensures.value at (c.in_piece-rooted.ensures.0 yes)));
-    }
-
 pub returns-clause-ready : goal.returns-clause-ready
 returns-clause-ready g c =
     let ready = c.requires.ready in
-    let same = c.in_ok-stand.ensures.same in
+    let are = ready.are in
     let found = c.find_piece.ensures.same in
     let parted = c.in_ok-enter.ensures in
+    let first = within g (goal.at.returns-clause-ready g c).After-index in
     record {
-      are = c.in_ok-stand.ensures.are;
-      boxes = ap (λ r. r.members) same.2 ∙ ready.boxes;
-      free = rw (same.1, found.0) ready.free;
-      whole = rw (same.1, found.1, found.0) ready.whole;
-      settling = rw (same.0, same.3) (settling_same c.args.task.now c.args.self.now.buckets c.args.self.now.unsettled c.enter.new.self ready.settling
-          (λ push has. inl (parted.away push has).0) (λ push has. inl (parted.here push has).0) parted.search parted.inside);
+      are = record {
+        buckets = are.buckets;
+        place = record { extent = are.place.extent; room = first.room };
+        free = rw found.0 are.free;
+        region = found.2 ∙ are.region;
+      };
+      boxes = ready.boxes;
+      free = rw found.0 ready.free;
+      whole = rw (found.1, found.0) ready.whole;
+      settling = settling_same c.args.task.now c.args.self.now.buckets c.args.self.now.unsettled c.enter.new.self ready.settling
+          (λ push has. inl (parted.away push has).0) (λ push has. inl (parted.here push has).0) parted.search parted.inside;
     }
 
 pub returns-clause-piece : goal.returns-clause-piece
 returns-clause-piece g c = λ _.
     let ready = c.requires.ready in
-    let same = c.in_ok-stand.ensures.same in
     let first = within g (goal.at.returns-clause-piece g c).After-index in
-    rw (same.3, c.in_ok-stand.ensures.player) (all_in_piece c.args.task.now.tables.now.board.now c.requires.task.tables.formed (cells_in c.args.task.now.boxes.now)
+    all_in_piece c.args.task.now.tables.now.board.now c.requires.task.tables.formed (cells_in c.args.task.now.boxes.now)
     c.args.self.now.flood.free ready.free c.index.result.now.player first.outside (InPiece c.find_piece.new.self) c.find_piece.ensures.piece c.enter.new.self.here.items
-    (λ push has. (c.in_ok-enter.ensures.here push has).1))
+    (λ push has. (c.in_ok-enter.ensures.here push has).1)
 
 pub returns-clause-kept : goal.returns-clause-kept
-returns-clause-kept g c = λ _. rw c.in_ok-stand.ensures.same.3 c.in_ok-enter.ensures.kept
+returns-clause-kept g c = λ _. c.in_ok-enter.ensures.kept
 
 pub returns-clause-fewer : goal.returns-clause-fewer
 returns-clause-fewer g c =
@@ -76,4 +67,4 @@ returns-clause-fewer g c =
     (λ away. absurd ((parted.away first away).1 c.find_piece.ensures.player)) (λ has. has) in
     let low = here.1 in
     let sum = parted.sum in
-    rw c.in_ok-stand.ensures.same.3 (omega arith)
+    omega arith

@@ -17,7 +17,6 @@ pub returns-clause-are : goal.returns-clause-are
 returns-clause-are g c = record {
   buckets = c.requires.are.buckets;
   place = c.requires.are.place;
-  grown = c.requires.are.grown;
   free = rw c.find_line-whole.ensures.same.0 c.requires.are.free;
   region = c.find_line-whole.ensures.same.1 ∙ c.requires.are.region;
 }

@@ -29,12 +29,6 @@ returns-then-is_among g c = (
       (region_lacks c.args.tables.now.board.now (position_at c.args.tables.now.board.now c.args.tables.now.groups c.args.group) _ covers.player)),
 )
 
-pub is_inside-requires-clause-group : goal.is_inside-requires-clause-group
-is_inside-requires-clause-group g c = record {
-  within = c.requires.group;
-  has = λ q h. rw c.requires.there (c.if-not-are_in.ensures q (rw c.boxes-kept.ensures h));
-}
-
 pub is_inside-requires-clause-off : goal.is_inside-requires-clause-off
 is_inside-requires-clause-off g c = none_off _ c.requires.off _
 

@@ -20,7 +20,7 @@ loop-self-preserved g c =
     let are = entered.ready.are in
     record {
       ready = record {
-        are = record { buckets = are.buckets; place = are.place; grown = are.grown; free = are.free; region = are.region };
+        are = record { buckets = are.buckets; place = are.place; free = are.free; region = are.region };
         boxes = entered.ready.boxes;
         free = entered.ready.free;
         whole = entered.ready.whole;
