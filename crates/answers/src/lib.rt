@@ -30,7 +30,7 @@ mod splitting;
 mod writing;
 
 pub use devices::{Blown, Device, DeviceFault, Fuse, Sink, Source, write_whole};
-pub use fault::AnswersFault;
+pub use fault::{AnswersFault, Why};
 pub use laws::texts_have_one_reading;
 pub use pattern::{Coord, Pattern, Seeds, Zone};
 pub use reading::read;

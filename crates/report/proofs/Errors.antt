@@ -11,8 +11,8 @@ use Rattle.answers.specs.FirstFault.{IsFirstAnswersFault}
 use Rattle.answers.specs.declared.fault.AnswersFault.{AnswersFault}
 use Rattle.report.specs.Collection.{HasTooManyLevels}
 use Rattle.devices.specs.Reading.{most_bytes}
-use Rattle.report.specs.declared.fault.Why.{Why}
-use Rattle.report.specs.declared.fault.Why.TheVariants as why
+use Rattle.answers.specs.declared.fault.Why.{Why}
+use Rattle.answers.specs.declared.fault.Why.TheVariants as why
 use Rattle.report.specs.declared.fault.AuditError.{AuditError}
 use Rattle.report.specs.declared.fault.AuditError.TheVariants.{Read, Write, TooLong, TooManyLevels, Answers, Memory}
 use Rattle.report.specs.declared.fault.Which.TheVariants as which

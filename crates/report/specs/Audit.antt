@@ -12,8 +12,8 @@ use Rattle.report.specs.Report.{AreShort, IsReport}
 use Rattle.report.specs.declared.summary.Summary.{Summary}
 use Rattle.devices.specs.Reading.{most_bytes}
 use Rattle.report.specs.declared.fault.Which.TheVariants as which
-use Rattle.report.specs.declared.fault.Why.{Why}
-use Rattle.report.specs.declared.fault.Why.TheVariants as why
+use Rattle.answers.specs.declared.fault.Why.{Why}
+use Rattle.answers.specs.declared.fault.Why.TheVariants as why
 use Rattle.report.specs.declared.fault.AuditError.{AuditError}
 use Rattle.report.specs.declared.fault.AuditError.TheVariants.{Read, Write, TooLong, TooManyLevels, Answers, Memory}
 

@@ -1,10 +1,9 @@
 -- The words of errors, which the program prints on standard error.
 use Rattle.std.specs.Prelude.{ℕ, List, ◌++◌, codes, decimal}
 use Rattle.board.specs.Words.{board_words}
+use Rattle.answers.specs.Words.{why_word}
 use Rattle.report.specs.declared.fault.Which.{Which}
 use Rattle.report.specs.declared.fault.Which.TheVariants as which
-use Rattle.report.specs.declared.fault.Why.{Why}
-use Rattle.report.specs.declared.fault.Why.TheVariants as why
 use Rattle.report.specs.declared.fault.AuditError.{AuditError}
 use Rattle.report.specs.declared.fault.AuditError.TheVariants.{Read, Write, TooLong, TooManyLevels, Answers, Memory}
 use Rattle.report.specs.declared.fault.DeadError.{DeadError}
@@ -14,15 +13,6 @@ use Rattle.report.specs.declared.fault.DeadError.TheVariants.{Audit, NoLevel, Bo
 abbrev pub which_word : Which → List ℕ
 which_word which.Levels = codes "levels"
 which_word which.Answers = codes "answers"
-
--- the word says what is wrong with a line of an answers text
-abbrev pub why_word : Why → List ℕ
-why_word why.Header = codes "header"
-why_word why.Level = codes "level"
-why_word why.Order = codes "order"
-why_word why.Unknown = codes "unknown"
-why_word why.Kind = codes "kind"
-why_word why.Unclosed = codes "unclosed"
 
 -- each error of an audit has these words
 abbrev pub audit_error_words : AuditError → List ℕ

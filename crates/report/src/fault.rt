@@ -1,9 +1,9 @@
 //! The errors of audits, made answers and maps, in the words that the program prints.
 ghost use Rattle.std.specs.Prelude.{◌≡◌, ◌<◌, ◌+◌, ◌++◌, length};
 ghost use Rattle.std.specs.Fmt.InlineText.{inline_text};
-ghost use Rattle.report.specs.ErrorWords.{audit_error_words, error_words, which_word, why_word};
+ghost use Rattle.report.specs.ErrorWords.{audit_error_words, error_words, which_word};
 
-use answers::AnswersFault;
+use answers::{AnswersFault, Why};
 use board::BoardFault;
 use itoa::Buffer;
 use std::fmt::{self, InlineText};
@@ -31,40 +31,6 @@ impl Which {
 impl fmt::Display for Which {
     fn fmt<W: fmt::Write>(&self, f: &mut fmt::Formatter<W>) -> fmt::Result {
         f.write_str(self.word())
-    }
-}
-
-/// What is wrong with the first faulty line of an answers text.
-#[derive(Clone, Copy, Debug, PartialEq, Eq, Error)]
-#[error("{}", self.word())]
-pub enum Why {
-    /// The first line isn't a header, or there is no line.
-    Header,
-    /// A level line is due, and the line isn't one.
-    Level,
-    /// The level's number isn't above the number in the record before.
-    Order,
-    /// The level's number is above the number of levels.
-    Unknown,
-    /// A kind line is due, and the line isn't one.
-    Kind,
-    /// The text ends inside a record; the line is the one after the last.
-    Unclosed,
-}
-
-impl Why {
-    /// Returns the word that errors print.
-    pub fn word(self) -> &'static str
-        ensures { result.now ≡ why_word self }
-    {
-        match self {
-            Why::Header => "header",
-            Why::Level => "level",
-            Why::Order => "order",
-            Why::Unknown => "unknown",
-            Why::Kind => "kind",
-            Why::Unclosed => "unclosed",
-        }
     }
 }
 

@@ -22,8 +22,9 @@ mod status;
 mod summary;
 mod texts;
 
+pub use answers::Why;
 pub use devices::{Device, DeviceFault, Sink, Source};
-pub use fault::{AuditError, DeadError, Which, Why};
+pub use fault::{AuditError, DeadError, Which};
 pub use jobs::audit;
 pub use judging::{Scratch, judge};
 pub use laws::{

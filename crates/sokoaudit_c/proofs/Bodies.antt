@@ -24,7 +24,7 @@ use Rattle.answers.proofs.KeptLines.{numbered-append}
 use Rattle.answers.proofs.PlainLines.{IsPlainLine, ends_at, lines_again, plain_header, plain_level}
 use Rattle.report.specs.Audit.{IsFirstError, answers_fault_of}
 use Rattle.report.specs.declared.fault.AuditError.TheVariants.{Answers}
-use Rattle.report.specs.declared.fault.Why.{Why}
+use Rattle.answers.specs.declared.fault.Why.{Why}
 use Rattle.sokoaudit_c.specs.Judged.{HasLevels, NoneEndsIn, answers_around}
 
 -- ---- the lines

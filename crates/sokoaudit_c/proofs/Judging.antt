@@ -7,7 +7,7 @@ use Rattle.report.specs.Collection.{HasTooManyLevels}
 use Rattle.report.specs.Report.{AreShort, AreStatuses}
 use Rattle.report.specs.declared.fault.AuditError.{AuditError}
 use Rattle.report.specs.declared.fault.AuditError.TheVariants as error_is
-use Rattle.report.specs.declared.fault.Why.{Why}
+use Rattle.answers.specs.declared.fault.Why.{Why}
 use Rattle.report.specs.declared.status.Status.{Status}
 use Rattle.report.proofs.Reports.{each_long}
 use Rattle.sokoaudit_c.specs.Judged.{HasLevels, HasSeveralLevels, IsFirstFault, answers_around}

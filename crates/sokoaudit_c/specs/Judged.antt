@@ -9,7 +9,7 @@ use Rattle.report.specs.Audit.{IsFirstError}
 use Rattle.report.specs.Report.{AreShort}
 use Rattle.devices.specs.Reading.{most_bytes}
 use Rattle.report.specs.declared.fault.AuditError.TheVariants.{Answers}
-use Rattle.report.specs.declared.fault.Why.{Why}
+use Rattle.answers.specs.declared.fault.Why.{Why}
 use Rattle.sokoaudit_c.specs.declared.judge.Fault.{Fault}
 use Rattle.sokoaudit_c.specs.declared.judge.Fault.TheVariants.{Memory, LevelTooLong, BodyTooLong, ManyLevels, NoLevel, BodyEnd, Kind}
 use Rattle.sokoaudit_c.specs.declared.numbers.Line.{Line}

@@ -9,8 +9,8 @@ use Rattle.report.specs.declared.fault.AuditError.TheVariants.{TooLong, TooManyL
 use Rattle.report.specs.declared.fault.DeadError.{DeadError}
 use Rattle.report.specs.declared.fault.DeadError.TheVariants.{Audit, NoLevel, Board}
 use Rattle.report.specs.declared.fault.Which.TheVariants as which
-use Rattle.report.specs.declared.fault.Why.{Why}
-use Rattle.report.specs.declared.fault.Why.TheVariants as why
+use Rattle.answers.specs.declared.fault.Why.{Why}
+use Rattle.answers.specs.declared.fault.Why.TheVariants as why
 use Rattle.report.specs.declared.summary.Summary.{Summary}
 use Rattle.sokoaudit_c.specs.declared.outcome.Outcome.{Outcome}
 

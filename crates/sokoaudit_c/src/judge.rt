@@ -3,7 +3,7 @@ ghost use Rattle.std.specs.Prelude.{◌≡◌, ◌≢◌, ◌<◌, ◌⊎◌, �
 ghost use Rattle.report.specs.Audit.{IsFirstError};
 ghost use Rattle.report.specs.Report.{AreStatuses};
 ghost use Rattle.report.specs.declared.fault.AuditError.TheVariants.{Answers};
-ghost use Rattle.report.specs.declared.fault.Why.{Why as AnswersWhy};
+ghost use Rattle.answers.specs.declared.fault.Why.{Why as AnswersWhy};
 ghost use Rattle.report.specs.declared.status.Status.{Status as Said};
 ghost use Rattle.sokoaudit_c.specs.Judged.{IsFirstFault, NoneEndsIn, answers_around, in_body, number_of_fault};
 ghost use Rattle.sokoaudit_c.specs.Numbers.{no_line, numbers_of as numbers};

@@ -1,6 +1,6 @@
 //! What a call reports to C besides its status.
 ghost use Rattle.std.specs.Prelude.{◌≡◌, ◌<◌, ◌≤◌, ◌⊎◌, ℕ, IfSome, IsSome};
-ghost use Rattle.report.specs.declared.fault.Why.{Why as Reason};
+ghost use Rattle.answers.specs.declared.fault.Why.{Why as Reason};
 ghost use Rattle.sokoaudit_c.specs.Outcome.{number_of_board, number_of_error, number_of_line, outcome_of_answers, outcome_of_error, outcome_of_map, outcome_of_report};
 
 use board::BoardFault;
