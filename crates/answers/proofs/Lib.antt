@@ -19,3 +19,4 @@ pub mod Runs
 pub mod SolutionLines
 pub mod SpelledRecords
 pub mod TakenCells
+pub mod ThreeParts

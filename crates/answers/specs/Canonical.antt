@@ -13,6 +13,7 @@ use Rattle.answers.specs.declared.pattern.Pattern.{Pattern}
 use Rattle.answers.specs.declared.record.MadeBody.{MadeBody}
 use Rattle.answers.specs.declared.record.MadeBody.TheVariants.{Letters, Patterns, Zone}
 use Rattle.answers.specs.declared.record.MadeRecord.{MadeRecord}
+use Rattle.answers.specs.Body.{PatternLine}
 use Rattle.answers.specs.Grammar.{header_text, level_text, pattern_text, zone_text, said_pattern, said_zone}
 
 -- The first lines of the letters, 70 in each, up to a count.
@@ -42,13 +43,34 @@ lines_with level lines = level_text level ∷ (lines ++ codes "end" ∷ [])
 abbrev pub record_lines : MadeRecord → List (List ℕ)
 record_lines r = lines_with r.level (made_lines r.body)
 
--- The line of the made pattern of one box with the seeds `*`.
-abbrev pub lone_line : Coord → List ℕ
-lone_line c = pattern_text (record { line = 0; boxes = c ∷ []; seeds = None })
+-- The made pattern of some boxes: on line 0, with the seeds `*`.
+abbrev pub made_pattern : List Coord → PatternLine
+made_pattern boxes = record { line = 0; boxes = boxes; seeds = None }
 
--- The kind line and the body lines of a record that has a made pattern of one box, with the seeds `*`, for each cell.
-abbrev pub lone_lines : List Coord → List (List ℕ)
-lone_lines cells = codes "unsolvable" ∷ map lone_line cells
+-- The made patterns of one box each, on these cells.
+abbrev pub lone_patterns : List Coord → List PatternLine
+lone_patterns cells = map (λ c. made_pattern (c ∷ [])) cells
+
+-- The made pattern of all of these boxes, if there are any.
+abbrev pub last_pattern : List Coord → List PatternLine
+last_pattern [] = []
+last_pattern (c ∷ boxes) = made_pattern (c ∷ boxes) ∷ []
+
+-- The patterns of a list: a made pattern of one box for each of the first cells, and a last one of all other boxes, if there are any.
+abbrev pub list_patterns : List Coord → List Coord → List PatternLine
+list_patterns cells last = lone_patterns cells ++ last_pattern last
+
+-- The line of the made pattern of one box.
+abbrev pub lone_line : Coord → List ℕ
+lone_line c = pattern_text (made_pattern (c ∷ []))
+
+-- The kind line and the body lines of the record of a list.
+abbrev pub list_lines : List Coord → List Coord → List (List ℕ)
+list_lines cells last = codes "unsolvable" ∷ map pattern_text (list_patterns cells last)
+
+-- The kind line and the body line of the record of a zone.
+abbrev pub zone_lines : List Coord → List (List ℕ)
+zone_lines cells = codes "unsolvable" ∷ zone_text (record { line = 0; cells = cells }) ∷ []
 
 -- Whether the body is a zone.
 abbrev pub holds_zone : MadeBody → Bool
@@ -72,13 +94,13 @@ canonical_lines records = header_text (version_of records) ∷ flat_map record_l
 abbrev pub ended : List ℕ → List ℕ
 ended line = line ++ 10 ∷ []
 
+-- The text of a record of this level that has these lines between its level line and its `end`, without a header.
+abbrev pub text_with : ℕ → List (List ℕ) → List ℕ
+text_with level lines = flat_map ended (lines_with level lines)
+
 -- The text of one record, without a header.
 abbrev pub record_text : MadeRecord → List ℕ
-record_text r = flat_map ended (record_lines r)
-
--- The text of a record of this level that has a pattern of one box, with the seeds `*`, for each cell.
-abbrev pub lone_text : ℕ → List Coord → List ℕ
-lone_text level cells = flat_map ended (lines_with level (lone_lines cells))
+record_text r = text_with r.level (made_lines r.body)
 
 -- The text of the header, by whether some record holds a zone.
 abbrev pub header_line : Bool → List ℕ

@@ -38,4 +38,4 @@ pub use record::{Answers, BadLineWhy, CertificateLine, MadeBody, MadeRecord, Rec
 pub use record_text::{CertificateLines, Kind, Place, RecordText};
 pub use round_trip::written_is_read;
 pub use splitting::split;
-pub use writing::{WriteFault, write, write_header, write_lone_record, write_record};
+pub use writing::{WriteFault, write, write_header, write_list_record, write_zone_record};

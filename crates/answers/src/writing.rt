@@ -1,17 +1,17 @@
 //! Writes the canonical text of records.
 //!
-//! `write` is for callers. The program writes the parts of the same text: `write_header`, and `write_record` or `write_lone_record` for each
-//! level.
+//! `write` is for callers. The program writes the parts of the same text: `write_header`, and `write_list_record` or `write_zone_record` for
+//! each level.
 ghost use Rattle.std.specs.Prelude.{◌≡◌, ◌+◌, ◌++◌, Ok, OnOk, OnErr, codes, drop, take};
 ghost use Rattle.std.specs.List.{flat_map};
 ghost use Rattle.std.specs.Io.KnownBytes.{Appends};
-ghost use Rattle.answers.specs.Canonical.{canonical, ended, header_line, letter_lines, line_of_made, lone_line, lone_lines, lone_text, record_text, made_lines, some_zone};
+ghost use Rattle.answers.specs.Canonical.{canonical, ended, header_line, last_pattern, letter_lines, line_of_made, list_lines, lone_line, record_text, made_lines, some_zone, text_with, zone_lines};
 ghost use Rattle.devices.specs.Device.{AppendsBeginning, CountsFault};
 ghost use Rattle.devices.specs.Writing.{Writes};
-ghost use Rattle.answers.specs.Grammar.{cells_text, level_text, numeral, said_seeds, said_zone, seeds_text, zone_text};
+ghost use Rattle.answers.specs.Grammar.{cells_text, level_text, numeral, pattern_text, said_seeds, seeds_text, zone_text};
 
 use crate::cells::write_each;
-use crate::pattern::{Coord, Pattern, Seeds, Zone};
+use crate::pattern::{Coord, Pattern, Seeds};
 use crate::record::{MadeBody, MadeRecord};
 use devices::{DeviceFault, Sink, write_whole};
 use itoa::Buffer;
@@ -41,26 +41,31 @@ pub fn write<W: Sink>(records: &[MadeRecord], sink: &mut W) -> Result<(), WriteF
     }
 }
 
-/// Writes the canonical text of one record without a header, in many small writes. Allocates nothing.
-pub fn write_record<W: Sink>(made: &MadeRecord, sink: &mut W) -> Result<(), DeviceFault>
-    ensures { Writes W.Sink sink.old sink.new (record_text made.now) result }
+/// Writes the canonical text of the record of a list, without a header: a pattern of one box for each of the first cells, and a last one of
+/// all other boxes, if there are any. All have the seeds `*`. Allocates nothing.
+pub fn write_list_record<W: Sink>(
+    level: usize,
+    cells: &[Coord],
+    last: &[Coord],
+    sink: &mut W,
+) -> Result<(), DeviceFault>
+    ensures { Writes W.Sink sink.old sink.new (text_with level (list_lines cells.now last.now)) result }
 {
-    write_level(made.level, sink)?;
-    write_body(&made.body, sink)?;
+    write_level(level, sink)?;
+    write_list_body(cells, last, sink)?;
     write_bytes(b"end\n", sink)
 }
 
-/// Writes the canonical text of a record without a header. Its patterns have one box each, on these cells in order, and the seeds
-/// `*`. Allocates nothing.
-pub fn write_lone_record<W: Sink>(
+/// Writes the canonical text of the record of a zone, without a header. Allocates nothing.
+pub fn write_zone_record<W: Sink>(
     level: usize,
     cells: &[Coord],
     sink: &mut W,
 ) -> Result<(), DeviceFault>
-    ensures { Writes W.Sink sink.old sink.new (lone_text level cells.now) result }
+    ensures { Writes W.Sink sink.old sink.new (text_with level (zone_lines cells.now)) result }
 {
     write_level(level, sink)?;
-    write_lone_body(cells, sink)?;
+    write_zone_body(cells, sink)?;
     write_bytes(b"end\n", sink)
 }
 
@@ -109,12 +114,34 @@ fn write_records<W: Sink>(records: &[MadeRecord], sink: &mut W) -> Result<(), De
     Ok(())
 }
 
-// Writes the kind line and the lines of patterns of one box with the seeds `*`.
-fn write_lone_body<W: Sink>(cells: &[Coord], sink: &mut W) -> Result<(), DeviceFault>
-    ensures { Writes W.Sink sink.old sink.new (flat_map ended (lone_lines cells.now)) result }
+// Writes the lines of a record.
+fn write_record<W: Sink>(made: &MadeRecord, sink: &mut W) -> Result<(), DeviceFault>
+    ensures { Writes W.Sink sink.old sink.new (record_text made.now) result }
+{
+    write_level(made.level, sink)?;
+    write_body(&made.body, sink)?;
+    write_bytes(b"end\n", sink)
+}
+
+// Writes the kind line and the lines of a list.
+fn write_list_body<W: Sink>(
+    cells: &[Coord],
+    last: &[Coord],
+    sink: &mut W,
+) -> Result<(), DeviceFault>
+    ensures { Writes W.Sink sink.old sink.new (flat_map ended (list_lines cells.now last.now)) result }
 {
     write_bytes(b"unsolvable\n", sink)?;
-    write_lone(cells, sink)
+    write_lone(cells, sink)?;
+    write_last(last, sink)
+}
+
+// Writes the kind line and the line of a zone.
+fn write_zone_body<W: Sink>(cells: &[Coord], sink: &mut W) -> Result<(), DeviceFault>
+    ensures { Writes W.Sink sink.old sink.new (flat_map ended (zone_lines cells.now)) result }
+{
+    write_bytes(b"unsolvable\n", sink)?;
+    write_zone(cells, sink)
 }
 
 // Writes the level line.
@@ -151,16 +178,16 @@ fn write_said<W: Sink>(body: &MadeBody, sink: &mut W) -> Result<(), DeviceFault>
     match body {
         MadeBody::Letters(letters) => write_letters(letters, sink),
         MadeBody::Patterns(patterns) => write_patterns(patterns, sink),
-        MadeBody::Zone(zone) => write_zone(zone, sink),
+        MadeBody::Zone(zone) => write_zone(&zone.cells, sink),
     }
 }
 
 // Writes the line of a zone.
-fn write_zone<W: Sink>(zone: &Zone, sink: &mut W) -> Result<(), DeviceFault>
-    ensures { Writes W.Sink sink.old sink.new (ended (zone_text (said_zone zone.now))) result }
+fn write_zone<W: Sink>(cells: &[Coord], sink: &mut W) -> Result<(), DeviceFault>
+    ensures { Writes W.Sink sink.old sink.new (ended (zone_text (record { line = 0; cells = cells.now }))) result }
 {
     write_bytes(b"zone ", sink)?;
-    write_last_cells(&zone.cells, sink)
+    write_last_cells(cells, sink)
 }
 
 // Writes the letters in lines.
@@ -189,22 +216,28 @@ fn write_patterns<W: Sink>(patterns: &[Pattern], sink: &mut W) -> Result<(), Dev
     ensures { Writes W.Sink sink.old sink.new (flat_map (λ p. ended (line_of_made p)) patterns.now) result }
 {
     for pattern in patterns {
-        write_pattern(pattern, sink)?;
+        write_pattern(pattern.boxes.as_slice(), &pattern.seeds, sink)?;
     }
     Ok(())
 }
 
 // Writes the line of a pattern.
-fn write_pattern<W: Sink>(pattern: &Pattern, sink: &mut W) -> Result<(), DeviceFault>
-    ensures { Writes W.Sink sink.old sink.new (ended (line_of_made pattern.now)) result }
+fn write_pattern<W: Sink>(boxes: &[Coord], seeds: &Seeds, sink: &mut W) -> Result<(), DeviceFault>
+    ensures { Writes W.Sink sink.old sink.new (ended (pattern_text (record { line = 0; boxes = boxes.now; seeds = said_seeds seeds.now }))) result }
 {
-    let boxes = pattern.boxes.as_slice();
-    if boxes.len() == 1 && matches!(pattern.seeds, Seeds::Room) {
-        return write_lone(&[boxes[0]], sink);
-    }
     write_bytes(b"pattern ", sink)?;
     write_cells(boxes, sink)?;
-    write_seeds(&pattern.seeds, sink)
+    write_seeds(seeds, sink)
+}
+
+// Writes the line of the pattern of the last boxes of a list, if there are any.
+fn write_last<W: Sink>(boxes: &[Coord], sink: &mut W) -> Result<(), DeviceFault>
+    ensures { Writes W.Sink sink.old sink.new (flat_map (λ p. ended (pattern_text p)) (last_pattern boxes.now)) result }
+{
+    if boxes.is_empty() {
+        return Ok(());
+    }
+    write_pattern(boxes, &Seeds::Room, sink)
 }
 
 // Writes for each cell the line of the pattern with one box there and the seeds `*`.

@@ -26,7 +26,8 @@ use Rattle.certificates.specs.Closed.{Closed}
 use Rattle.certificates.proofs.RegionCells.{room_outside}
 use Rattle.maker.specs.Dead.{IsRelaxedPush, at_goal, pushed, AreDead}
 use Rattle.maker.specs.Frozen.{IsFrozen, IsLargestFrozen}
-use Rattle.maker.specs.Made.{IsListOf, lone_patterns, IsMadeOfDead, IsMadeOfFrozen, HasDeadBox}
+use Rattle.answers.specs.Canonical.{lone_patterns}
+use Rattle.maker.specs.Made.{IsListOf, IsMadeOfDead, IsMadeOfFrozen, HasDeadBox}
 use Rattle.maker.proofs.Listing.{listed_cell}
 use Rattle.maker.proofs.Thawing.{held_more}
 

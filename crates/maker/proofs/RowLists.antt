@@ -1,27 +1,24 @@
 -- How the cells of a set are listed row by row.
 -- A row is read in parts of 64 columns, each as the bits of a word. The lowest set bit is the next cell, because the set has no cell
--- between the listed cells and this one. It comes after all listed cells, so the list stays in order and has one cell more. A row has no
+-- between the listed cells and this one. It comes after all listed cells, so the list stays in order. A row has no
 -- cell past the last column of the grid, and the grid has no cell below its last row.
-use Rattle.std.proofs.Common.{◌≡◌, ℕ, ◌+◌, ◌-◌, ◌*◌, ◌%◌, ◌^◌, ◌<◌, ◌≤◌, List, [], ◌∷◌, ◌++◌, length}
-use Rattle.std.proofs.Common.{refl, sym, ap, subst, inl, inr, arith}
+use Rattle.std.proofs.Common.{◌≡◌, ℕ, ◌+◌, ◌-◌, ◌*◌, ◌%◌, ◌^◌, ◌<◌, ◌≤◌, List, [], ◌∷◌, ◌++◌}
+use Rattle.std.proofs.Common.{refl, sym, subst, inl, inr, arith}
 use Rattle.std.specs.Prelude.{◌↔◌, bit_and}
 use Rattle.std.specs.Int.{bit_not, trailing_zeros, w64}
 use Rattle.std.specs.FinSet as set
-use Rattle.std.specs.FinSet.{len-empty}
-use Rattle.std.proofs.Math.ListN.{length-append}
 use Rattle.std.proofs.lemmas.Bool.{cases_lt}
 use Rattle.std.proofs.lemmas.Nat.Bits.{bit_at-trailing_zeros}
-use Rattle.cellset.specs.Cell.{cell_at, cell_cmp}
-use Rattle.cellset.specs.CellSet.{Cells, Has, Lacks}
+use Rattle.cellset.specs.Cell.{cell_at}
+use Rattle.cellset.specs.CellSet.{Cells, Has}
 use Rattle.cellset.specs.declared.cell.Cell.{Cell}
-use Rattle.cellset.proofs.Members.{inserted, kept_by_insert, has_insert, has_empty, same_members, lacks_where}
+use Rattle.cellset.proofs.Members.{inserted, kept_by_insert, has_insert, has_empty, same_members}
 use Rattle.cellset.proofs.Truth.{either}
 use Rattle.answers.specs.declared.pattern.Coord.{Coord}
 use Rattle.certificates.specs.CellLists.{cell_of, cells_of}
 use Rattle.certificates.proofs.CellLists.{cells_push}
 use Rattle.reach.specs.Bits.{Bit}
 use Rattle.reach.proofs.Words.{bit_and_l, bit_cleared, bit_not_cleared, bit_of, le_by_bits, less_by_bit, no_bit_zero, not_both}
-use Rattle.certificates.proofs.Counts.{len-insert_new}
 use Rattle.maker.specs.Listed.{IsEarlier, IsListedTo}
 use Rattle.maker.specs.Made.{IsListOf}
 use Rattle.maker.proofs.Listing.{in_order_push, listed_cell}
@@ -37,7 +34,6 @@ module _ (cells : Cells) where
       | inr left ↦ absurd (let before = left.1 in omega arith)
     ];
     order = tt;
-    count = len-empty cell_cmp;
   }
 
   -- A list up to a column is a list up to a later one, if no cell is between them.
@@ -47,7 +43,7 @@ module _ (cells : Cells) where
 
   -- A list up to the row after the last one has every cell of the set.
   pub all_listed : (row : ℕ) (coords : List Coord) → ((c : Cell) → Has cells c → c.row < row)
-      → IsListedTo cells row 0 coords → IsListOf cells coords × (length coords ≡ set.len cells)
+      → IsListedTo cells row 0 coords → IsListOf cells coords
   all_listed row coords above l = grind (arith, same_members)
 
 -- ---- the next cell
@@ -57,9 +53,6 @@ module _ (cells : Cells) (row column : ℕ) (coords : List Coord) (has : Has cel
 
   abbrev next : Coord
   next = record { row = row; column = column }
-
-  not_listed : Lacks (cells_of coords) here
-  not_listed = grind (arith, lacks_where)
 
   only_more : (q : Cell) → Has (set.insert (cells_of coords) here) q → Has cells q × IsEarlier row (column + 1) q
   only_more q h = grind (arith, either, has_insert)
@@ -84,12 +77,6 @@ module _ (cells : Cells) (row column : ℕ) (coords : List Coord) (has : Has cel
         only = λ q h. only_more q (rw push at h);
         all = λ q there early. rw push (all_more q there early);
         order = in_order_push coords next l.order (λ y h. (l.only (cell_of y) (listed_cell coords y h)).1);
-        count =
-            let same = ap set.len push in
-            let more = len-insert_new (cells_of coords) here not_listed in
-            let count = l.count in
-            let longer = length-append coords (next ∷ []) in
-            omega arith;
       }
 
 -- ---- the bits of a part of a row

@@ -1,6 +1,5 @@
 -- Lists of the cells of a set up to a position in reading order.
-use Rattle.std.specs.Prelude.{◌≡◌, ℕ, List, length}
-use Rattle.std.specs.FinSet as set
+use Rattle.std.specs.Prelude.{ℕ, List}
 use Rattle.cellset.specs.CellSet.{Cells, Has}
 use Rattle.cellset.specs.declared.cell.Cell.{Cell}
 use Rattle.answers.specs.declared.pattern.Coord.{Coord}
@@ -17,4 +16,3 @@ pub record IsListedTo (cells : Cells) (row column : ℕ) (coords : List Coord) :
   pub only : (c : Cell) → Has (cells_of coords) c → Has cells c × IsEarlier row column c
   pub all : (c : Cell) → Has cells c → IsEarlier row column c → Has (cells_of coords) c
   pub order : AreInOrder coords
-  pub count : set.len (cells_of coords) ≡ length coords

@@ -1,22 +1,21 @@
 -- The certificates that are made, and for which levels: lists of patterns, and zones.
 --     in order        the coordinates of the cells of a set, each once, in reading order
---     made pattern    some boxes, with `*` for their seeds, on line 0
+--     made pattern    some boxes, with `*` for their seeds, on line 0 (`Canonical.antt` of `answers`)
 --     dead patterns   for each dead square, in reading order, the made pattern of one box there
 --     list            if a box of the start is on a dead square: the dead patterns; otherwise, if a box of the largest frozen
 --                     set is off the goals: the dead patterns, and last the made pattern of all boxes of that set
 --     zone            if no list is made and some closed set of cells refutes the level: the cells of the least zone, in
 --                     reading order, on line 0
 -- If no closed set refutes the level either, nothing is made.
-use Rattle.std.specs.Prelude.{◌≡◌, ◌≤◌, ◌⊎◌, List, length, [], ◌∷◌, ◌++◌, None, map}
-use Rattle.std.specs.List.{AllByRecursion}
+use Rattle.std.specs.Prelude.{◌≡◌, ◌⊎◌, List, [], ◌∷◌, ◌++◌, map}
 use Rattle.cellset.specs.CellSet.{Cells, Has, Lacks}
 use Rattle.cellset.specs.declared.cell.Cell.{Cell}
 use Rattle.board.specs.Game.{Level}
 use Rattle.answers.specs.declared.pattern.Coord.{Coord}
 use Rattle.answers.specs.declared.record.MadeBody.{MadeBody}
 use Rattle.answers.specs.declared.record.MadeBody.TheVariants as body
-use Rattle.answers.specs.Grammar.{AreInOrder, IsPattern, most_patterns, said_pattern, said_zone}
-use Rattle.answers.specs.RoundTrip.{IsLawfulBody}
+use Rattle.answers.specs.Canonical.{list_patterns, lone_patterns, made_pattern}
+use Rattle.answers.specs.Grammar.{AreInOrder, said_pattern, said_zone}
 use Rattle.answers.specs.Body.{PatternLine, ZoneLine}
 use Rattle.certificates.specs.CellLists.{cells_of}
 use Rattle.certificates.specs.Pattern.{patterns_of}
@@ -27,7 +26,7 @@ use Rattle.maker.specs.Dead.{IsDead, AreDead}
 use Rattle.maker.specs.Frozen.{IsLargestFrozen}
 use Rattle.maker.specs.Zones.{SomeZoneRefutes, IsLeastZone}
 use Rattle.maker.specs.declared.making.Found.{Found}
-use Rattle.maker.specs.declared.making.Found.TheVariants.{Dead, Other}
+use Rattle.maker.specs.declared.making.Found.TheVariants as found
 use Rattle.maker.specs.declared.making.Made.{Made}
 use Rattle.maker.specs.declared.making.Made.TheVariants.{Patterns, Zone}
 
@@ -39,14 +38,6 @@ coord_of c = record { row = c.row; column = c.column }
 pub record IsListOf (cells : Cells) (coords : List Coord) : Type 0 where
   pub same : cells_of coords ≡ cells
   pub order : AreInOrder coords
-
--- The made pattern of some boxes.
-abbrev pub made_pattern : List Coord → PatternLine
-made_pattern boxes = record { line = 0; boxes = boxes; seeds = None }
-
--- The made patterns of one box each, on these cells.
-abbrev pub lone_patterns : List Coord → List PatternLine
-lone_patterns coords = map (λ c. made_pattern (c ∷ [])) coords
 
 -- The lines are the made patterns of one box each, on the cells of a set in reading order.
 abbrev pub AreLonePatterns : Cells → List PatternLine → Type 0
@@ -127,20 +118,10 @@ abbrev pub body_of : Made → MadeBody
 body_of (Patterns patterns) = body.Patterns patterns
 body_of (Zone zone) = body.Zone zone
 
--- The value is what is found for the level: the coordinates of the dead squares, if exactly their patterns are made, or another certificate.
+-- The value has the cells of what is made for the level: of a list, or of a zone.
 abbrev pub IsFound : Level → Found → Type 0
-IsFound level (Dead cells) = IsMadeOfDead level (lone_patterns cells.items)
-IsFound level (Other made) = IsMade level made
-
--- The checker accepts what is found.
-abbrev pub IsAcceptedFound : Level → Found → Type 0
-IsAcceptedFound level (Dead cells) = Closed level (patterns_of (lone_patterns cells.items))
-IsAcceptedFound level (Other made) = IsAcceptedMade level made
-
--- A text can spell what is found.
-abbrev pub IsLawfulFound : Found → Type 0
-IsLawfulFound (Dead cells) = (length cells.items ≤ most_patterns) × AllByRecursion IsPattern (lone_patterns cells.items)
-IsLawfulFound (Other made) = IsLawfulBody (body_of made)
+IsFound level (found.List dead frozen) = IsMadeList level (list_patterns dead.items frozen.items)
+IsFound level (found.Zone cells) = IsMadeZone level (record { line = 0; cells = cells.items })
 
 -- ---- laws
 -- If a box is on a dead square, the list of dead patterns is closed.

@@ -28,8 +28,7 @@ pub fn list_all<S: CellSet>(cells: &S, work: &mut Vec<Cell>)
 
 // Returns the coordinates of the cells of a set, in reading order.
 pub fn coords_of<S: CellSet>(alloc: Global, cells: &S) -> Result<Vec<Coord>, AllocError>
-    ensures list { IfOk result (λ coords. IsListOf (S.members cells.now) coords.items) }
-    ensures count { IfOk result (λ coords. length coords.items ≡ set.len (S.members cells.now)) }
+    ensures { IfOk result (λ coords. IsListOf (S.members cells.now) coords.items) }
 {
     let mut rows = Rows::new(alloc, cells.shape())?;
     rows.load(cells);
@@ -39,8 +38,7 @@ pub fn coords_of<S: CellSet>(alloc: Global, cells: &S) -> Result<Vec<Coord>, All
 // Returns the coordinates of the cells of rows, in reading order.
 pub fn coords_in(alloc: Global, cells: &Rows) -> Result<Vec<Coord>, AllocError>
     requires on { (c : GridCell) → Has cells.now.members c → IsOn cells.now.extent c }
-    ensures list { IfOk result (λ coords. IsListOf cells.now.members coords.items) }
-    ensures count { IfOk result (λ coords. length coords.items ≡ set.len cells.now.members) }
+    ensures { IfOk result (λ coords. IsListOf cells.now.members coords.items) }
 {
     let mut coords = Vec::with_capacity(alloc, count(cells))?;
     let shape = cells.shape();

@@ -2,7 +2,7 @@ pub mod Accepted
 pub mod Answered
 pub mod Errors
 pub mod Fits
-pub mod LoneRecords
+pub mod FoundRecords
 pub mod MadeRecords
 pub mod MapRows
 pub mod OneMade

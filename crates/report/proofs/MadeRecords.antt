@@ -2,12 +2,13 @@
 -- The loop keeps a function: put the records so far before any records of the levels that are left, and you have the
 -- records of all levels. A level for which something is made adds its record to those so far; any other level adds none.
 -- At the end no level and no record is left.
-use Rattle.std.proofs.Common.{◌≡◌, ◌≤◌, ◌⊎◌, ℕ, ◌+◌, false, ◌||◌, List, [], ◌∷◌, ◌++◌, length, drop, Option, None, Some, inr, refl, sym, ap, subst, ◌∙◌, arith, append_assoc, length-append}
+use Rattle.std.proofs.Common.{◌≡◌, ◌≤◌, ◌⊎◌, ℕ, ◌+◌, false, ◌||◌, List, [], ◌∷◌, ◌++◌, length, drop, Option, None, Some, inr, sym, ap, subst, ◌∙◌, arith, append_assoc, length-append}
 use Rattle.std.specs.Prelude.{Result, Ok, Err, IfOk, IfSome, IfNone}
 use Rattle.std.proofs.lemmas.List.{append-nil}
 use Rattle.std.proofs.lemmas.List.Folds.{list_any-append}
 use Rattle.std.proofs.lemmas.Grind.{flat_map-append}
 use Rattle.std.specs.List.{flat_map}
+use Rattle.board.specs.Board.{IsWellFormed}
 use Rattle.board.specs.Game.{Level}
 use Rattle.board.specs.Legal.{IsBoardOf}
 use Rattle.board.specs.Levels.{AreLevelsOf, most_levels}
@@ -15,23 +16,21 @@ use Rattle.board.specs.Lines.{lines_in, without_mark}
 use Rattle.answers.specs.Canonical.{header_line, holds_zone, record_text, some_zone}
 use Rattle.answers.proofs.Joined.{canonical_parts}
 use Rattle.answers.specs.declared.record.MadeRecord.{MadeRecord}
-use Rattle.maker.specs.Made.{IsAcceptedFound, IsFound, IsLawfulFound, IsNothingMade, body_of}
+use Rattle.maker.specs.Made.{IsFound, IsNothingMade}
 use Rattle.maker.specs.declared.making.Found.{Found}
-use Rattle.maker.specs.declared.making.Found.TheVariants.{Other}
-use Rattle.maker.specs.declared.making.Made.{Made}
 use Rattle.report.specs.MadeAnswers.{IsRefused, HasNothingMade, IsMadeBody, AreMade, none_left, without, with_record, AreMadeAnswers}
-use Rattle.report.specs.Making.{AreDraftsOf, IsDraftOf, IsFoundFor, draft_text, drafts_text, is_zone}
+use Rattle.report.proofs.FoundRecords.{IsDraftOf}
+use Rattle.report.specs.Making.{AreDraftsOf, IsFoundFor, draft_text, drafts_text, is_zone}
 use Rattle.devices.specs.Reading.{most_bytes}
 use Rattle.report.specs.declared.making.Draft.{Draft}
 
 -- ---- one level
 -- a certificate that is found for a board is found for its rows
-pub found_some : {E : Type 0} (rows : List (List ℕ)) (level : Level) (r : Result (Option Found) E) → IsBoardOf rows level
-    → IfOk r (λ o. IfSome o (IsFound level)) → IfOk r (λ o. IfSome o (IsAcceptedFound level)) → IfOk r (λ o. IfSome o IsLawfulFound)
-    → IfOk r (λ o. IfSome o (IsFoundFor rows))
-found_some rows level (Err e) legal is accepted lawful = tt
-found_some rows level (Ok None) legal is accepted lawful = tt
-found_some rows level (Ok (Some found)) legal is accepted lawful = search
+pub found_some : {E : Type 0} (rows : List (List ℕ)) (level : Level) (r : Result (Option Found) E) → IsBoardOf rows level → IfOk r (λ _. IsWellFormed level)
+    → IfOk r (λ o. IfSome o (IsFound level)) → IfOk r (λ o. IfSome o (IsFoundFor rows))
+found_some rows level (Err e) legal formed is = tt
+found_some rows level (Ok None) legal formed is = tt
+found_some rows level (Ok (Some found)) legal formed is = search
 
 -- if nothing is found for a board, nothing is made for its rows
 pub found_none : {E : Type 0} (rows : List (List ℕ)) (level : Level) (r : Result (Option Found) E) → IsBoardOf rows level
@@ -39,18 +38,6 @@ pub found_none : {E : Type 0} (rows : List (List ℕ)) (level : Level) (r : Resu
 found_none rows level (Err e) legal nothing = tt
 found_none rows level (Ok None) legal nothing = inr (level, legal, nothing)
 found_none rows level (Ok (Some found)) legal nothing = tt
-
--- the body of a certificate that was found is a made body
-pub found_made : (rows : List (List ℕ)) (made : Made) → IsFoundFor rows (Other made) → IsMadeBody rows (body_of made)
-found_made rows made found = record {
-  level = found.level;
-  legal = found.legal;
-  made = made;
-  is = found.is;
-  accepted = found.accepted;
-  body_is = refl;
-  lawful = found.lawful;
-}
 
 -- ---- the levels
 -- the records so far are made for the first k levels, whatever comes after them
@@ -80,7 +67,7 @@ drafts_more records one drafts draft h is = record {
   texts = flat_map-append draft_text drafts (draft ∷ [])
       ∙ (ap (λ t. t ++ (draft_text draft ++ [])) h.texts ∙ ap (λ t. flat_map record_text records ++ (t ++ [])) is.text)
       ∙ sym (flat_map-append record_text records (one ∷ []));
-  zones = list_any-append is_zone drafts (draft ∷ []) ∙ (ap (λ b. b || (is_zone draft || false)) h.zones ∙ ap (λ b. some_zone records || (b || false)) is.zone)
+  zones = list_any-append (λ d. is_zone d.found) drafts (draft ∷ []) ∙ (ap (λ b. b || (is_zone draft.found || false)) h.zones ∙ ap (λ b. some_zone records || (b || false)) is.zone)
       ∙ sym (list_any-append (λ r. holds_zone r.body) records (one ∷ []));
   count = omega (arith, length-append records (one ∷ []), length-append drafts (draft ∷ []));
 }

@@ -16,41 +16,24 @@ use Rattle.board.specs.Legal.{IsBoardOf, IsRefusal}
 use Rattle.board.specs.Levels.{AreLevelsOf}
 use Rattle.board.specs.declared.reading.BoardFault.{BoardFault}
 use Rattle.answers.specs.Body.{PatternLine, ZoneLine}
-use Rattle.answers.specs.Canonical.{holds_zone, made_lines, record_lines, some_zone}
-use Rattle.answers.specs.Grammar.{AreInOrder, IsBefore, pattern_text, said_pattern, zone_text}
+use Rattle.answers.specs.Canonical.{holds_zone, lone_patterns, made_lines, made_pattern, record_lines, some_zone}
+use Rattle.answers.specs.Grammar.{AreInOrder, pattern_text, said_pattern, zone_text}
 use Rattle.answers.specs.declared.pattern.Coord.{Coord}
 use Rattle.answers.specs.declared.record.MadeBody.{MadeBody}
 use Rattle.answers.specs.declared.record.MadeRecord.{MadeRecord}
 use Rattle.answers.proofs.TakenCells.{later}
 use Rattle.certificates.specs.CellLists.{cell_of}
 use Rattle.certificates.proofs.CellLists.{of_cells}
-use Rattle.maker.specs.Made.{AreDeadPatterns, AreFrozen, IsListOf, IsLeastZoneLine, IsMade, IsMadeList, HasNoList, body_of, coord_of, lone_patterns, made_pattern}
+use Rattle.maker.specs.Made.{AreDeadPatterns, AreFrozen, IsListOf, IsLeastZoneLine, IsMade, IsMadeList, HasNoList, body_of, coord_of}
 use Rattle.maker.specs.Zones.{LeastZonesAreOne}
 use Rattle.maker.specs.declared.making.Made.{Made}
 use Rattle.maker.specs.declared.making.Made.TheVariants.{Patterns, Zone}
 use Rattle.maker.proofs.Accepting.{one_dead_set}
-use Rattle.maker.proofs.Listing.{listed_cell}
+use Rattle.maker.proofs.Listing.{after_first, listed_cell, not_around}
 use Rattle.report.specs.MadeAnswers.{AreMade, AreMadeAnswers, IsMadeBody, none_left, without, with_record}
 use Rattle.report.proofs.OneMade.{made_or_not}
 
 -- ---- cells in reading order
-before_trans : (a b c : Coord) → IsBefore a b → IsBefore b c → IsBefore a c
-before_trans a b c (inl up) (inl down) = grind arith
-before_trans a b c (inl up) (inr row) = grind arith
-before_trans a b c (inr row) (inl down) = grind arith
-before_trans a b c (inr row) (inr also) = grind arith
-
-not_around : (a b : Coord) → IsBefore a b → IsBefore b a → ⊥
-not_around a b (inl up) (inl down) = omega arith
-not_around a b (inl up) (inr row) = omega arith
-not_around a b (inr row) (inl down) = omega arith
-not_around a b (inr row) (inr also) = omega arith
-
-after_first : (a : Coord) (xs : List Coord) → AreInOrder (a ∷ xs) → (x : Coord) → Contains xs x → IsBefore a x
-after_first a [] order x (k, within, is) = absurd (omega arith)
-after_first a (b ∷ xs) order x (zero, within, is) = subst (IsBefore a) is order.0
-after_first a (b ∷ xs) order x (suc k, within, is) = before_trans a b x order.0 (after_first b xs order.1 x (k, omega arith, is))
-
 first_or_later : (a : Coord) (xs : List Coord) (x : Coord) → Contains (a ∷ xs) x → (a ≡ x) ⊎ Contains xs x
 first_or_later a xs x (zero, within, is) = inl is
 first_or_later a xs x (suc k, within, is) = grind arith

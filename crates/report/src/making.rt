@@ -2,7 +2,6 @@
 ghost use Rattle.std.specs.Prelude.{◌≡◌, ◌≢◌, ◌+◌, ◌<◌, ◌≤◌, ◌⊎◌, ℕ, List, Some, length, IfOk, IfErr, IfSome, IfNone, IsErrOf};
 ghost use Rattle.std.specs.List.{flat_map, list_any};
 ghost use Rattle.std.specs.Io.KnownBytes.{Appends, Keeps};
-ghost use Rattle.answers.specs.Canonical.{record_text};
 ghost use Rattle.devices.specs.Device.{AppendsBeginning, CountsFault};
 ghost use Rattle.answers.specs.declared.record.MadeRecord.{MadeRecord as MadeOne};
 ghost use Rattle.report.specs.Collection.{HasTooManyLevels, IsDueFor};
@@ -13,11 +12,11 @@ ghost use Rattle.devices.specs.Writing.{Writes};
 
 use crate::fault::{AuditError, Which};
 use crate::input::{levels_in, read_error};
-use answers::{Coord, MadeBody, MadeRecord, write_header, write_lone_record, write_record};
+use answers::{write_header, write_list_record, write_zone_record};
 use board::{Board, BoardFault, LevelText, read_next_board};
 use cellset::{BitSet, CellSet};
-use devices::{Device, DeviceFault, Sink, Source, read_whole, write_whole};
-use maker::{Found, Made, find};
+use devices::{DeviceFault, Sink, Source, read_whole};
+use maker::{Found, find};
 use std::alloc::{AllocError, Global};
 
 /// Makes answers for a collection: a record for each legal level for which `maker::make` returns a certificate, in order.
@@ -94,9 +93,11 @@ fn write_text<W: Sink>(drafts: &[Draft], answers: &mut W) -> Result<(), DeviceFa
 
 // Returns whether some draft is kept as a zone.
 fn some_zone(drafts: &[Draft]) -> bool
-    ensures { result ≡ list_any is_zone drafts.now }
+    ensures { result ≡ list_any (λ d. is_zone d.found) drafts.now }
 {
-    drafts.iter().any(|draft| matches!(draft, Draft::Zone(_)))
+    drafts
+        .iter()
+        .any(|draft| matches!(draft.found, Found::Zone(_)))
 }
 
 // Writes the texts of the drafts.
@@ -113,22 +114,17 @@ fn write_drafts<W: Sink>(drafts: &[Draft], answers: &mut W) -> Result<(), Device
 fn write_draft<W: Sink>(draft: &Draft, answers: &mut W) -> Result<(), DeviceFault>
     ensures { Writes W.Sink answers.old answers.new (draft_text draft.now) result }
 {
-    match draft {
-        Draft::Dead { level, cells } => write_lone_record(*level, cells, answers),
-        Draft::Zone(one) => write_record(one, answers),
-        Draft::Text(text) => write_whole(answers, text),
+    match &draft.found {
+        Found::List { dead, frozen } => write_list_record(draft.level, dead, frozen, answers),
+        Found::Zone(cells) => write_zone_record(draft.level, cells, answers),
     }
 }
 
-// A record that is ready to be written, in the form that takes the least memory.
+// The number of a level, and what was found for it.
 #[derive(Drop)]
-enum Draft {
-    // The record of a list of dead squares.
-    Dead { level: usize, cells: Vec<Coord> },
-    // The record of a zone.
-    Zone(MadeRecord<'static>),
-    // The text of another record.
-    Text(Vec<u8>),
+struct Draft {
+    level: usize,
+    found: Found,
 }
 
 // Drafts the records of the levels, in order.
@@ -156,35 +152,12 @@ fn draft_for(
     ensures none { IfOk result (λ draft. IfNone draft (IsRefused level.now ⊎ HasNothingMade level.now)) }
 {
     match found_for(alloc, level, last)? {
-        Some(Found::Dead(cells)) => Ok(Some(Draft::Dead {
+        Some(found) => Ok(Some(Draft {
             level: number,
-            cells,
+            found,
         })),
-        Some(Found::Other(Made::Zone(zone))) => Ok(Some(Draft::Zone(MadeRecord {
-            level: number,
-            body: MadeBody::Zone(zone),
-        }))),
-        Some(Found::Other(Made::Patterns(patterns))) => {
-            let one = MadeRecord {
-                level: number,
-                body: MadeBody::Patterns(patterns),
-            };
-            Ok(Some(Draft::Text(text_of(alloc, &one)?)))
-        }
         None => Ok(None),
     }
-}
-
-// Returns the text of a record. The patterns of a list take more memory than their text.
-fn text_of(alloc: Global, one: &MadeRecord) -> Result<Vec<u8>, AllocError>
-    ensures { IfOk result (λ text. text.items ≡ record_text one.now) }
-{
-    let mut text = Device::new(Vec::new(alloc));
-    let Ok(()) = write_record(one, &mut text) else {
-        // A sink in memory fails only if the system refuses memory.
-        return Err(AllocError);
-    };
-    Ok(text.into_inner())
 }
 
 // Returns the certificate that is found for a level, if the level is legal and there is one.

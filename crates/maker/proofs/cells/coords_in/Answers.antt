@@ -11,5 +11,4 @@ loop-row-init c =
 pub returns : goal.returns
 returns c =
     let high = ap (λ (e : Extent). e.height) c.shape-shape.ensures in
-    let all = all_listed _ _ _ (λ q has. let bottom = (c.requires.on q has).bottom in omega arith) c.loop-row.invariant in
-    record { list = all.0; count = all.1 }
+    all_listed _ _ _ (λ q has. let bottom = (c.requires.on q has).bottom in omega arith) c.loop-row.invariant

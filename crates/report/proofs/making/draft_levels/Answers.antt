@@ -7,6 +7,7 @@ use Rattle.std.proofs.lemmas.Option.{MatchOption-at_some}
 use Rattle.answers.specs.declared.record.MadeRecord.{MadeRecord}
 use Rattle.report.specs.Making.{IsDraftFor}
 use Rattle.report.proofs.Reports.{drop_at}
+use Rattle.report.proofs.FoundRecords.{record_of}
 use Rattle.report.proofs.MadeRecords.{drafts_more, made_all, none_more, record_more}
 use Rattle.report.proofs.making.draft_levels.Goals as goal
 use Rattle.report.proofs.making.draft_levels.Goals.{in-Some, in_default}
@@ -22,7 +23,7 @@ loop-before-preserved c =
     elim c.match-branch-3.branch [
       | in-Some w ↦
           let draft = w.in-Some.draft in
-          let (body, made, is) = MatchOption-at_some _ (IsDraftFor (k + 1) rows) draft w.in-Some.is c.in_ok-draft.ensures.some in
+          let (body, made, is) = record_of (k + 1) rows draft (MatchOption-at_some _ (IsDraftFor (k + 1) rows) draft w.in-Some.is c.in_ok-draft.ensures.some) in
           let one : MadeRecord = record { level = k + 1; body = body } in
           let pushed = ap (λ v. v.items) w.drafts-is ∙ w.push_reserved.ensures.items in
           record {

@@ -7,7 +7,7 @@ use Rattle.report.specs.declared.making.Draft.{Draft}
 use Rattle.report.proofs.making.write_text.Goals as goal
 
 abbrev header : List Draft → List ℕ
-header drafts = header_line (list_any is_zone drafts)
+header drafts = header_line (list_any (λ d. is_zone d.found) drafts)
 
 pub returns-in_err-write_header : goal.returns-in_err-write_header
 returns-in_err-write_header g c =
