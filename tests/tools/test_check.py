@@ -159,14 +159,17 @@ class Whole(Check):
         self.assertEqual((again.status, again.err), (0, ""))
 
     def test_many_problems_are_all_on_standard_error(self) -> None:
-        self.write("a.txt", CORNER + "Solution: d\n" * 12)
-        result = self.check("mine", "a.txt")
-        problems = [f"a.txt line {line}: the solution of level 1 leaves 1 box off the goals"
-                    for line in range(7, 19)]
-        self.assertEqual(result.err.splitlines(), [f"check: {problem}" for problem in problems])
-        self.assertEqual(self.lines(result)[1:9],
-                         [f"problem: {problem}" for problem in problems[:7]] +
-                         ["problem: and 5 more"])
+        """The summary has up to eight. Of more it has seven, and how many are left."""
+        for count in (1, 8, 9, 12):
+            self.write("a.txt", CORNER + "Solution: d\n" * count)
+            result = self.check("mine", "a.txt")
+            problems = [f"a.txt line {line}: the solution of level 1 leaves 1 box off the goals"
+                        for line in range(7, 7 + count)]
+            self.assertEqual(result.err.splitlines(),
+                             [f"check: {it}" for it in problems] * (count > 8))
+            shown = problems if count <= 8 else [*problems[:7], f"and {count - 7} more"]
+            self.assertEqual([it for it in self.lines(result) if it.startswith("problem: ")],
+                             [f"problem: {it}" for it in shown])
 
     def test_twins_are_named(self) -> None:
         self.write("a.txt", CORNER + "\n" + CORNER.replace("Corner", "Again"))

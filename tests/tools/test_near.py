@@ -4,13 +4,14 @@ import contextlib
 import itertools
 import os
 import random
+import re
 import signal
 import struct
 import sys
 import unittest.mock
 from typing import Iterator, List
 
-from sokotool import answers, builder, levels, progress, sources, system
+from sokotool import answers, builder, changes, levels, progress, sources, summary, system
 from sokotool.board import board_of
 from sokotool.commands import convert
 from sokotool.formats import other_games
@@ -84,6 +85,47 @@ class NearMisses(Case):
         result = self.tool("convert", "out", "in", "--split")
         self.assertIn("one", result.err)
         self.assertIn(b"R", self.read("out-1.answers"))
+
+
+class Edges(Case):
+    """The first and the last of a count, exactly one or two, and exactly the limit."""
+
+    def test_levels_in_words(self) -> None:
+        """Numbers as text are the numbers, those of two levels too, and each run is written once.
+        """
+        for chosen in itertools.product((False, True), repeat=6):
+            numbers = [number for number, there in enumerate(chosen, 1) if there]
+            said = [it.partition("-") for it in changes.ranges(numbers).split(", ") if it]
+            runs = [(int(first), int(last or first)) for first, _, last in said]
+            self.assertEqual([it for first, last in runs for it in range(first, last + 1)], numbers)
+            self.assertTrue(all(one[1] + 1 < other[0] for one, other in zip(runs, runs[1:])), runs)
+
+    def test_some_of_many_changes(self) -> None:
+        """Of more than four changes of a kind the summary has four, and says how many more."""
+        for count in range(7):
+            removed = [changes.Change("removed", 0, number, "", f"word{number}")
+                       for number in range(1, count + 1)]
+            said = " ".join(summary.changed(removed))
+            self.assertEqual(said.count("word"), min(count, 4))
+            more = re.findall(r"; and (\d+) more", said)
+            self.assertEqual(more, [str(count - 4)] * (count > 4))
+
+    def test_levels_that_got_other_numbers(self) -> None:
+        """One, two or three after a new one are a run."""
+        for count in (1, 2, 3):
+            moved = [changes.Change("renumbered", number + 1, number, "", "")
+                     for number in range(1, count + 1)]
+            now, was = ("level 2", "1") if count == 1 else (f"levels 2-{count + 1}", f"1-{count}")
+            self.assertEqual([*summary.changed(moved)], [f"renumbered: {now} (formerly {was})"])
+
+    def test_lines_and_levels_of_a_fault(self) -> None:
+        """A solution that can't be played is told with its line and its level, wherever it is."""
+        for before, bad in itertools.product(range(3), range(1, 4)):
+            text = "\n" * before + "".join(
+                ONE + f"Solution: {'L' if number == bad else 'R'}\n\n" for number in range(1, 4))
+            line = before + ONE.count("\n") * bad + 2 * (bad - 1) + 1
+            self.assertIn(f"mine.txt line {line}: the solution of level {bad} cannot be played",
+                          self.convert(text)[0].err)
 
 
 class Parts(Case):
