@@ -103,7 +103,8 @@ def late(check: Comparison, tab: Tab) -> None:
 
 
 def dropping(check: Comparison, tab: Tab) -> None:
-    """Files that are dropped while the page still reads an earlier drop."""
+    """Files that are chosen while the page still reads earlier ones: those that are dropped go the
+    same way."""
     write("one.xsb", LEVEL)
     write("slow.txt", LETTERS + "\n" * 600)
     write("slow.answers", f"{ANSWERS}{'; ' * 300}\n")

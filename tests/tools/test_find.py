@@ -301,6 +301,7 @@ class Signs(Case):
         said = b""
         # Level 3 has begun, and then level 2 alone is at work.
         while not re.search(rb"level 3 for.*found: level 2 for \d+ s\r", said, re.DOTALL):
+            self.assertIsNone(running.poll(), said)
             said += os.read(ours, 65536)
         os.killpg(running.pid, signal.SIGINT)
         self.assertEqual(running.wait(600), 130)
