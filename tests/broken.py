@@ -42,6 +42,7 @@ KEPT = "rt: {} is kept: an earlier run on this machine proved the same files"
 OPEN = re.compile(r"(?m)^fn \w+::(\S+): no proof: (?!it calls )")
 WRONG = re.compile(r"(?m)^\./proofs/((?:\w+/)+)\w+\.antt:\d+:\d+: error: (?!.*(?:has no field"
                    r"|is not in scope|has no `|was not admitted|that depends? on|antt ran out of))")
+ENDS = re.compile(r"(?m)^only=\d+ proved=\d+$")
 WAITS = re.compile(r"(?m)^fn (\S+): (?:not proved; |no proof: )it calls ")
 # what a check prints, shortened, and whether it refuses the function `step` of src/shape.rt
 SAID = (
@@ -134,19 +135,21 @@ def edits_of(name: str) -> List[Edit]:
 
 
 def judge(cases: Cases, crate: str, edits: Sequence[Edit], said: str) -> List[Edit]:
-    """A case for each of these edits, by what a check with all of them printed, and one for all
-    other functions. Returns the edits that have to be tried again, as a refused function is called
-    by theirs."""
-    found, waiting = refused(crate, said), []
+    """A case for each of these edits, by what a check with all of them printed, and two for the
+    check itself. Returns the edits that have to be tried again, if there are others: a refused
+    function is called by theirs."""
+    found, last = refused(crate, said), said.splitlines()[-20:]
+    cases.holds("the check ends", ENDS.search(said), *last)
     others = sorted(found - {function for it in edits for function in it.functions})
     cases.holds("nothing is refused without an edit", not others, *others)
-    for edit in edits:
-        missed = [it for it in edit.functions if it not in found]
-        if missed and len(edits) > 1 and {*missed} <= {*WAITS.findall(said)}:
-            waiting.append(edit)
-        else:
-            cases.holds(f"{edit.name} is refused in {' and '.join(edit.functions)}", not missed,
-                        *missed, *said.splitlines()[-20:])
+    missed = {it.name: {*it.functions} - found for it in edits}
+    waiting = [it for it in edits if missed[it.name] and missed[it.name] <= {*WAITS.findall(said)}]
+    if len(waiting) == len(edits):
+        waiting = []
+    for it in edits:
+        if it not in waiting:
+            cases.holds(f"{it.name} is refused in {' and '.join(it.functions)}",
+                        not missed[it.name], *missed[it.name], *last)
     return waiting
 
 
