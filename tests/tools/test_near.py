@@ -201,7 +201,7 @@ class Terminals(Case):
 
 class Handlers(Case):
     def test_handlers_are_put_back(self) -> None:
-        """Also after an error, and after an interrupt, which comes at the end of the work."""
+        """Also after an error, and after an interrupt, which comes when the work ends or fails."""
         def handler(*_: object) -> None:
             raise AssertionError
 
@@ -218,4 +218,7 @@ class Handlers(Case):
             signal.raise_signal(signal.SIGINT)
             done.append("the work")
         self.assertEqual(done, ["the work"])
+        with self.assertRaises(KeyboardInterrupt), system.uninterrupted():
+            signal.raise_signal(signal.SIGINT)
+            raise ValueError
         self.assertIs(signal.getsignal(signal.SIGINT), handler)

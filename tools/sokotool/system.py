@@ -53,15 +53,15 @@ def processors() -> int:
 
 @contextlib.contextmanager
 def uninterrupted() -> Iterator[None]:
-    """Lets an interrupt wait for the end of some work."""
+    """Lets an interrupt wait for the end of some work, also if that fails."""
     came: List[int] = []
     former = signal.signal(signal.SIGINT, lambda number, _: came.append(number))
     try:
         yield
     finally:
         signal.signal(signal.SIGINT, former)
-    if came:
-        raise KeyboardInterrupt
+        if came:
+            raise KeyboardInterrupt
 
 
 def is_device(name: str) -> bool:

@@ -2,9 +2,7 @@
 and `run(options)`, which returns the exit status."""
 import argparse
 import codecs
-import contextlib
-import signal
-from typing import Any, Callable, Iterator, List
+from typing import Any, Callable
 
 from .. import texts
 
@@ -44,16 +42,3 @@ def _encoding(name: str) -> str:
         return codecs.lookup(name).name
     except (LookupError, ValueError):
         raise argparse.ArgumentTypeError(f"there is no encoding {texts.shown(name)}") from None
-
-
-@contextlib.contextmanager
-def unbroken() -> Iterator[None]:
-    """Delays an interrupt until a record is written in full."""
-    interrupted: List[int] = []
-    before = signal.signal(signal.SIGINT, lambda number, _: interrupted.append(number))
-    try:
-        yield
-    finally:
-        signal.signal(signal.SIGINT, before)
-        if interrupted:
-            raise KeyboardInterrupt

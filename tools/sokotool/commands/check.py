@@ -27,7 +27,7 @@ from ..outcomes import Result
 from ..own_files import (ANSWERS, KEPT_ANSWERS, KEPT_XSB, MEMORY, OTHER, PAGE, REPORT, SHEET, XSB,
                          noted)
 from ..progress import Progress
-from . import SECONDS, above_zero, encoding_argument, page, seconds, unbroken
+from . import SECONDS, above_zero, encoding_argument, page, seconds
 
 BUDGET = 60
 # how often the files are read again if they change
@@ -148,7 +148,7 @@ def settled(given: Run, state: Optional[State] = None) -> State:
                 made = check_run.audit(given, state or check_run.begun(given))
                 given.shown.show("writing")
                 files = contents(given, made)
-                with unbroken():
+                with system.uninterrupted():
                     made.former.files.write(files)
                 given.has_backups = made.former.files.has_backups
                 given.written.update(made.former.files.written)

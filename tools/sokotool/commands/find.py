@@ -12,12 +12,12 @@ import math
 from collections import Counter
 from typing import Dict, List
 
-from .. import answers, levels, output, report, texts
+from .. import answers, levels, output, report, system, texts
 from ..outcomes import FOUND, FULL, ILLEGAL, LATE, LONG, MEMORY, SOLVABLE, Result
 from ..progress import Progress
 from ..search.budget import Budget, Limits
 from ..searches import WORDS, Searches
-from . import SECONDS, above_zero, unbroken
+from . import SECONDS, above_zero
 
 # The names under which the last line counts levels, each with its outcomes.
 NAMES = {"found": (FOUND,), "solvable": (SOLVABLE,), "stopped": (LATE,),
@@ -61,7 +61,7 @@ def run(options: argparse.Namespace) -> int:
         for result in search.results(lambda: shown.show(f"{done()}: {search.at_work()}")):
             if printed + len(result.record) > texts.MOST_BYTES:
                 result = result._replace(what=LONG, record=b"", words=WORDS[LONG])
-            with unbroken():
+            with system.uninterrupted():
                 add(result)
             printed += len(result.record)
         status = int(answered() < len(found))
