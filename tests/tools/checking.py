@@ -2,11 +2,9 @@
 import os
 import re
 import shutil
-import unittest.mock
 from typing import List
 
 from sokotool import auditor
-from tests.tools import helping
 from tests.tools.helping import SAMPLES, Case, Result
 
 CORNER = "Corner\n######\n#    #\n#@$  #\n#  . #\n######\n"
@@ -19,9 +17,7 @@ class Check(Case):
 
     def setUp(self) -> None:
         super().setUp()
-        patch = unittest.mock.patch.dict(os.environ, SOKOAUDIT=helping.PROGRAM)
-        patch.start()
-        self.addCleanup(patch.stop)
+        self.use_program()
 
     def check(self, *words: str, given: bytes = b"") -> Result:
         """Runs check without a search."""

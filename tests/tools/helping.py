@@ -60,18 +60,29 @@ def known_parser(words: Sequence[str]) -> argparse.ArgumentParser:
     return PARSER_OF(tuple(words[:1]))
 
 
-def reference_here() -> Any:
-    """Returns a patch by which the reference runs in this process, whatever program is named."""
+@functools.lru_cache(None)
+def reference_module() -> Any:
+    """Returns the reference as a module, which is loaded once."""
     loader = SourceFileLoader("reference_program", os.path.join(TOP, "reference", "sokoaudit"))
     spec = importlib.util.spec_from_loader(loader.name, loader)
     assert spec
     module: Any = importlib.util.module_from_spec(spec)
     with unittest.mock.patch.object(sys, "path", [os.path.join(TOP, "reference"), *sys.path]):
         loader.exec_module(module)
+    return module
 
+
+def answer_here(*words: str) -> auditor.Ran:
+    """Runs the reference in this process."""
+    module = reference_module()
+    out, error, status = module.answer_to(lambda: module.run(words))
+    return auditor.Ran(status, out, error.decode().strip())
+
+
+def reference_here() -> Any:
+    """Returns a patch by which the reference runs in this process, whatever program is named."""
     def run(_self: auditor.Auditor, *words: str, **_: object) -> auditor.Ran:
-        out, error, status = module.answer_to(lambda: module.run(words))
-        return auditor.Ran(status, out, error.decode().strip())
+        return answer_here(*words)
     return unittest.mock.patch.object(auditor.Auditor, "run", run)
 
 
@@ -144,8 +155,19 @@ class Case(unittest.TestCase):
         return Result(status, printed.getvalue(), err.getvalue())
 
     def audit(self, levels: str, answers: str) -> bytes:
-        """Runs sokoaudit, and returns its report."""
+        """Runs sokoaudit, and returns its report. The reference runs in this process."""
+        if over_reference():
+            ran = answer_here("audit", levels, answers)
+            return ran.out or f"{ran.fault}\n".encode()
         return runner.call([PROGRAM, "audit", levels, answers], joined=True).output
+
+    def use_program(self) -> None:
+        """Lets sokotool audit by the program. The reference runs in this process."""
+        patches = [unittest.mock.patch.dict(os.environ, SOKOAUDIT=PROGRAM),
+                   *([reference_here()] if over_reference() else [])]
+        for patch in patches:
+            patch.start()
+            self.addCleanup(patch.stop)
 
     def takes_less(self, most: float, work: Callable[[], object]) -> None:
         """Some work takes fewer processor seconds than `most`, as on an idle machine. The best of

@@ -1,9 +1,8 @@
 """Power cuts while check writes: the next run makes all files new, and loses nothing."""
 import os
-import unittest.mock
 from typing import Dict
 
-from . import disk, helping
+from . import disk
 from .helping import ONE, Case, Result
 
 MORE = "Title: More\n\n#######\n#@ $ .#\n#######\nSolution: rRR\n"
@@ -12,9 +11,7 @@ MORE = "Title: More\n\n#######\n#@ $ .#\n#######\nSolution: rRR\n"
 class PowerCuts(Case):
     def setUp(self) -> None:
         super().setUp()
-        patch = unittest.mock.patch.dict(os.environ, SOKOAUDIT=helping.PROGRAM)
-        patch.start()
-        self.addCleanup(patch.stop)
+        self.use_program()
 
     def check(self) -> Result:
         return self.tool("check", "mine", "one.txt", "more.txt", "--seconds", "0")
