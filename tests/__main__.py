@@ -15,6 +15,7 @@ TOP = os.path.dirname(os.path.dirname(os.path.realpath(__file__)))
 # the parts, those that take longest first, each with the commands that it cannot do without
 PARTS = {
     "tools reference/sokoaudit": "",
+    "failing": "bash",
     "documents sokoaudit": "bash",
     "script": "bash make git",
     "hostile reference/sokoaudit quick": "bash",
@@ -29,6 +30,7 @@ PARTS = {
     "samples sokoaudit": "bash",
 }
 NUMBERS = re.compile(r"(\d+) passed, (\d+) failed(?:, (\d+) skipped)?")
+FAILURE = re.compile(r"(?m)^\S.*: FAILED: ")
 FIRST = """There is no command rt, the Rattle toolchain: nothing is proved here, and the reference
 in Python stands for the program. HACKING.md says what is tested with the toolchain."""
 
@@ -46,8 +48,10 @@ def command_of(part: str) -> List[str]:
     name, *words = part.split()
     bare = [f"{TOP}/tests/bare", "env", *(f"{name}={it}" for name, it in given_to(part).items())]
     words = [os.path.join(TOP, it) if os.path.exists(os.path.join(TOP, it)) else it for it in words]
-    return [*(bare if hasattr(os, "fork") else []), sys.executable, "-B", "-m", f"tests.{name}",
-            *words]
+    script = f"{TOP}/tests/{name}.sh"
+    starts = ["bash", script] if os.path.exists(script) else [sys.executable, "-B", "-m",
+                                                              f"tests.{name}"]
+    return [*(bare if hasattr(os, "fork") else []), *starts, *words]
 
 
 def given_to(part: str) -> Dict[str, str]:
@@ -62,7 +66,7 @@ def given_to(part: str) -> Dict[str, str]:
 
 def run(part: str) -> Ended:
     """Runs a part, unless it lacks a command. One that ends without numbers, or with another status
-    than they say, failed."""
+    than they say, or prints more failures than they count, failed."""
     needs = PARTS[part].split()
     lacks = [f"there is no command {it}" for it in needs if not shutil.which(it)]
     if needs and not hasattr(os, "fork"):
@@ -76,7 +80,8 @@ def run(part: str) -> Ended:
     said = ran.stdout.decode(errors="replace")
     last = NUMBERS.fullmatch((said.splitlines() or [""])[-1])
     numbers = [int(it or 0) for it in last.groups()] if last else [0, 1, 0]
-    if last and bool(ran.returncode) != bool(numbers[1]):
+    if last and (bool(ran.returncode) != bool(numbers[1])
+                 or len(FAILURE.findall(said)) > numbers[1]):
         numbers[1] += 1
     return Ended(part, said, numbers, time.monotonic() - began)
 

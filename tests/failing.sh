@@ -1,7 +1,7 @@
 #!/usr/bin/env bash
 # tests/run failing: shows that a case that fails counts as one. The gate runs it first and ends if it fails, since all other parts count by
 # what it tries: the runner of the tests, unittest in part tools, a fault that nothing notices, and the sum of the gate. It judges by none
-# of them. The last line is 'N passed, M failed'.
+# of them. Without the toolchain it is one of the parts of 'python3 -m tests'. The last line is 'N passed, M failed'.
 set -u
 cd -- "$(dirname -- "${BASH_SOURCE[0]}")/.." || exit 2
 export PYTHONPATH=tools:reference:include

@@ -52,6 +52,8 @@ ALONE = (
      "5 passed, 2 failed"),
     ("echo 4 passed, 0 failed; exit 1", "", "4 1 0 0/4 passed, 0 failed"),
     ("echo 3 passed, 1 failed", "", "3 2 0 0/3 passed, 1 failed"),
+    ("echo p: q: FAILED: it; echo 1 passed, 0 failed", "", "1 1 0 0/p: q: FAILED: it/"
+     "1 passed, 0 failed"),
     ("echo 2 passed, 0 failed; echo more", "", "0 1 0 0/2 passed, 0 failed/more"),
     ("exit 0", "", "0 1 0 0"),
     ("touch begun", "bash none-such", "0 0 1 0 there is no command none-such"),
@@ -255,15 +257,18 @@ def without_toolchain(cases: Cases) -> None:
         line = f"{part.split()[0]} {first}"
         cases.holds(f"python3 -m tests: {part}", line in said and
                     said[said.index(line) + 1:][:len(more)] == more, *said)
-    cases.same("the sum", "19 passed, 7 failed, 4 skipped", said[-1])
+    cases.same("the sum", "20 passed, 8 failed, 4 skipped", said[-1])
     cases.holds("a part that lacks a command isn't begun", not os.path.exists("begun"))
     words = every.command_of("tables reference/sokoaudit made")
     cases.same("the command of a part", str(["tests.tables", f"{TOP}/reference/sokoaudit", "made"]),
                str(words[-3:]))
     gate = {*re.findall(r"(?m)^[^#\n]*\d .*tests/run (\w+)", read(f"{TOP}/.ci/run"))} - OF_THE_GATE
     named = {it.split()[0] for it in every.PARTS}
-    cases.same("it has each part that needs no program", str(sorted({*gate, "reference.parts"})),
-               str(sorted(named)))
+    cases.same("it has each part that needs no program",
+               str(sorted({*gate, "failing", "reference.parts"})), str(sorted(named)))
+    script = every.command_of("failing")
+    cases.same("a part that is a script", str(["bash", f"{TOP}/tests/failing.sh"]),
+               str(script[-2:]))
 
 
 def variables(cases: Cases) -> None:
