@@ -425,6 +425,13 @@ class Reading(Case):
         self.takes_less(12, lambda: self.tool("convert", "out", "a.txt", "--replace"))
 
     @is_slow
+    def test_long_lines_without_a_level(self) -> None:
+        """Nor do those by which the words of a list of solutions are told from its numbers."""
+        self.write("a.txt", ONE)
+        self.write("b.txt", "\n".join(["R", *(it * 5_000 for it in ("!", "! ", "no", "1!"))]))
+        self.takes_less(.4, lambda: self.tool("convert", "out", "a.txt", "b.txt", "--replace"))
+
+    @is_slow
     def test_short_lines(self) -> None:
         """33 MB of short lines take at most 20 s and 1 GB; a twentieth is tried here."""
         for unit in ("a\n", "r\n", "#\n", "r a\n"):

@@ -8,7 +8,7 @@ import time
 import unittest.mock
 from typing import Any, Callable, List
 
-from sokotool import levels, mistakes, outcomes, solvers, texts
+from sokotool import levels, mistakes, outcomes, solver_output, solvers, texts
 from sokotool.search.budget import Budget, Limits
 from tests.tools.exports import ALPHA, BETA, GAMMA
 from tests.tools.helping import (LACKING, SAMPLES, TOP, Case, Result, is_slow, needs_copies,
@@ -386,6 +386,12 @@ class Checks(Check):
         self.write("a.txt", BETA)
         said = self.solve("print('rR')").err
         self.assertEqual(said.count("what it starts may go on"), LACKING == "windows")
+
+    @is_slow
+    def test_a_long_line(self) -> None:
+        """It is read once, whatever ends it."""
+        text = b"pattern 1,1" + b" " * 8_000 + b"\rx\n"
+        self.takes_less(.05, lambda: [*solver_output.certificates_in([text])])
 
     @is_slow
     def test_the_example(self) -> None:

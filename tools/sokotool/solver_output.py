@@ -12,7 +12,8 @@ MOST_TRIED, MOST_LETTERS = 10_000, 4_000_000
 _COLOURS = re.compile(rb"\x1b\[[0-9;]*[A-Za-z]")
 # a line of a certificate, or one that begins or ends its body
 _CERTIFIES = re.compile(
-    rb"(?m)^[ \t]*((?:pattern|zone)[ \t]+\d+[ \t]*,[ \t]*\d[^\r\n]*|unsolvable|end)[ \t\r]*$")
+    rb"(?m)^[ \t]*((?:pattern|zone)[ \t]+\d+[ \t]*,[ \t]*\d[^\r\n]*(?![^\r\n])|unsolvable|end)"
+    rb"[ \t\r]*$")
 
 
 def solution_in(level: Level, parts: Sequence[bytes]) -> Tuple[Optional[bytes], List[str]]:

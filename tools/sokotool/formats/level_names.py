@@ -11,7 +11,7 @@ from .export_lines import Export, Level
 MOST_ABOVE, MOST_WORDS = 6, 12
 _BETWEEN = re.compile(r"[\s:;,=|\"'\[\]{}<>()#*.>/-]+")
 _NUMBER = re.compile(r"\W*(?:[^\W\d_]+\W+){0,3}([0-9]{1,5})(?![0-9])")
-_BARE_NUMBER = re.compile(r"\W*(?:level|puzzle|no|nr|number)?\W*[0-9]+\W*", re.I)
+_BARE_NUMBER = re.compile(r"\W*(?:(?:level|puzzle|no|nr|number)\W*)?[0-9]+\W*", re.I)
 
 
 class Names:
