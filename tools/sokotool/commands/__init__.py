@@ -32,7 +32,7 @@ def encoding_argument(parser: argparse.ArgumentParser) -> None:
     """Adds the argument of commands that read exports."""
     parser.add_argument("--encoding", metavar="E", type=_encoding,
                         help="read files that aren't UTF-8 or UTF-16 in this encoding, by Python's "
-                             "name, such as big5 (guessed by default)")
+                             "name, such as euc-kr (guessed by default)")
 
 
 def _encoding(name: str) -> str:
