@@ -1,6 +1,8 @@
 """What convert reads, and what it must never do."""
 import base64
+import io
 import os
+import tarfile
 from typing import Dict, List
 
 from tests.tools.helping import ONE, SAMPLES, Case, Converted, is_slow
@@ -142,9 +144,13 @@ class Levels(Case):
 
     def test_forms_that_are_no_text(self) -> None:
         unread = ", which is not read: unpack it first"
+        tar = io.BytesIO()
+        with tarfile.open(fileobj=tar, mode="w") as archive:
+            archive.addfile(tarfile.TarInfo("a.xsb"), io.BytesIO())
         for data, why in ((b"7z\xbc\xaf\x27\x1c", "a 7-Zip archive" + unread),
                           (b"PK\3\4\0", "a damaged zip archive, or one too deep in others"
                            + unread),
+                          (tar.getvalue(), "a tar archive" + unread),
                           (ONE.encode() + b"\0" * 9, "zero bytes at the end, from line 4")):
             result = self.convert(data)[0]
             self.assertEqual(result.status, 1)

@@ -344,7 +344,8 @@ function unfilled(text) {
 
 // one text as a part; the head is its first bytes
 function partOf(name, bytes, head, isAlone) {
-    const form = FORMS.find(([, begins]) => begins.test(head))?.[0], faults = [];
+    const isTar = textOf(bytes.subarray(257, 262)) === "ustar", faults = [];
+    const form = isTar ? FORMS[0][0] : FORMS.find(([, begins]) => begins.test(head))?.[0];
     const { text, encoding } = readBytes(bytes), zero = form ? 0 : unfilled(text).indexOf("\0");
     if (form) faults.push({ number: 0,
         words: form.includes(":") ? `is ${form}` : `is ${form}, no text` });

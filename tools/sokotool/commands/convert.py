@@ -182,6 +182,8 @@ def _read_export(reader: reading.Reader, export: sources.Export, data: bytes) ->
 
 def _form_of(data: bytes) -> str:
     """Returns what a file is that has to be unpacked first, or ""."""
+    if data[257:262] == b"ustar":
+        return "a tar archive"
     return next((form for begin, form in _FORMS.items() if data.startswith(begin)), "")
 
 
