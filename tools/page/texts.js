@@ -98,10 +98,11 @@ const QUOTED = /^(["'])(.*)\1$/s;
 // tags, and the mark of a heading or of an entry in a list
 const MARKS = new RegExp(`${MARKUP}|^(?:#+|[-*>])[ \\t]+`, "gi"), ENTRY = /^[-*+][ \t]/;
 // lines of a chat, with a time or a name; of a table; and marks of a merge
-const NO_TITLE = new RegExp(
-    "^(?:\\[?\\d{1,2}:\\d\\d(?::\\d\\d)?\\]?\\s|<(?!(?:[a-z]|h[1-6]|pre|code|center|div|span"
-    + "|font|em|strong|title|tt|td|th|tr|li|small|big|br|hr)\\b)[\\w.-]+>\\s|[<>=]{7}|@@ |\\|"
-    + "|[^\\s,;]*[,;][^\\s,;]*[,;]\\S*\\s*$|[^\\t]+\\t[^\\t]+\\t)", "i");
+const NO_TITLE = new RegExp("^(?:\\[?\\d{1,2}:\\d\\d(?::\\d\\d)?\\]?\\s"
+    + "|(?:[^[\\]]{1,40}, )?\\[[^[\\]]{1,20}\\s\\d{1,2}:\\d\\d(?::\\d\\d)?\\]"
+    + "|<(?!(?:[a-z]|h[1-6]|pre|code|center|div|span|font|em|strong|title|tt|td|th|tr|li|small|big"
+    + "|br|hr)\\b)[\\w.-]+>\\s|[<>=]{7}|@@ |\\||[^\\s,;]*[,;][^\\s,;]*[,;]\\S*\\s*$"
+    + "|[^\\t]+\\t[^\\t]+\\t)", "i");
 const AUTHOR = /^(?:by|author)\b/i;
 // letters alone, and what of them is a title: digits, or a word whose last letter is no push
 const ONLY_LETTERS = /^[lurdLURD0-9() \t]*$/, ONLY_DIGITS = /^(?:[0-9 \t]*|[LURD][lurd]{2,})$/;

@@ -56,9 +56,11 @@ _AROUND = re.compile(rb"(={2,}|\*{2,}|_{2,}|'{2,})\s*([^\s=*_'](?:.*[^\s=*_'])?)
 _QUOTED = re.compile(rb"([\"'])(.*)\1", re.S)
 # lines of a chat, with a time or a name; of a table; and marks of a merge
 _NO_TITLE = re.compile(
-    rb"\[?[0-9]{1,2}:[0-9]{2}(?::[0-9]{2})?\]?\s|<(?!(?:[a-z]|h[1-6]|pre|code|center|div|span|font"
-    rb"|em|strong|title|tt|td|th|tr|li|small|big|br|hr)\b)[\w.-]+>\s"
-    rb"|[<>=]{7}|@@ |\||[^\s,;]*[,;][^\s,;]*[,;][^\s]*\s*\Z|[^\t]+\t[^\t]+\t", re.I)
+    rb"\[?[0-9]{1,2}:[0-9]{2}(?::[0-9]{2})?\]?\s"
+    rb"|(?:[^\[\]]{1,40}, )?\[[^\[\]]{1,20}\s[0-9]{1,2}:[0-9]{2}(?::[0-9]{2})?\]"
+    rb"|<(?!(?:[a-z]|h[1-6]|pre|code|center|div|span|font|em|strong|title|tt|td|th|tr|li|small|big"
+    rb"|br|hr)\b)[\w.-]+>\s|[<>=]{7}|@@ |\||[^\s,;]*[,;][^\s,;]*[,;][^\s]*\s*\Z"
+    rb"|[^\t]+\t[^\t]+\t", re.I)
 _ENTRY = re.compile(rb"[-*+][ \t]")
 _AUTHOR = re.compile(rb"(?:by|author)\b", re.I)
 _LETTERS = re.compile(rb"[lurdLURD0-9() \t]*")
