@@ -355,6 +355,12 @@ class Limits(Case):
             self.takes_less(8, lambda line=line: self.convert(  # type: ignore[misc]
                 f"{ONE}\n{line}\n{OTHER}"))
 
+    def test_long_lines_of_a_list(self) -> None:
+        """Nor to be no number."""
+        self.write("a.txt", ONE)
+        self.write("b.txt", "1. R\n" + " " * 100_000 + "x\n")
+        self.takes_less(4, lambda: self.tool("convert", "out", "a.txt", "b.txt", "--replace"))
+
     def test_long_solutions(self) -> None:
         result, _, solved = self.convert(ONE + "Solution\n99999999999999999999(r)\n" + OTHER +
                                          "Solution: 40000000r\n")
