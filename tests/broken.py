@@ -36,10 +36,12 @@ HEADS = (
     ("src/lib.rt", 'impl Row {\n}\n\n#[unsafe(no_mangle)]\npub extern "C" fn at()', "low::at"),
 )
 KEPT = "rt: {} is kept: an earlier run on this machine proved the same files"
-# What a check prints of a function that it refuses, by the goal that has no proof, or by the proof
-# that is wrong. One that names what the edit took away shows nothing of a contract, nor does a
-# limit of the prover. A function that calls a refused one may wait for it.
+# What a check prints of a function that it refuses: a goal that has no proof, with the function in
+# the line or in the next one of its kind, or a proof that is wrong. One that names what the edit
+# took away shows nothing of a contract, nor does a limit of the prover. A function that calls a
+# refused one may wait for it.
 OPEN = re.compile(r"(?m)^fn \w+::(\S+): no proof: (?!it calls )")
+UNPROVED = re.compile(r"(?ms)^note: src/\S+:\d+:\d+: it is not proved that .*?^fn \w+::(\S+): ")
 WRONG = re.compile(r"(?m)^\./proofs/((?:\w+/)+)\w+\.antt:\d+:\d+: error: (?!.*(?:has no field"
                    r"|is not in scope|has no `|was not admitted|that depends? on|antt ran out of))")
 ENDS = re.compile(r"(?m)^only=\d+ proved=\d+$")
@@ -52,6 +54,10 @@ SAID = (
     ("./proofs/shape/Shape/step/Answers.antt:9:5: error: 2 declarations that depend on `a`", False),
     ("./proofs/shape/Shape/step/Answers.antt:9:5: error: antt ran out of memory", False),
     ("fn low::shape::Shape::step: not proved", False),
+    ("note: src/shape.rt:9:5: it is not proved that what the function ensures holds\nnote: why\n"
+     "fn low::shape::Shape::step: not proved", True),
+    ("note: src/shape.rt:9:5: it is not proved that what the function ensures holds\n"
+     "fn low::shape::Shape::next: not proved\nfn low::shape::Shape::step: not proved", False),
     ("fn low::shape::Shape::step: not proved; it calls `low::grid::at`, which is not", False),
     ("fn low::shape::Shape::step: no proof: it calls `low::grid::at`, which is not proved", False),
     ("fn low::shape::Shape::first_step: no proof: expected answers in ./proofs/..", False),
@@ -111,7 +117,7 @@ def next_round(edits: Sequence[Edit]) -> List[Edit]:
 
 def refused(crate: str, said: str) -> Set[str]:
     """The functions that a check of a crate refuses for what their contracts say."""
-    found = {it.replace("::", "/") for it in OPEN.findall(said)} | {
+    found = {it.replace("::", "/") for it in OPEN.findall(said) + UNPROVED.findall(said)} | {
         it.rstrip("/") for it in WRONG.findall(said)}
     return {f"{crate}::{it.replace('/', '::')}" for it in found}
 
