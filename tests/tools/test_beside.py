@@ -274,6 +274,37 @@ class Older(Check):
                          [f"not read: {name} seems to be another version: take over what it has, "
                           "and remove it" for name in others])
 
+    def test_copies_of_an_export(self) -> None:
+        """A copy has one line in place of a line for each of its levels, whoever made it."""
+        one = f"{CORNER}\n{LONG}\n{LOST}\n"
+        names = ["one.txt", "one (1).txt", "one.sync-conflict-20261130-101010-ABCDEFG.txt",
+                 "one.txt.bak", "#one.txt#"]
+        os.mkdir("in")
+        for name in names:
+            self.write(f"in/{name}", one)
+        with open("in/one.txt.orig", "a", encoding="utf-8") as file:
+            file.write(one.replace(" ", "  ", 1))  # a level was edited there
+        said = self.lines(self.check("mine", "in"))
+        self.assertEqual([line for line in said if line.startswith("twins")], [
+            f"twins: all 3 levels of in/{name} are in in/#one.txt# too" for name in (
+                "one (1).txt", "one.sync-conflict-20261130-101010-ABCDEFG.txt", "one.txt",
+                "one.txt.bak")]
+            + ["twins: 2 of the 3 levels of in/one.txt.orig are in in/#one.txt# too"])
+
+    def test_twins_in_other_exports(self) -> None:
+        """Those of which two files have few in common, or of one file, have a line each."""
+        many = "\n".join(LONG.replace("$", " " * at + "$").replace("####", "####" + "#" * at)
+                         for at in range(1, 6))
+        for names, wanted in (
+                (("a", f"{CORNER}\n{many}", "b", f"{CORNER}\n{LOST}"),
+                 ["level 7 is level 1, as it is"]),
+                (("a", f"{CORNER}\n{CORNER}\n{CORNER}", "b", LOST),
+                 ["level 2 is level 1, as it is", "level 3 is level 1, as it is"])):
+            for name, text in zip(names[::2], names[1::2]):
+                self.write(f"{name}.txt", text)
+            said = self.lines(self.check("mine", "a.txt", "b.txt"))
+            self.assertEqual([line[7:] for line in said if line.startswith("twins")], wanted)
+
     def test_levels_in_utf_16(self) -> None:
         """An editor may save so; what was typed stays, in UTF-8."""
         self.write("a.txt", "A\n" + CORNER)

@@ -1,7 +1,7 @@
 """The summary of a check, which fits a screen."""
 import sys
 from collections import Counter
-from typing import Iterator, Sequence
+from typing import Dict, Iterator, List, Sequence
 
 from . import auditor, changes, forms, levels, messages, own_files, report, texts
 from .check_run import Run, State
@@ -49,14 +49,33 @@ def lines(run: Run, state: State, problems: Sequence[str]) -> Iterator[str]:
         yield f"with fewer pushes in {name}.other.answers: {_numbered(others)}"
     if kept := state.left.reasons(now.forms):
         yield f"kept in {name}.kept.xsb: " + ", ".join(kept)
-    yield from _some("twins: ", [
-        f"level {later + 1} is level {first + 1}, {turn.words}"
-        for later, first, turn in forms.duplicates_of(now.forms)])
+    yield from _some("twins: ", _twins(now.forms, {
+        number: texts.shown(place.file) for number, (place, _) in sources.items()}))
     if run.written:
         names = [name + end for end in own_files.LISTED if end in run.written]
         if sys.stdout.isatty() and own_files.PAGE in run.written:
             names[0] += " (open it in a browser)"
         yield "wrote: " + ", ".join(names)
+
+
+def _twins(listed: Sequence[forms.Form], files: Dict[int, str]) -> List[str]:
+    """Returns lines about the levels that equal earlier ones: a line for two files that have many
+    levels in common, as copies have, and otherwise one for each level. `files` has the exports of
+    levels by their numbers."""
+    sizes = Counter(files.values())
+    found = texts.grouped(((files.get(later + 1), files.get(first + 1)), (later, first, turn))
+                          for later, first, turn in forms.duplicates_of(listed))
+    said = []
+    for (one, other), several in found.items():
+        count = len(several)
+        if one and other and one != other and 1 < count >= min(sizes[one], sizes[other]) / 2:
+            inner, outer = (one, other) if sizes[one] <= sizes[other] else (other, one)
+            which = f"all {count}" if count == sizes[inner] else f"{count} of the {sizes[inner]}"
+            said.append(f"{which} levels of {inner} are in {outer} too")
+        else:
+            said += [f"level {later + 1} is level {first + 1}, {turn.words}"
+                     for later, first, turn in several]
+    return said
 
 
 def _unanswered(level: levels.Level, line: report.Line, mistake: str) -> str:
