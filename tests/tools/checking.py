@@ -2,9 +2,11 @@
 import os
 import re
 import shutil
+import unittest.mock
 from typing import List
 
 from sokotool import auditor
+from sokotool.commands import convert
 from tests.tools.helping import SAMPLES, Case, Result
 
 CORNER = "Corner\n######\n#    #\n#@$  #\n#  . #\n######\n"
@@ -22,6 +24,13 @@ class Check(Case):
     def check(self, *words: str, given: bytes = b"") -> Result:
         """Runs check without a search."""
         return self.tool("check", *words, "--seconds", "0", given=given)
+
+    def converts(self, *words: str) -> bool:
+        """Returns whether a check of the exports converts them."""
+        with unittest.mock.patch("sokotool.commands.convert.read_files",
+                                 side_effect=convert.read_files) as read_files:
+            self.said = self.check("mine", *words)
+        return bool(read_files.called)
 
     def lines(self, result: Result) -> List[str]:
         """Returns the summary without the note of the reference and the files that were written."""

@@ -541,13 +541,6 @@ class Unchanged(Check):
         self.check("mine", "exports", "--csv")
         self.assertEqual({name: self.read(name) for name in written}, written)
 
-    def converts(self, *words: str) -> bool:
-        """Returns whether a check of the exports converts them."""
-        with unittest.mock.patch("sokotool.commands.convert.read_files",
-                                 side_effect=convert.read_files) as read_files:
-            self.said = self.check("mine", *words)
-        return bool(read_files.called)
-
     def test_exports_that_did_not_change_are_not_converted(self) -> None:
         os.mkdir("exports")
         shutil.copytree(os.path.join(SAMPLES, "exports"), "exports/inbox")
@@ -618,7 +611,11 @@ class Unchanged(Check):
         self.converts("a.txt")
         memory = self.read("mine.memory")
         whole = json.loads(memory)
-        for exports in (5, {}, {**whole["exports"], "files": 5},
+        for exports in (5, {}, {**whole["exports"], "levels": 5},
+                        {**whole["exports"], "answers": 5},
+                        {**whole["exports"], "levels": {"0": ["", 5, "", []]}},
+                        {**whole["exports"], "answers": [[1, "0" * 16]]},
+                        {**whole["exports"], "places": [["a.txt", [1, 2]]]},
                         {**whole["exports"], "notes": [1]}):
             self.write("mine.memory", json.dumps({**whole, "exports": exports}))
             self.assertTrue(self.converts("a.txt"), exports)

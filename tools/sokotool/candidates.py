@@ -234,6 +234,10 @@ class Pool:
 
     # ---- once the answers were chosen
 
+    def written(self) -> List[Answer]:
+        """Returns the chosen answers."""
+        return [it.answer for it in [*self.chosen.values(), *self.others.values()]]
+
     def computed(self) -> List[str]:
         """Returns the digests of the chosen records that were computed."""
         return [texts.digest(it.answer.record(it.number))

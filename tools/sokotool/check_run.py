@@ -27,12 +27,6 @@ class Inputs(NamedTuple):
     more: Sequence[Tuple[str, answers.Answers]]
     conversion: Conversion
 
-    def exports(self) -> Tuple[Snapshot, List[answers.Record]]:
-        """Returns the levels of the exports, and their records."""
-        text, *exported = self.conversion.files
-        return (merging.collection(level_texts.read(text)),
-                [record for it in exported for record in answers.read(it).records])
-
 
 class Run:
     """A run of check: what it reads once, and what it finds, which stays if the files of NAME are
@@ -41,7 +35,6 @@ class Run:
     def __init__(self, inputs: Inputs) -> None:
         self.options, self.shown, self.program, self.more, self.conversion = inputs
         self.name: str = self.options.name
-        self.exports, self.records = inputs.exports()
         # the outcomes of its searches, and the answers with the forms of their levels
         self.outcomes = Outcomes({})
         self.found: List[memory.Find] = []
@@ -191,7 +184,7 @@ def _before(program: auditor.Auditor, former: Former) -> Optional[Snapshot]:
 
 def merge(run: Run, former: Former) -> merging.Merged:
     """Merges what was typed with the exports."""
-    return merging.merged(former.memory.written, former.mine, run.exports,
+    return merging.merged(former.memory.written, former.mine, run.conversion.exports,
                           [entry.block for entry in former.stored.entries])
 
 
@@ -210,7 +203,7 @@ def choose(run: Run, former: Former, merged: merging.Merged) -> Pool:
             target.is_computed = True
     pool.add_comments(own, written)
     pool.add(former.stored.records(), [former.stored.collection()], candidates.STORED)
-    pool.add([it._replace(level=numbers[it.level - 1]) for it in run.records], [now],
+    pool.add([it._replace(level=numbers[it.level - 1]) for it in run.conversion.records], [now],
              candidates.EXPORTED)
     for name, more in run.more:
         pool.add([in_case(it, (now, written)) for it in more.records], [now, written],

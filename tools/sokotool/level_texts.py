@@ -1,6 +1,6 @@
 """The levels of a collection, each with the text that belongs to it above and below."""
 import re
-from typing import Callable, FrozenSet, List, NamedTuple, Sequence, Tuple
+from typing import Any, Callable, FrozenSet, List, NamedTuple, Sequence, Tuple
 
 from . import levels, texts
 
@@ -8,6 +8,8 @@ Lines = Tuple[bytes, ...]
 # what of a block was typed by the keeper
 ABOVE, BELOW, LEVEL = "above", "below", "level"
 _KEY = re.compile(rb"[A-Za-z\x80-\xff][\w\x80-\xff -]*:")
+# equal characters of rows, and how they are written; no row has a digit
+_RUN, _CODED = re.compile(r"(.)\1{2,}"), re.compile(r"([0-9]{1,8})(.)")
 
 
 class Block(NamedTuple):
@@ -54,3 +56,36 @@ def separated(blocks: Sequence[Block]) -> List[Block]:
 def text(blocks: Sequence[Block]) -> bytes:
     """Returns the text of separated blocks."""
     return b"".join(line + b"\n" for block in blocks for part in block[:3] for line in part)
+
+
+# ---- in a JSON file
+
+def packed(block: Block) -> List[Any]:
+    """Returns a block for a JSON file. Its rows are in one line, run-length coded."""
+    return [_spelled(block.above), packed_rows(block.rows), _spelled(block.below),
+            sorted(block.typed)]
+
+
+def unpacked(data: Any) -> Block:
+    """Returns a block that was packed. Former versions wrote each part as a list of lines."""
+    above, rows, below, typed = data
+    return Block(_lines(above), unpacked_rows(rows), _lines(below), frozenset(typed))
+
+
+def packed_rows(rows: Sequence[bytes]) -> str:
+    return _RUN.sub(lambda run: f"{len(run[0])}{run[1]}", b"|".join(rows).decode())
+
+
+def unpacked_rows(data: Any) -> Lines:
+    if isinstance(data, list):
+        return _lines(data)
+    return tuple(_CODED.sub(lambda run: int(run[1]) * run[2], data).encode().split(b"|"))
+
+
+def _spelled(part: Sequence[bytes]) -> str:
+    return b"".join(line + b"\n" for line in part).decode("utf-8", "surrogateescape")
+
+
+def _lines(part: Any) -> Lines:
+    text = part if isinstance(part, str) else "".join(f"{line}\n" for line in part)
+    return tuple(text.encode("utf-8", "surrogateescape").split(b"\n")[:-1])

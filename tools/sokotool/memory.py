@@ -1,12 +1,12 @@
 """The file NAME.memory: what a check remembers until the next one."""
-import contextlib
 import json
+from functools import lru_cache
 from types import MappingProxyType
 from typing import Any, Dict, List, Mapping, NamedTuple, Optional, Sequence, Tuple
 
 from . import answers, texts
 from .forms import Form, form_of
-from .level_texts import Block, Lines
+from .level_texts import packed, packed_rows, unpacked, unpacked_rows
 from .levels import Level
 from .merging import Written, collection
 from .outcomes import Outcomes
@@ -36,39 +36,36 @@ def read(data: Optional[bytes], name: str) -> Memory:
     if data is None:
         return Memory(Written(collection([])), Outcomes({}), [])
     try:
-        found: Any = json.loads(data)
-        blocks = [Block(_lines(above), _lines(rows), _lines(below), frozenset(typed))
-                  for above, rows, below, typed in found["levels"]]
-        written = Written(collection(blocks), found.get("places", []), found.get("sources", []),
-                          bool(found["ordered"]))
-        return Memory(written, Outcomes(
-            {board: {way: (what, seconds) for way, (what, seconds) in ways.items()}
-             for board, ways in found["searched"].items()}), found["computed"],
-                      [(form_of(Level(1, list(_lines(rows)), 1)),
-                        answers.answer_of(record.encode()))
-                       for rows, record in found.get("found", [])],
-                      found.get("exports"), dict(found.get("made", {})))
+        found = _parsed(data)
+        return found._replace(outcomes=Outcomes(
+            {board: {**ways} for board, ways in found.outcomes.items()}))
     except (ValueError, TypeError, KeyError, AttributeError, IndexError, answers.Fault):
         raise texts.Stop(f"{texts.shown(name)} is damaged: remove it") from None
 
 
-def exports(data: Optional[bytes]) -> Any:
-    """Returns the conversion of the exports that a file has, if it can be read."""
-    with contextlib.suppress(ValueError, AttributeError):
-        return json.loads(data or b"{}").get("exports")
-    return None
+@lru_cache(maxsize=1)
+def _parsed(data: bytes) -> Memory:
+    found: Any = json.loads(data)
+    written = Written(collection([unpacked(it) for it in found["levels"]]),
+                      found.get("places", []), found.get("sources", []), bool(found["ordered"]))
+    return Memory(written, Outcomes(
+        {board: {way: (what, seconds) for way, (what, seconds) in ways.items()}
+         for board, ways in found["searched"].items()}), found["computed"],
+                  [(form_of(Level(1, list(unpacked_rows(rows)), 1)),
+                    answers.answer_of(record.encode()))
+                   for rows, record in found.get("found", [])],
+                  found.get("exports"), dict(found.get("made", {})))
 
 
 def text(memory: Memory) -> bytes:
     """Returns the bytes of the file."""
-    blocks = [[_spelled(block.above), _spelled(block.rows), _spelled(block.below),
-               sorted(block.typed)] for block in memory.written.collection.blocks]
     data: Dict[str, Any] = {
-        "levels": blocks, "places": memory.written.places, "sources": memory.written.sources,
+        "levels": [packed(block) for block in memory.written.collection.blocks],
+        "places": memory.written.places, "sources": memory.written.sources,
         "ordered": memory.written.is_ordered, "searched": memory.outcomes,
         "computed": memory.computed, "exports": memory.exports, "made": {**memory.made}}
     if memory.found:
-        data["found"] = [[_spelled(tuple(form.level.rows)), answer.record(1).decode()]
+        data["found"] = [[packed_rows(form.level.rows), answer.record(1).decode()]
                          for form, answer in memory.found]
     return _spread(data).encode() + b"\n"
 
@@ -82,11 +79,3 @@ def _spread(data: Any, depth: int = 2) -> str:
     if depth and isinstance(data, list) and data:
         return "[\n" + ",\n".join(_spread(it, depth - 1) for it in data) + "\n]"
     return json.dumps(data, sort_keys=True)
-
-
-def _lines(part: List[str]) -> Lines:
-    return tuple("\n".join(part).encode("utf-8", "surrogateescape").split(b"\n")) if part else ()
-
-
-def _spelled(part: Lines) -> List[str]:
-    return b"\n".join(part).decode("utf-8", "surrogateescape").split("\n") if part else []

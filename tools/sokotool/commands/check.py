@@ -18,8 +18,8 @@ import math
 import os
 from typing import Dict, List, Optional, Sequence, Tuple
 
-from .. import (answers, auditor, check_run, forms, memory, origins, output, own_files, sheet,
-                sources, summary, system, texts, transaction)
+from .. import (answers, auditor, check_run, forms, level_texts, memory, merging, origins, output,
+                own_files, sheet, sources, summary, system, texts, transaction)
 from ..builder import BOTH, MOVES, PUSHES, Collection
 from ..check_run import Inputs, Run, State
 from ..conversion import Conversion, Reading, code
@@ -107,10 +107,22 @@ def exports_of(options: argparse.Namespace, shown: Progress) -> Conversion:
         raise texts.Stop(f"would write over {texts.shown(options.exports[0])}: choose another "
                          "NAME, such as checked")
     reading = Reading(sources.listed(named, is_own), options.best, options.encoding)
-    found = reading.remembered(memory.exports(own_files.bytes_of(options.name + MEMORY)))
+    found = remembered(options.name, reading)
     for place, why in found.notes if found else ():
         shown.keep(place.said(why))
     return found or converted(options, shown, reading)
+
+
+def remembered(name: str, reading: Reading) -> Optional[Conversion]:
+    """Returns what the exports gave at the last check of NAME, if they and its files still have all
+    of it."""
+    with contextlib.suppress(texts.Stop):
+        known = memory.read(own_files.bytes_of(name + MEMORY), name)
+        there = [own_files.bytes_of(name + end) for end in (ANSWERS, OTHER)]
+        return reading.remembered(known.exports, known.written, [
+            record.answer for data in there if data
+            for record in answers.read_text(name, data, rising=False).records])
+    return None
 
 
 def converted(options: argparse.Namespace, shown: Progress, reading: Reading) -> Conversion:
@@ -133,8 +145,11 @@ def converted(options: argparse.Namespace, shown: Progress, reading: Reading) ->
             shown.keep(place.said(why))
         raise texts.Stop("these files have no level" + quotes * (
             len(options.exports) > 1 and os.path.exists(whole)))
-    files = [*(data for _, data in collection.files(options.name)), collection.other_answers()]
-    return Conversion(reading.digest(), files, origins.Origins(collection.origins, problems), notes)
+    text, *answered = [*(data for _, data in collection.files(options.name)),
+                       collection.other_answers()]
+    return Conversion(reading.digest(), merging.collection(level_texts.read(text)),
+                      [record for data in answered for record in answers.read(data).records],
+                      origins.Origins(collection.origins, problems), notes)
 
 
 # ---- the files of NAME
@@ -207,7 +222,8 @@ def contents(given: Run, state: State) -> Dict[str, Optional[bytes]]:
             end: texts.digest(data) for end, data in {OTHER: other, **table}.items()}}
         if all(state.now.lines[number - 1].is_answered for number in state.pool.chosen):
             digests[ANSWERS] = texts.digest(state.answers)
-        remembered = remembered._replace(exports=given.conversion.data(), made=digests)
+        remembered = remembered._replace(exports=given.conversion.data(
+            state.merged.written, state.pool.written()), made=digests)
     return {KEPT_XSB: kept_text, KEPT_ANSWERS: kept_answers, XSB: state.text,
             ANSWERS: state.answers, REPORT: state.report,
             OTHER: other if given.options.best == BOTH else None, PAGE: made, **table,
