@@ -183,8 +183,10 @@ class Placed(Case):
             [b"######", b"#@$ .#", b"######"])
         for letters, wanted in ((b"rR", b"rR"), (b"RR", b"RR"), (b"rr", None), (b"Rr", None)):
             given = read(record(letters)).records[0]
-            self.assertEqual(in_case(given, (one, two)).letters, wanted or b"rR")
-            self.assertEqual(in_case(given, (two, one)).letters, wanted or b"RR")
+            for states, other in (((one, two), b"rR"), ((two, one), b"RR")):
+                cased = in_case(given, states)
+                self.assertEqual(cased and cased.letters, wanted or other)
+        self.assertIsNone(in_case(read(record(b"rl")).records[0], (one, two)))
 
     def test_there_and_back(self) -> None:
         """An answer that was turned for another board and back is what it was."""

@@ -299,15 +299,24 @@ def _keys(forms: Sequence[Form]) -> List[Key]:
     return [form.key for form in forms]
 
 
-def in_case(record: Record, states: Sequence[changes.Snapshot]) -> Record:
-    """Returns a solution with each letter in its case, if it solves a level of its number so. One
-    that solves a level as it is stays."""
+def in_case(record: Record, states: Sequence[changes.Snapshot]) -> Optional[Record]:
+    """Returns a solution with each letter in its case, or None if it solves no level of its number.
+    One that solves a level as it is stays, and so does a certificate."""
+    if record.kind != "solution":
+        return record
     found = [state.levels[record.level - 1] for state in states
-             if record.level <= len(state.levels) and record.kind == "solution"]
+             if record.level <= len(state.levels)]
     boards = [board for board in map(board_of, found) if board.player is not None]
     for any_case in (False, True):
         for board in boards:
             replay = board.replay(record.letters, any_case)
             if not replay.fault:
                 return record._replace(answer=record.answer.cased(replay.letters))
-    return record
+    return None
+
+
+def elsewhere(record: Record, now: changes.Snapshot) -> Optional[Record]:
+    """Returns a solution with the number of the first level that it solves, or None. Where two
+    branches were merged, each had numbers of its own."""
+    numbered = (in_case(record._replace(level=level.number), [now]) for level in now.levels)
+    return next((it for it in numbered if it), None)

@@ -8,7 +8,7 @@ from typing import List, NamedTuple, Optional, Sequence, Set, Tuple
 from . import (answers, auditor, candidates, forms, level_texts, levels, memory, merging, mistakes,
                own_files, report, shelf, texts)
 from .auditor import Audits
-from .candidates import Pool, in_case
+from .candidates import Pool, elsewhere, in_case
 from .changes import Snapshot
 from .conversion import Conversion
 from .outcomes import Outcomes
@@ -138,7 +138,8 @@ def read(run: Run) -> Former:
     stored = shelf.read(kept, files.answers(KEPT_ANSWERS, len(levels.read(kept))))
     last = remembered.written.collection
     is_same = last.blocks and files.levels() == level_texts.text(last.blocks)
-    mine = last if is_same else merging.collection(_own_blocks(files))
+    mine = last if is_same else merging.collection(
+        _own_blocks(files, level_texts.text(last.blocks)))
     written = last if last.blocks else mine
     most = max(len(written.levels), len(mine.blocks))
     former = Former(files, remembered, stored, written, mine, most, has_table)
@@ -148,8 +149,9 @@ def read(run: Run) -> Former:
     return former
 
 
-def _own_blocks(files: own_files.Files) -> List[level_texts.Block]:
-    """Returns the levels of NAME.xsb as they are now."""
+def _own_blocks(files: own_files.Files, written: bytes) -> List[level_texts.Block]:
+    """Returns the levels of NAME.xsb as they are now. Marks of a merge may be text of an export,
+    and then they are in what was written."""
     text, name = files.levels() or b"", texts.shown(files.name)
     back = (f"put these back from {name}.xsb~, or " if os.path.exists(files.name + XSB + "~")
             else "")
@@ -160,6 +162,10 @@ def _own_blocks(files: own_files.Files) -> List[level_texts.Block]:
     found = level_texts.read(text)
     if text.strip() and not found:
         raise texts.Stop(f"{name}.xsb has no levels: {back}move it away")
+    line = texts.conflict(text)
+    if line and not texts.conflict(written):
+        raise texts.Stop(f"{name}.xsb line {line} has marks of a merge in git: keep what you want "
+                         "of both sides, and remove the marks")
     return found
 
 
@@ -193,32 +199,44 @@ def choose(run: Run, former: Former, merged: merging.Merged) -> Pool:
     other files, by the board of the level that each names."""
     now, written = merged.written.collection, former.written
     numbers = {at: number for number, at in enumerate(merged.written.places, 1)}
-    own, other = (_own_answers(former, end) for end in (ANSWERS, OTHER))
-    own.records.extend(other.records)
-    own.rest.extend(other.rest)
+    own, strays = _own_answers(former, now)
     pool = Pool(now, run.options.best)
     computed = set(former.memory.computed)
     for given in pool.add(own.records, [written, former.mine], candidates.OWN):
         for target in given.targets if texts.digest(given.record.text) in computed else ():
             target.is_computed = True
     pool.add_comments(own, written)
+    pool.add(strays, [now], candidates.OWN)
     pool.add(former.stored.records(), [former.stored.collection()], candidates.STORED)
     pool.add([it._replace(level=numbers[it.level - 1]) for it in run.conversion.records], [now],
              candidates.EXPORTED)
     for name, more in run.more:
-        pool.add([in_case(it, (now, written)) for it in more.records], [now, written],
+        pool.add([in_case(it, (now, written)) or it for it in more.records], [now, written],
                  candidates.FILE, name)
     return pool
 
 
-def _own_answers(former: Former, end: str) -> answers.Answers:
-    """Returns the records of an answers file, each solution with its letters in their case. In a
-    file whose answers were all accepted they are."""
-    files = former.files
-    found = files.answers(end, former.most)
-    if texts.digest(files.before.get(end, b"")) != former.memory.made.get(end):
-        found.records[:] = [in_case(it, (former.written, former.mine)) for it in found.records]
-    return found
+def _own_answers(former: Former, now: Snapshot) -> Tuple[answers.Answers, List[answers.Record]]:
+    """Returns the records of the answers files, each solution with its letters in their case, and
+    the solutions that solve other levels than those of their numbers, with the numbers of these. In
+    a file whose answers were all accepted they are as they should be."""
+    own, strays = answers.Answers(1, [], []), []
+    for end in (ANSWERS, OTHER):
+        found = former.files.answers(end, former.most)
+        own.rest.extend(found.rest)
+        data = former.files.before.get(end, b"")
+        if texts.digest(data) == former.memory.made.get(end):
+            own.records.extend(found.records)
+            continue
+        for record in found.records:
+            known = in_case(record, (former.written, former.mine))
+            stray = None if known else elsewhere(record, now)
+            if stray:
+                strays.append(stray)
+                own.rest.extend(record.apart)
+            else:
+                own.records.append(known or record)
+    return own, strays
 
 
 # ---- the audit

@@ -40,7 +40,7 @@ def read(data: Optional[bytes], name: str) -> Memory:
         return found._replace(outcomes=Outcomes(
             {board: {**ways} for board, ways in found.outcomes.items()}))
     except (ValueError, TypeError, KeyError, AttributeError, IndexError, answers.Fault):
-        raise texts.Stop(f"{texts.shown(name)} is damaged: remove it") from None
+        raise texts.Stop(_why_damaged(data, name)) from None
 
 
 @lru_cache(maxsize=1)
@@ -55,6 +55,15 @@ def _parsed(data: bytes) -> Memory:
                     answers.answer_of(record.encode()))
                    for rows, record in found.get("found", [])],
                   found.get("exports"), dict(found.get("made", {})))
+
+
+def _why_damaged(data: bytes, name: str) -> str:
+    """Returns what to do about a file that can't be read."""
+    shown = texts.shown(name)
+    if texts.conflict(data):
+        return (f"{shown} has marks of a merge in git: take either version, by "
+                f"'git checkout --ours {shown}', and then run check")
+    return f"{shown} is damaged: remove it"
 
 
 def text(memory: Memory) -> bytes:

@@ -54,9 +54,16 @@ class Files:
         return b"\n".join(unnoted(data.split(b"\n"))) if data and _NOTE in data else data
 
     def answers(self, end: str, most: int) -> answers.Answers:
-        """Returns the records of an answers file for so many levels, in any order."""
+        """Returns the records of an answers file for so many levels, in any order. Of a merge that
+        git left to the keeper it returns those of both sides."""
         data = self.before.get(end, answers.text([]))
-        found = answers.read_text(self.name + end, data, most, rising=False)
+        one, *others = texts.sides(data)
+        found = answers.read_text(self.name + end, one, most, rising=False)
+        for other in others:
+            more = answers.read_text(self.name + end, other, most, rising=False)
+            known = {(it.level, it.answer) for it in found.records}
+            found.records.extend(it for it in more.records if (it.level, it.answer) not in known)
+            found.rest.extend(it for it in more.rest if it not in found.rest)
         # A record may be typed below the note, and another one below that.
         for at, record in enumerate(found.records if _NOTE in data else ()):
             above = tuple(unnoted(record.answer.above))

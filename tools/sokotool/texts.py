@@ -27,6 +27,11 @@ _BLOCKS, _TEXTS = re.compile(_BLOCK.encode()), re.compile(_BLOCK)
 # From the first CR on: a search from each of a million takes hours.
 _RETURNS = re.compile("(?<!\r)\r\r+\n")
 _INNER_MARK = re.compile("(?<!\n)\ufeff")
+# what git leaves of a merge: marks before its own version, before what both had, before the other
+# version and after it, each with the sides that the next lines are of
+_MARKED = re.compile(rb"(?m)^<<<<<<< ")
+_MARKS: Dict[bytes, Set[int]] = {
+    b"<<<<<<<": {0}, b"|||||||": set(), b"=======": {1}, b">>>>>>>": {0, 1}}
 
 
 class Stop(Exception):
@@ -93,6 +98,28 @@ def _split(blocks: Iterable[Match[AnyStr]], end: AnyStr) -> List[AnyStr]:
         if not found[-1]:  # after the end of the last line
             found.pop()
     return found
+
+
+def conflict(data: bytes) -> int:
+    """Returns the first line with a mark of a merge in git, from 1, or 0."""
+    first = _MARKED.search(data)
+    if not first or data.find(b"\n>>>>>>> ", first.end()) < 0:
+        return 0
+    return data.count(b"\n", 0, first.start()) + 1
+
+
+def sides(data: bytes) -> List[bytes]:
+    """Returns a text, or both sides of one that git left with marks of a merge."""
+    if not conflict(data):
+        return [data]
+    found: List[List[bytes]] = [[], []]
+    its = both = {0, 1}
+    for line in data.split(b"\n"):
+        mark = _MARKS.get(line[:7]) if its != both or line.startswith(b"<<<<<<<") else None
+        its = its if mark is None else mark
+        for at in its if mark is None else ():
+            found[at].append(line)
+    return [b"\n".join(lines) for lines in found]
 
 
 def shown(text: Union[str, bytes]) -> str:
