@@ -80,6 +80,10 @@ def beside(check: Comparison, tab: Tab) -> None:
     check.same("nothing is left out", "", tab.text("notes"))
     check.same("the mark is told", ["mark.answers: begins with a byte order mark"], [
         it.split(",")[0] for it in tab.told()])
+    tab.give("one.xsb")
+    tab.paste_text("body", f"\ufeff{ANSWERS}")
+    check.same("a mark before pasted answers", [LINE, "answers"], [
+        tab.text("lines")[:len(LINE)], tab.ask("inputs.answers?.name")])
     latin = ANSWERS.replace("\n", "\n; caf\u00e9\n", 1)
     with open("latin.answers", "wb") as file:
         file.write(latin.encode("latin-1"))
@@ -295,6 +299,8 @@ def titles(check: Comparison, tab: Tab) -> None:
         tab.paste("levels", text)
         check.same(f"the title in a line of {len(rows)}", ["One", True], [
             tab.ask("shownData.levels.at(-1).title"), not tab.told()])
+    tab.paste("levels", json.dumps({"note": "hello there", "rows": ALPHA.split("\n")}))
+    check.same("words beside rows", ["line 1: what is beside the rows is read as text"], tab.told())
     listed = [{"title": it, "rows": ALPHA.split("\n"), "solution": "rRR"} for it in ("One", "Two")]
     tab.paste("levels", json.dumps(listed, indent=2))
     check.same("titles and letters in a list of some lines",
