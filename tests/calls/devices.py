@@ -1,6 +1,7 @@
 """The expected output of the crate `calls` for public calls over whole texts while each of their
 devices fails in turn, and for numbers of levels that the program can't be given."""
 
+import re
 from typing import Iterator, List, Mapping, Sequence, Tuple
 
 THREE_LEVELS = "#####\n#@$.#\n#####\n\n#######\n#  $@.#\n#######\n\n####\n#@*#\n####\n"
@@ -78,10 +79,13 @@ MOST = 1, 2, 7, 163, 164, 1000
 
 def calls_on_devices() -> Iterator[Tuple[str, ...]]:
     """The words of the crate `calls`, and what it prints. Of made answers the header is written
-    first, then a list of dead squares in pieces, and any other record at once."""
-    header, first, other = MADE[:18], MADE[18:MADE.index("level 3")], MADE[MADE.index("level 3"):]
-    cells = first[len("level 1\nunsolvable\n"):-len("end\n")]
-    pieces = [header, "level ", "1", "\n", "unsolvable\n", cells, "end\n", other]
+    first, then each list in pieces: its dead squares at once, and then its frozen boxes."""
+    header, *lists = re.split(r"level \d\nunsolvable\n", MADE)
+    dead = [re.sub("pattern 3,3 4,3.*\n|end\n", "", it) for it in lists]
+    frozen = "pattern ", "3,3", " 4,3 3,4 4,4", " @ *\n"
+    pieces = [header, "level ", "1", "\n", "unsolvable\n", dead[0], "end\n",
+              "level ", "3", "\n", "unsolvable\n", dead[1], *frozen, "end\n"]
+    assert "".join(pieces) == MADE
     for call, levels, answers, writes, result in (
         ("audit", THREE_LEVELS, THREE_ANSWERS, [THREE_LINES], SUMMARY),
         ("make_answers", MADE_FOR, "", pieces, "2"),
