@@ -25,7 +25,8 @@ def judging(check: Comparison, tab: Tab) -> None:
     tab.wait("document.querySelectorAll('.preview svg').length === 2")
     tab.ask("Object.defineProperty(shownData.levels[0], 'rows', { value: ['no row'] });"
             " draw(''); 0")
-    # the thread judges the first level before the second
+    # the thread judges in order, so the first level is judged once it is judged again
+    tab.ask("judgementOn(viewer, shownData.levels[0]).then(() => 0)")
     tab.wait("document.querySelectorAll('.preview')[1]?.children.length")
     check.same("nor is the picture of a small collection", [False, True], tab.ask(
         "[...document.querySelectorAll('.preview')].map(it => it.children.length > 0)"))
