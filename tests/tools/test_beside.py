@@ -5,9 +5,9 @@ import os
 import subprocess
 import threading
 import unittest.mock
-from typing import Any, Callable, Dict, Optional
+from typing import Any, Callable, Dict, List, Optional
 
-from sokotool import auditor, forms, levels, own_files
+from sokotool import auditor, forms, levels, own_files, system
 from tests.tools.ending import Meanwhile
 from tests.tools.helping import TOP, needs_program
 from tests.tools.checking import CORNER, LONG, LOST, Check
@@ -265,14 +265,39 @@ class Older(Check):
     def test_other_versions(self) -> None:
         """What a program that synchronizes folders leaves isn't read, and the summary says so."""
         self.write("a.txt", CORNER)
-        others = ["mine (Anna's conflicted copy 2026-11-30).xsb",
-                  "mine.sync-conflict-20261130-101010-ABCDEFG.xsb", "mine (1).answers"]
-        for name in (*others, "mine2.xsb", "mine.other.answers~", "mine-conflict"):
+        others = ["mine (Anna's conflicted copy 2026-11-30).xsb", "mine.kept (2).xsb",
+                  "mine.sync-conflict-20261130-101010-ABCDEFG.xsb", "mine (1).answers",
+                  "mine.other.conflict-1.answers"]
+        for name in (*others, "mine2.xsb", "mine.kept2.xsb", "mine.other.answers~",
+                     "mine-conflict"):
             self.write(name, "")
         said = self.lines(self.check("mine", "a.txt"))
         self.assertEqual([line for line in said if line.startswith("not read")],
                          [f"not read: {name} seems to be another version: take over what it has, "
                           "and remove it" for name in others])
+
+    def test_saved_over_a_file_that_was_just_written(self) -> None:
+        """What that file was before stays beside it, and the summary names it until it is removed.
+        """
+        self.write("a.txt", CORNER)
+        self.check("mine", "a.txt")
+        former = self.read("mine.xsb")
+        self.write("a.txt", LONG)
+        saved: List[bytes] = []
+
+        def renamed(made: str, path: str, real: Callable[..., None] = system.rename_new) -> None:
+            real(made, path)
+            if path.endswith("mine.xsb") and not saved:
+                saved.append(self.read("mine.xsb") + b"typed\n")
+                self.write("mine.xsb", saved[0])
+        with unittest.mock.patch.object(system, "rename_new", renamed):
+            result = self.check("mine", "a.txt")
+        self.assertIn("mine.xsb was changed by somebody else: reading again", result.err)
+        for said in self.lines(result), self.lines(self.check("mine", "a.txt")):
+            self.assertIn("not read: mine.conflict-1.xsb seems to be another version: take over "
+                          "what it has, and remove it", said)
+        self.assertEqual(self.read("mine.conflict-1.xsb"), former)
+        self.assertIn(b"typed\n", self.read("mine.xsb"))
 
     def test_copies_of_an_export(self) -> None:
         """A copy has one line in place of a line for each of its levels, whoever made it."""

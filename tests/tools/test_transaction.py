@@ -7,7 +7,7 @@ import random
 import signal
 import sys
 import unittest.mock
-from typing import Any, Callable, Dict, Iterator, List
+from typing import Any, Callable, Dict, Iterator, List, Set
 
 from sokotool import system, texts, transaction
 
@@ -17,7 +17,11 @@ from .helping import LACKING, Case, not_on_windows
 
 OLD = {"a": b"old a\n", "b": b"old b\n", "gone": b"old\n"}
 NEW = {"a": b"new a\n", "b": b"new b\n", "fresh": b"new\n"}
-FILES = [(name, OLD.get(name), NEW.get(name)) for name in ("fresh", "a", "gone", "b")]
+# the same files, with lines that move from one to another: each is in one file at both times
+BEFORE = {"a": b"1\n2\n3\n", "b": b"4\n5\n6\n", "gone": b"7\n"}
+AFTER = {"fresh": b"3\n", "a": b"1\n5\n7\n", "b": b"4\n6\n2\n"}
+NAMES = "fresh", "a", "gone", "b"
+Files = Dict[str, bytes]
 CALLS = "replace", "rename", "link", "unlink"
 real_replace, real_rename = os.replace, os.rename
 
@@ -65,19 +69,19 @@ class Transactions(Case):
         patch.start()
         self.addCleanup(patch.stop)
 
-    def start(self) -> None:
+    def start(self, old: Files = OLD) -> None:
         for name in os.listdir():
             os.remove(name)
-        for name, data in OLD.items():
+        for name, data in old.items():
             self.write(name, data)
 
-    def files(self) -> Dict[str, bytes]:
+    def files(self) -> Files:
         return {name: self.read(name) for name in os.listdir()}
 
-    def commit(self) -> bool:
+    def commit(self, old: Files = OLD, new: Files = NEW) -> bool:
         """Returns whether the files were replaced."""
         try:
-            transaction.commit(FILES, "journal")
+            transaction.commit([(it, old.get(it), new.get(it)) for it in NAMES], "journal")
             return True
         except transaction.Changed:
             return False
@@ -117,7 +121,7 @@ class Transactions(Case):
     def test_saved_over_a_new_file(self) -> None:
         """An editor that read a file before it was moved, and saves after that, has the last word,
         and the others are as they were."""
-        journal_goes = len(self.calls()) - 2 * len(FILES)
+        journal_goes = len(self.calls()) - 2 * len(NAMES)
         for moment, name in itertools.product(range(1, journal_goes + 1), ("a", "b")):
             self.assertFalse(self.saves({moment: name}, "in place"), moment)
 
@@ -134,7 +138,7 @@ class Transactions(Case):
         """Saves files at moments. Returns whether the files were replaced although one was saved.
         """
         self.start()
-        typed: Dict[str, bytes] = {}
+        typed: Files = {}
 
         def act(now: int) -> None:
             if now in names:
@@ -143,6 +147,8 @@ class Transactions(Case):
         with at_calls(act):
             is_done = self.commit()
         found = self.files()
+        for name in [] if is_done else [it for it in found if it.endswith(".conflict-1")]:
+            self.assertIn(found.pop(name), (OLD[name[0]], b"typed at %d\n" % min(names)))
         self.assertEqual(found, {**(NEW if is_done else OLD), **typed}, f"{names} {way}")
         return is_done
 
@@ -240,24 +246,81 @@ class Transactions(Case):
             found = {it: data for it, data in self.files().items() if it[0] != "."}
             self.assertEqual(found, {**OLD, "b": b"typed\n"}, f"moment {moment}")
 
-    def test_both_halves_edited(self) -> None:
-        """It stops, and changes nothing."""
-        stopped = 0
-        for moment in self.moments():
-            self.start()
-            with at_calls(kill_at(moment, goes_on=False)):
-                self.assertRaises(Killed, self.commit)
-            for name in ("a", "b"):
-                if os.path.exists(name):
-                    self.write(name, self.read(name) + b"typed\n")
-            before = {name: self.read(name) for name in ("a", "b") if os.path.exists(name)}
-            try:
-                transaction.finish("journal")
-            except texts.Stop as stop:
-                stopped += 1
-                self.assertRegex(str(stop), "/[ab] was changed after a write was cut off")
-            self.assertEqual(before, {name: self.read(name) for name in before})
-        self.assertGreater(stopped, 1)
+    # ---- lines that move from one file to another
+
+    def assert_has(self, lines: Set[bytes], where: object) -> None:
+        """These lines are in files that aren't hidden, and no hidden file is left."""
+        found = self.files()
+        self.assertFalse([name for name in found if name[0] == "."], where)
+        self.assertFalse(lines.difference(*(it.split() for it in found.values())), where)
+
+    def test_no_line_is_lost(self) -> None:
+        """An editor has read a file before the write or since its move, and saves it with a line
+        more or as it was, or removes it. Perhaps another one saves another file, so that the write
+        is taken back."""
+        decided = len(self.calls()) - 2 * len(NAMES)
+        for (name, other), second, base, more in itertools.product(
+                (("a", "b"), ("b", "a"), ("gone", "b"), ("fresh", "a")), (0, 1, decided),
+                (BEFORE, AFTER), (b"typed\n", b"", None)):
+            for moment in itertools.count(1):
+                self.start(BEFORE)
+                lines, states = {*b"".join(BEFORE.values()).split()}, []
+
+                def act(now: int) -> None:
+                    found = {it: self.read(it) for it in (name, other) if os.path.exists(it)}
+                    way = "in place" if moment % 2 else "by rename"
+                    states.append(found.get(name))
+                    if now == second:
+                        self.save(other, way, found.get(other, BEFORE[other]) + b"other\n")
+                        lines.add(b"other")
+                    is_back = base is AFTER and found.get(name) == BEFORE.get(name)
+                    if now != moment or is_back or base.get(name) not in states:
+                        return
+                    if more is not None:
+                        self.save(name, way, base.get(name, b"") + more)
+                        lines.update(more.split())
+                    else:
+                        lines.difference_update(base.get(name, b"").split())
+                        if name in found:
+                            os.remove(name)
+                with at_calls(act) as calls:
+                    is_done = self.commit(BEFORE, AFTER)
+                if moment > len(calls):
+                    break
+                # Later nobody can know that the editor has read another file.
+                if not is_done or base is AFTER or moment <= decided:
+                    self.assert_has(lines, (name, second, base is AFTER, more, moment))
+
+    def test_kept_files_stay(self) -> None:
+        """A former file that can't be put back gets a name that no file has."""
+        decided = len(self.calls()) - 2 * len(NAMES)
+        self.write("a.conflict-1", b"kept\n")
+
+        def act(now: int) -> None:
+            if now == decided:
+                self.write("a", b"typed\n")
+        with at_calls(act):
+            self.assertFalse(self.commit())
+        self.assertEqual(self.files(), {**OLD, "a": b"typed\n", "a.conflict-1": b"kept\n",
+                                        "a.conflict-2": OLD["a"]})
+
+    def test_no_line_is_lost_after_a_kill(self) -> None:
+        """Files are saved before the next run ends the write: new ones and others, and some that
+        were moved aside. What was saved is in its place."""
+        for moment, edited, goes_on in itertools.product(
+                self.moments(), itertools.product((False, True), repeat=len(NAMES)),
+                (False, True)):
+            self.start(BEFORE)
+            with at_calls(kill_at(moment, goes_on)):
+                self.assertRaises(Killed, self.commit, BEFORE, AFTER)
+            saved: Files = {}
+            for name in itertools.compress(NAMES, edited):
+                there = self.read(name) if os.path.exists(name) else BEFORE.get(name, b"")
+                saved[name] = there + b"typed in %b\n" % name.encode()
+                self.write(name, saved[name])
+            transaction.finish("journal")
+            self.assertEqual(saved, {name: self.read(name) for name in saved})
+            self.assert_has({*b"".join(BEFORE.values()).split()}, (moment, edited, goes_on))
 
     # ---- the journal, and the disk
 

@@ -138,6 +138,9 @@ class Weeks(Case):
                 keeper.words &= there
                 keeper.has_written_over = False
             self.assertFalse(sorted(keeper.words - there), f"day {day}, {how}")
+            for name in glob.glob("mine*.conflict-*"):  # the keeper has read them
+                os.remove(name)
+                keeper.words &= words_in(False)
             if "[2" in how:  # a slip, which the keeper takes back
                 git("checkout", "-q", "HEAD", "--", ".")
                 keeper.words &= words_in(False)

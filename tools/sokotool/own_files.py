@@ -25,8 +25,10 @@ EVERY = (*ENDS, SHEET, MEMORY, JOURNAL)
 LISTED = (PAGE, *(end for end in (*ENDS, SHEET) if end != PAGE), MEMORY)
 _PAGE = b"<title>sokoaudit report</title>"
 _BEAT = 0.1
-# what programs that synchronize folders put between NAME and the end of another version
-_VERSION = re.compile(r"[ ._-]?(?:\(.+\)|(?:sync-)?conflict.*|[^.]*conflicted copy.*)", re.I)
+# what programs that synchronize folders, and `transaction`, put between the name of a file and the
+# end of another version
+_VERSION = re.compile(r"(?:\.kept|\.other)?[ ._-]?"
+                      r"(?:\(.+\)|(?:sync-)?conflict.*|[^.]*conflicted copy.*)", re.I)
 _NOTE = f"; {auditor.REFERENCE_NOTE}".encode()
 
 
@@ -123,8 +125,8 @@ def bytes_of(name: str) -> Optional[bytes]:
 
 
 def versions(name: str) -> List[str]:
-    """Returns the files beside NAME.xsb and NAME.answers that seem to be other versions of them,
-    which a program that synchronizes folders has left. They aren't read."""
+    """Returns the files that seem to be other versions of NAME.xsb, NAME.answers or what was kept.
+    They aren't read."""
     return [file for end in (XSB, ANSWERS)
             for file in sorted(glob.glob(f"{glob.escape(name)}*{end}"))
             if _VERSION.fullmatch(file[len(name):-len(end)])]

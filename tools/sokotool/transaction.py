@@ -1,8 +1,15 @@
 """Replaces several files at once: all of them or none, and none that somebody else has changed.
 
 Each former file is moved aside, whatever it is then, and compared there. The new one comes to its
-place only if no file is there. So whatever somebody saves at any moment is found, and put back. A
+place only if no file is there. So whatever somebody saves at any moment is found, and stays. A
 journal has the moves while they are made, so that `finish` can go on with them or take them back.
+
+Lines may move from one file to another, and an editor may save over a new file before the write
+ends. It has read the former file or the new one, and nothing tells which. If it has read the former
+one, its save lacks the lines that moved into the file, so the other files have to be put back. If
+it has read the new one, its save lacks the lines that moved out, which the others don't have then.
+So the others are put back, and the former file stays beside the saved one, under a name that no
+write replaces. After a write was cut off an editor has read the new file: `finish` goes on.
 
 The new files and the journal are on the disk before the first move, the moves are before the
 journal goes, and its name is gone there before a former file goes. So `finish` also ends what a
@@ -48,15 +55,18 @@ class Move(NamedTuple):
 
     def is_lost(self) -> bool:
         """Returns whether somebody has changed the new file since the move."""
-        return not self.is_left() and _digest(self.path) not in ("", self.before, self.after)
+        return not self.is_left() and _digest(self.path) != self.after
 
     def take_back(self) -> None:
-        """Puts the former file back, unless somebody has put another one there."""
+        """Puts the former file back, or beside another one that somebody has put there."""
         if not self.made or os.path.exists(self.aside) and not os.path.exists(self.path):
             _put(self.aside, self.path)
         elif not self.is_left() and _digest(self.path) == self.after:
             output.remove(self.made)
             _swap(self.path, self.aside if self.before else "", self.made, self.after)
+        for left in self.aside, self.made:
+            if _digest(left) not in ("", self.after, _digest(self.path)):
+                _put_beside(left, self.path)
 
 
 def commit(files: Sequence[Tuple[str, Optional[bytes], Optional[bytes]]], journal: str) -> None:
@@ -106,8 +116,8 @@ def _end(moves: Sequence[Move], journal: str, is_new: bool) -> str:
         changed = next((it.path for it in moves if not it.make()), "") or next(
             (it.path for it in moves if _digest(it.aside) not in ("", it.before)
              or is_new and it.is_lost()), "")
-        if changed:
-            _take_back(moves, "" if is_new else journal)
+        for it in moves if changed else ():
+            it.take_back()
         _keep_names(journal, moves)
         output.remove(journal)
         _keep_names(journal, ())
@@ -142,19 +152,6 @@ def _keep_names(journal: str, moves: Sequence[Move]) -> None:
         system.keep_names(folder)
 
 
-def _take_back(moves: Sequence[Move], journal: str) -> None:
-    """Takes moves back. Of a write that was cut off, with a journal, that would mix two states if
-    new files were edited since."""
-    for it in moves:
-        if journal and it.is_lost():
-            raise texts.Stop(
-                f"{texts.shown(it.path)} was changed after a write was cut off, and so was another "
-                "file: the former files end in ~; take from them what is missing, and remove "
-                f"{texts.shown(journal)}")
-    for it in moves:
-        it.take_back()
-
-
 def _swap(path: str, new: str, aside: str, contents: str) -> bool:
     """Moves the file at a path aside and a new one there, or none. Returns false if the former one
     has other contents than these, or if somebody has put a file there: that stays."""
@@ -174,6 +171,14 @@ def _put(made: str, path: str) -> bool:
             system.rename_new(made, path)
         return True
     return False
+
+
+def _put_beside(made: str, path: str) -> None:
+    """Moves a file beside a path, to a name such as programs that synchronize folders give."""
+    stem, end = os.path.splitext(path)
+    number = 1
+    while not _put(made, f"{stem}.conflict-{number}{end}"):
+        number += 1
 
 
 def _refused(journal: str, error: OSError) -> texts.Stop:
