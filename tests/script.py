@@ -13,7 +13,8 @@ from tests.runner import TOP, Cases, arguments, call, decode, enter_folder, read
 # 'builds' for each build, and into 'lanes' when a library begins, with its words, and when it ends.
 # It fails if the sources have the word 'wrong'. Its program prints its sources, its folder and its
 # words, and ends with status 1 on the word 'refused'. A library takes LIBRARY seconds, and the
-# program PROGRAM seconds, where these are set.
+# program PROGRAM seconds, where these are set. Where BESIDE is set, a library waits as many tenths
+# of a second for another one to begin.
 TREE = r"""
 mkdir -p tree/samples bin plain bare 'else where' tree/crates/{low,arguments,sokoaudit}/src
 mkdir tree/crates/low/{specs,proofs} && touch tree/crates/low/{specs,proofs}/Low.antt
@@ -31,7 +32,13 @@ git -C tree init -q 2>/dev/null && git -C tree add -A
 install -m 755 /dev/stdin bin/rt <<'END'
 #!/usr/bin/env bash
 say() { echo "$*" >>../../lanes; }
-[ "$1" = run ] || { say begin "$@"; sleep ${LIBRARY-0}; say end; exit; }
+[ "$1" = run ] || {
+    say begin "$@"
+    sleep ${LIBRARY-0}
+    for it in $(seq ${BESIDE-0}); do [ $(grep -c begin ../../lanes) = 1 ] || break; sleep 0.1; done
+    say end
+    exit
+}
 ! grep -q wrong ../*/src/main.rt || { echo "fn main: not proved"; exit 1; }
 echo "so far: 2 of 3 functions checked; the verdict comes last"
 sleep ${PROGRAM-0}
@@ -154,9 +161,13 @@ case("a program that can't be run is no refused level", 2, "", "perhaps of other
      f"/dev/stdin $tree/crates/sokoaudit/out/sokoaudit; {LACKS} $run audit levels answers; s=$?; "
      "rm -r $tree/crates/sokoaudit/out; exit $s")
 case("the first run builds", 0, "one one one|HERE|a  b c", "proved sokoaudit, 3 functions, 0:0",
-     "LIBRARY=1.5 $run 'a  b' c")
-case("two libraries are proved side by side", 0, "begin begin end end", "",
-     "echo $(sed 's/ .*//' $tree/lanes)")
+     "fakes nproc 2; BESIDE=99 $run 'a  b' c")
+# a job needs 2.5 GB
+if int(read("/proc/meminfo").split("MemAvailable:")[1].split()[0]) < 5000000:
+    cases.skip("two libraries side by side", "this machine has no memory for two")
+else:
+    case("two libraries are proved side by side", 0, "begin begin end end", "",
+         "echo $(sed 's/ .*//' $tree/lanes)")
 case("a run with nothing new reports nothing", 1, "one one one|HERE|refused", "", "$run refused")
 case("and builds nothing", 0, "1", "", "builds")
 case("a run after an edit takes the new sources", 0, "two one one|HERE|a", "proved sokoaudit",

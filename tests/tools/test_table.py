@@ -334,8 +334,8 @@ The file could not be audited: answers line 9 unclosed
         self.write("anna.result.txt", self.read("anna.answers"))
         self.write("a\tb.answers", self.read("anna.answers"))
         result = self.tool("table", "levels.xsb", "anna.answers", "anna.result.txt", "--mail", ".")
-        self.assertEqual((result.status, result.err),
-                         (2, "table: would write over ./anna.result.txt\n"))
+        said = result.err.replace(f"table: {auditor.REFERENCE_NOTE}\n", "")
+        self.assertEqual((result.status, said), (2, "table: would write over ./anna.result.txt\n"))
         self.assertEqual(self.read("anna.result.txt"), self.read("anna.answers"))
         self.tool("table", "levels.xsb", "a\tb.answers", "anna.answers", "--mail", "out")
         self.assertEqual(sorted(os.listdir("out")), ["a-b.result.txt", "anna.result.txt"])
