@@ -19,11 +19,13 @@ from pathlib import Path
 from shlex import quote
 from typing import Callable, Dict, List, Sequence
 
-from tests.runner import TOP, Cases, Ran, arguments, call, chosen, daily_seed, decode, encode, write
+from tests.runner import (TOP, Cases, Ran, arguments, call, chosen, daily_seed, decode, encode,
+                          read, write)
 
 TOOL = [sys.executable, f"{TOP}/sokotool"]
 ONE = "#####\n#@$.#\n#####\nSolution: R\n"
 PLAIN = "#####\n#@$.#\n#####\n"
+ON_A_WALL = "#######\n#@ .  #\n#     #\n# $ $.#\n#######\n"  # two boxes, where one goal is
 # kilobytes of address space, and seconds of one processor
 ROOM, SECONDS = 1_500_000, 20
 LIMITED = f"ulimit -v {ROOM} -t {SECONDS} && exec timeout 120 "
@@ -270,8 +272,49 @@ def system_calls(cases: Cases) -> None:
             cases.same(f"{error} at {kind} {at}, and the next run", str(new), str(own_files()))
 
 
+def interrupted(cases: Cases) -> None:
+    """A signal interrupts calls of the program. Such a read ends the run with its message. Such a
+    write is done again if its text was kept, and one of a longer text ends the run."""
+    program, count = os.environ["SOKOAUDIT"], 5000
+    lacks = "" if shutil.which("strace") else "there is no command strace"
+    if program == f"{TOP}/reference/sokoaudit":
+        lacks = "Python does each of them again"
+    if lacks:
+        cases.skip("interrupted calls", lacks, 32)
+        return
+    write("levels", PLAIN + "\n" + PLAIN)
+    write("answers", "sokoban-answers 2\nlevel 1\nsolution\nR\nend\n")
+    write("many", "\n".join(ON_A_WALL for _ in range(count)))
+    two = ("level 1 solved moves 1 pushes 1 changes 1\nlevel 2 missing\n"
+           "total 2 solved 1 unsolvable 0 refused 0 missing 1\n")
+    zones = "".join(f"level {it + 1}\nunsolvable\nzone 2,4 3,4 4,4 5,4 6,4\nend\n"
+                    for it in range(count))
+    audits = "audit levels answers", "audit levels - <answers", "audit - answers <levels"
+    for name, calls, audit, said in (
+            ("no call", "read:when=9+", audits, f"{two}status 1"),
+            ("the read of the levels", "read:when=1", audits, "cannot read levels\nstatus 2"),
+            ("the read of their end", "read:when=2", audits, "cannot read levels\nstatus 2"),
+            ("the read of the answers", "read:when=3", audits, "cannot read answers\nstatus 2"),
+            ("the read of that end", "read:when=4", audits, "cannot read answers\nstatus 2"),
+            ("a write", "write:when=1", audits, f"{two}status 1"),
+            ("three writes", "write:when=1..3", audits, f"{two}status 1"),
+            ("each other write", "write:when=1+2", ("make many",),
+             f"sokoban-answers 2\n{zones}status 0"),
+            ("the write of a long report", "write:when=1", ("audit many answers",),
+             "cannot write\nstatus 2")):
+        for words in audit:
+            kind, _, when = calls.partition(":")
+            paths = "-P levels -P answers" if kind == "read" else ""
+            cases.prints(f"{name} is interrupted: {words}", said + "\n",
+                         f"strace -qq -o trace -e trace={kind} {paths} -e inject={kind}:error=EINTR"
+                         f':{when} "$0" {words} 2>errors; s=$?; grep -v ^strace: errors; exit $s',
+                         program)
+        number = read("trace").count("EINTR")
+        cases.holds(f"{name}: {number} calls were", number > 0 or name == "no call")
+
+
 Attack = Callable[[Cases], None]
-QUICK: List[Attack] = [archives, xml, names, texts, devices, full_disk, at_once]
+QUICK: List[Attack] = [archives, xml, names, texts, devices, full_disk, at_once, interrupted]
 SLOW: List[Attack] = [cut_archives, many_files, system_calls]
 
 

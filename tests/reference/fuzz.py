@@ -12,6 +12,7 @@ files.
 """
 import argparse
 import contextlib
+import os
 import random
 import shutil
 import sys
@@ -116,14 +117,16 @@ def main(words: Sequence[str]) -> int:
         kinds, found = run(arguments, comparison)
         for kind, count in sorted(kinds.items()):
             print("%8d %s" % (count, kind))
+        results = sum(comparison.counts.values())
         counts = sorted(comparison.counts.items())
         said = ", ".join("%d %s" % (count, name) for name, count in counts)
-        print("seed %d: %d results compared in %.0f s: %s" % (
-            arguments.seed, sum(comparison.counts.values()), time.monotonic() - began, said))
         if found:
             cases, pair, difference = found
             print("found after %d cases: %s" % (sum(kinds.values()), difference))
             print(keep(arguments, reduced(cases, pair, comparison), comparison))
+    # after the others have ended, since the time of a process counts from there
+    print("seed %d: %d results compared in %.0f s, %.0f s of processor time: %s" % (
+        arguments.seed, results, time.monotonic() - began, sum(os.times()[:4]), said))
     return 1 if found else 0 if comparison.counts and not kinds[INTERRUPT] else 2
 
 

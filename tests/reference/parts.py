@@ -3,7 +3,10 @@
 tests/run reference.parts [FUNCTION..]: all but the last, which need no program, or those of these
 names. Ends in 'N passed, M failed'.
 """
+import contextlib
 import glob
+import io
+import re
 import unittest.mock
 
 from tests.inputs import LEVELS
@@ -101,9 +104,14 @@ def statuses(cases: Cases) -> None:
 
     words = ["--seed", "1", "--cases", "0", f"{TOP}/reference/sokoaudit"]
     cases.holds("a comparison of nothing", fuzz.main(words) == 2)
+    said = io.StringIO()
     with unittest.mock.patch.object(Comparison, "of", interrupted):
         words[3] = "1"
-        cases.holds("an interrupted comparison", fuzz.main(words) == 2)
+        with contextlib.redirect_stdout(said):
+            cases.holds("an interrupted comparison", fuzz.main(words) == 2)
+    last = r"seed 1: 1 results compared in \d+ s, \d+ s of processor time: 1 one"
+    lines = said.getvalue().splitlines()
+    cases.holds("its last line", re.fullmatch(last, lines[-1]), *lines)
 
 
 def random_cases(cases: Cases, *words: str) -> None:
