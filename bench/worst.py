@@ -236,7 +236,7 @@ def pairs(side: int, lines: int) -> Timed:
 
 
 def mixed(cell: Cell) -> int:
-    """What a box adds to the hash of a line (`patterns`, `hints`)."""
+    """What a box adds to the hash of a line (`closure`, `hints`)."""
     number = (cell[1] << 16 | cell[0]) * 0x9E3779B97F4A7C15 % 2 ** 64
     return (number ^ number >> 29) * 0xBF58476D1CE4E5B9 % 2 ** 64
 
@@ -324,8 +324,8 @@ def many_ahead(side: int, lines: int, decoys: int, boxes: int) -> Timed:
 
 
 def parted(side: int, lines: int, decoys: int, boxes: int, beyond: bool = False) -> Timed:
-    """Lines whose boxes part a winding corridor into as many pieces, and decoys that have a region
-    in the last piece alone: two boxes, or with `beyond` most of the boxes of the farther half."""
+    """Lines whose boxes part a winding corridor into as many components, and decoys that have a region
+    in the last component alone: two boxes, or with `beyond` most of the boxes of the farther half."""
     path = snake(side, 2)
     straight = [at for at in range(8, len(path) - 12)
                 if all(it[0] == path[at][0] for it in path[at - 4:at + 5])]

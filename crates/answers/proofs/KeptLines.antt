@@ -15,7 +15,7 @@ use Rattle.lines.proofs.Cuts.{cut_lines, cut_more, cut_none, first_alone, first_
 use Rattle.answers.specs.declared.line.Left.{Left}
 use Rattle.answers.specs.declared.line.NumberedLine.{NumberedLine}
 use Rattle.answers.specs.Grammar.{Line, NoneEnds, is_kept, numbered}
-use Rattle.answers.specs.Held.{IsCutAtEnd, IsFound, IsNextKept, IsSkipped, kept_after, kept_in, line_count, said_line}
+use Rattle.answers.specs.Held.{AreNone, HasPassed, IsCutAtEnd, IsFound, IsNextKept, IsSkipped, kept_after, kept_in, line_count, said_line}
 
 -- ---- kept lines
 
@@ -90,17 +90,6 @@ module _ (class : ℕ → Bool) (lines found : Left) (line : NumberedLine) (rest
   line_left e = search (found_kept)
 
 -- ---- lines that are passed
-
--- The text is cut after lines of which the kept ones have this property.
-pub record HasPassed (P : List Line → Type 0) (lines left : Left) : Type 0 where
-  pub passed : List ℕ
-  pub cut : IsLineCut lines.text.now passed left.text.now
-  pub number : left.before ≡ lines.before + length (lines_of passed)
-  pub kept : P (kept_after lines.before passed)
-
--- No line is kept.
-abbrev pub AreNone : List Line → Type 0
-AreNone lines = lines ≡ []
 
 pub passed_none : (P : List Line → Type 0) (lines : Left) → P [] → HasPassed P lines lines
 passed_none P lines none = record {
@@ -209,3 +198,26 @@ module _ (lines left : Left) (h : HasPassed NoneEnds lines left) where
         within = omega (arith, more);
         shorter = omega (arith, first_shorter left.text.now line.text.now rest.text.now f.first, passed_no_longer NoneEnds lines left h);
       })
+
+-- Lines before the first `end` after comments are the comments and those lines.
+module _ (lines left : Left) (h : HasPassed AreNone lines left) (body : List ℕ) (from rest : Left) (c : IsCutAtEnd left body from rest) where
+  pub cut_past : IsLineCut lines.text.now (h.passed ++ body) from.text.now
+  cut_past = cut_more lines.text.now h.passed left.text.now body from.text.now h.cut c.cut
+
+  both_lines : lines_of (h.passed ++ body) ≡ lines_of h.passed ++ lines_of body
+  both_lines = more_lines lines.text.now h.passed left.text.now body from.text.now h.cut c.cut
+
+  pub kept_past : kept_after left.before body ≡ kept_after lines.before (h.passed ++ body)
+  kept_past = sym (kept_both lines.before (h.passed ++ body) h.passed body both_lines h.number ∙ ap (λ ls. ls ++ kept_after left.before body) h.kept)
+
+  pub number_past : rest.before ≡ lines.before + length (lines_in (h.passed ++ body)) + 1
+  number_past =
+      let number = c.number in
+      let before = h.number in
+      omega (
+        arith,
+        ap length both_lines,
+        length-append (lines_of h.passed) (lines_of body),
+        length-map (lines_of (h.passed ++ body)) without_terminator,
+        length-map (lines_of body) without_terminator,
+      )

@@ -47,6 +47,17 @@ pub record IsNextKept (before : ℕ) (bytes from line rest : List ℕ) (next : �
   pub first : IsFirstLine from line rest
   pub number : next ≡ before + length (lines_in skipped) + 1
 
+-- No line is kept.
+abbrev pub AreNone : List Line → Type 0
+AreNone lines = lines ≡ []
+
+-- The text is cut after lines of which the kept ones have this property.
+pub record HasPassed (P : List Line → Type 0) (lines left : Left) : Type 0 where
+  pub passed : List ℕ
+  pub cut : IsLineCut lines.text.now passed left.text.now
+  pub number : left.before ≡ lines.before + length (lines_of passed)
+  pub kept : P (kept_after lines.before passed)
+
 -- The text is cut into the lines before the first `end`, which `from` begins with, and the rest after it.
 pub record IsCutAtEnd (left : Left) (body : List ℕ) (from rest : Left) : Type 0 where
   pub cut : IsLineCut left.text.now body from.text.now

@@ -80,13 +80,6 @@ impl<'a> RecordText<'a> {
         self.place
     }
 
-    /// Returns the number of the line with which the body begins.
-    pub fn body_line(&self) -> usize
-        ensures { result ≡ self.now.lines.before + 1 }
-    {
-        self.lines.before + 1
-    }
-
     /// Reads what the record says of its level. Letters are borrowed from the text.
     pub fn read(&self, alloc: Global) -> Result<Record<'a>, AllocError>
         ensures says { IfOk result (λ r. SaysOfLevel self.now (said_body r)) }

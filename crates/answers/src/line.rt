@@ -4,7 +4,7 @@ ghost use Rattle.std.specs.Prelude.{◌≡◌, ◌+◌, ◌<◌, ◌≤◌, ◌^
 ghost use Rattle.lines.specs.Lines.{lines_in};
 ghost use Rattle.lines.specs.Starts.{AllBeginOutside};
 ghost use Rattle.answers.specs.Grammar.{NoneEnds, is_kept};
-ghost use Rattle.answers.specs.Held.{IsCutAtEnd, IsFound, IsNextKept, IsSkipped, line_count, kept_in, said_line};
+ghost use Rattle.answers.specs.Held.{AreNone, HasPassed, IsCutAtEnd, IsFound, IsNextKept, IsSkipped, line_count, kept_in, said_line};
 
 use lines::{Byte, Class, NotByte, first_line, first_start};
 
@@ -80,6 +80,15 @@ pub(crate) fn next_kept(lines: Left<'_>) -> Option<(Left<'_>, NumberedLine<'_>, 
         left = rest;
     }
     None
+}
+
+// Returns the text from the first line that isn't a comment; all of it if there is no such line.
+#[inline]
+pub(crate) fn after_comments(lines: Left<'_>) -> Left<'_>
+    requires { line_count lines < 2 ^ 64 }
+    ensures { HasPassed AreNone lines.entry result }
+{
+    skip_to(lines, NotByte(b';')).unwrap_or(lines)
 }
 
 // Returns the lines before the first `end`, the text from it on, and the rest of the text after it.

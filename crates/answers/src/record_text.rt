@@ -13,13 +13,15 @@ pub enum Kind {
     Unsolvable,
 }
 
-/// Where a record is: how many bytes its text still has at each place.
+/// Where a record is: how many bytes its text still has at each place, and the line of the body.
 #[derive(Clone, Copy, Debug, PartialEq, Eq)]
 pub struct Place {
     /// From the level line on.
     pub level: usize,
     /// After the kind line.
     pub body: usize,
+    /// The number of the line with which the body begins.
+    pub line: usize,
     /// From the line `end` on.
     pub end: usize,
     /// After the line `end`.
@@ -32,7 +34,7 @@ pub struct RecordText<'a> {
     pub(crate) level: usize,
     pub(crate) version: u8,
     pub(crate) kind: Kind,
-    // The lines between the kind line and `end`.
+    // The lines between the kind line and `end`, without the comments at their beginning.
     pub(crate) lines: Left<'a>,
     pub(crate) place: Place,
     ghost in_range: { lines.before + length (lines_of lines.text.now) + 1 < 2 ^ 64 },

@@ -9,7 +9,7 @@ ghost use Rattle.answers.specs.Records.{AreEntriesOf, AreRecordsFrom, HasRecords
 ghost use Rattle.answers.specs.Held.{line_count, kept_in, said_line};
 
 use crate::fault::AnswersFault;
-use crate::line::{Left, NumberedLine, cut_at_end, next_kept};
+use crate::line::{Left, NumberedLine, after_comments, cut_at_end, next_kept};
 use crate::pattern_line::{level_digits, number_in};
 use crate::record_text::{Kind, Place, RecordText};
 use bstr::ByteSlice;
@@ -94,20 +94,22 @@ fn next_record<'a>(
         return Err(unclosed(after_level));
     };
     let kind = kind_of(line)?;
-    let Some((body, end, rest)) = cut_at_end(inside) else {
-        return Err(unclosed(inside));
+    let content = after_comments(inside);
+    let Some((body, end, rest)) = cut_at_end(content) else {
+        return Err(unclosed(content));
     };
     let found = RecordText {
         level,
         version,
         kind,
         lines: Left {
-            before: inside.before,
+            before: content.before,
             text: body,
         },
         place: Place {
             level: from.text.len(),
             body: inside.text.len(),
+            line: inside.before + 1,
             end: end.text.len(),
             after: rest.text.len(),
         },

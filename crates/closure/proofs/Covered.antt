@@ -10,7 +10,7 @@ use Rattle.board.specs.Game.{Level, State, start, Steps, Walks, Pushes, Plays, I
 use Rattle.board.specs.Board.{IsWellFormed}
 use Rattle.certificates.specs.Pattern.{Pattern, IsCovered}
 use Rattle.certificates.specs.Closed.{Closed}
-use Rattle.patterns.proofs.{Moves.AreOnFloor, Moves.lacks_within, Moves.moved_on_floor, Settled.subsumed_push}
+use Rattle.closure.proofs.{Moves.AreOnFloor, Moves.lacks_within, Moves.moved_on_floor, Settled.subsumed_push}
 
 module _ (level : Level) (patterns : List Pattern) (closed : Closed level patterns) where
   walk_covered : (s : State) (d : Dir) (t : State) → IsCovered level patterns s → Walks level s d t → IsCovered level patterns t

@@ -6,8 +6,8 @@ use Rattle.std.specs.Prelude.{◌↔◌}
 use Rattle.std.proofs.lemmas.List.{get_or_default}
 use Rattle.board.specs.Game.{Level, State}
 use Rattle.certificates.specs.Pattern.{Pattern, Covers, IsCovered}
-use Rattle.patterns.specs.Arena.{pattern_at}
-use Rattle.patterns.proofs.Lists.{each_more, length_more}
+use Rattle.closure.specs.Arena.{pattern_at}
+use Rattle.closure.proofs.Lists.{each_more, length_more}
 use Rattle.closure.specs.Scan.{AreEntries, EntryCells, EntryCovers, EntriesCover, IsEntryOf}
 
 module _ (level : Level) (s : State) where

@@ -12,7 +12,7 @@ use Rattle.closure.specs.declared.fault.CheckFault.{CheckFault, TheVariants.Line
 use Rattle.certificates.specs.Pattern.{Pattern, pattern_of, patterns_of, IsLawful}
 use Rattle.certificates.specs.Closed.{Closed}
 use Rattle.closure.specs.FirstFault.{IsUnlawful, IsFirstFaultyLine, IsFirstPatternFault}
-use Rattle.patterns.proofs.Lists.{mapped, middle}
+use Rattle.closure.proofs.Lists.{mapped, middle}
 
 -- A line at fault, with fine lines before it, is the first line at fault.
 pub first_line : (IsFine IsFaulty : Pattern → Type 0) (lines : List PatternLine) (i : ℕ) (p : Pattern) (d : PatternLine) → i < length lines

@@ -17,7 +17,7 @@ use Rattle.closure.specs.{declared.fault.ZoneLineWhy.ZoneLineWhy, declared.fault
 use Rattle.closure.specs.declared.fault.ZoneLineWhy.TheVariants as zone_why
 use Rattle.closure.specs.declared.fault.ZoneFault.TheVariants as zone_fault
 use Rattle.certificates.specs.Pattern.{Pattern, pattern_of, patterns_of}
-use Rattle.patterns.proofs.Lists.{middle}
+use Rattle.closure.proofs.Lists.{middle}
 use Rattle.certificates.specs.Pattern.{IsOnBoard, IsOffWalls, HasFairSeeds, IsLawful, AreLawful, CoversPushesOf}
 use Rattle.closure.specs.FirstFault.{IsUnlawful, IsFirstFaultyLine, HasFirstUncovered, IsFirstPatternFault, IsUnlawfulZone, IsFirstLeak, IsFirstZoneFault}
 use Rattle.closure.proofs.FirstLines.{unlawful_not, line_listed}

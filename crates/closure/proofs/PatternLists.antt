@@ -7,7 +7,7 @@ use Rattle.board.specs.Game.{Level}
 use Rattle.answers.specs.Body.{PatternLine}
 use Rattle.certificates.specs.Pattern.{pattern_of, patterns_of, AreLawful, IsLawful}
 use Rattle.closure.specs.FirstFault.{IsFirstPatternFault, IsUnlawful}
-use Rattle.patterns.proofs.Lists.{mapped}
+use Rattle.closure.proofs.Lists.{mapped}
 use Rattle.closure.specs.declared.fault.{LineWhy.LineWhy, CheckFault.TheVariants.Line}
 
 -- What a list says of the lines that were added to it (`IsListOf`): it has them, and they are lawful, or the first fault is theirs.

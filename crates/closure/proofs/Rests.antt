@@ -3,7 +3,7 @@ use Rattle.std.proofs.Common.{◌≡◌, true, ℕ, sym, arith}
 use Rattle.std.{specs.Prelude.◌==◌, specs.Prelude.Some, proofs.lemmas.Bool.eqb-true}
 use Rattle.cellset.proofs.Truth.{either}
 use Rattle.certificates.specs.Pattern.{CoversPushesOf}
-use Rattle.patterns.specs.{Groups.list_of, Groups.position_at, declared.tables.Tables.Tables}
+use Rattle.closure.specs.{Groups.list_of, Groups.position_at, declared.tables.Tables.Tables}
 use Rattle.closure.specs.{Checking.IsChecker, declared.checking.Checker.Checker}
 
 pub none_rest : {S : Type 0} (tables : Tables S) (checker : Checker) → IsChecker tables checker → (g : ℕ) → checker.settled ≡ Some g

@@ -11,7 +11,7 @@ use Rattle.board.specs.{Game.Level, Game.State, Game.IsFloor, Game.moved, Game.s
 use Rattle.certificates.proofs.Counts.{common_more, len-within}
 use Rattle.certificates.proofs.Sets.{has_intersection, in_intersection, put_back, removed_lacks}
 use Rattle.certificates.specs.Zone.{count_in, IsClosedZone, IsRefuting}
-use Rattle.patterns.proofs.Moves.{AreOnFloor, moved_on_floor}
+use Rattle.closure.proofs.Moves.{AreOnFloor, moved_on_floor}
 
 -- a box that moves within the zone doesn't change the number of boxes in it
 moved_inside : (zone boxes : Cells) (from to : Cell) → Has zone from → Has zone to → Has boxes from → Lacks boxes to →

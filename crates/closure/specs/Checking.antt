@@ -1,7 +1,7 @@
 -- What the check of a list line by line keeps.
 use Rattle.std.specs.Prelude.{◌≡◌, ℕ, Some}
 use Rattle.certificates.specs.CellLists.{cells_in}
-use Rattle.patterns.specs.{Groups.boxes_of, Lookups.AreLookups, Lookups.IsRest, Piece.IsFreeOf, declared.tables.Tables.Tables}
+use Rattle.closure.specs.{Groups.boxes_of, Lookups.AreLookups, Lookups.IsRest, Component.IsFreeOf, declared.tables.Tables.Tables}
 use Rattle.closure.specs.declared.checking.Checker.{Checker}
 
 -- the lookups are for the tables, and have what is left of the pushes of the group that was settled last

@@ -2,7 +2,7 @@
 use Rattle.std.specs.Prelude.{◌≡◌, List, MatchOption}
 use Rattle.answers.specs.Body.{PatternLine}
 use Rattle.certificates.specs.Pattern.{patterns_of, AreLawful}
-use Rattle.patterns.specs.Arena.{lines_in}
+use Rattle.closure.specs.Arena.{lines_in}
 use Rattle.closure.specs.{FirstFault.IsFirstPatternFault, declared.fault.CheckFault.TheVariants.Line}
 use Rattle.closure.specs.declared.pattern_list.PatternList.{PatternList}
 

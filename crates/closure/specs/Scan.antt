@@ -6,7 +6,7 @@ use Rattle.cellset.specs.{Shape.Extent, Coding.coded_cell, Coding.coded_cells, C
 use Rattle.board.specs.Game.{Level, State}
 use Rattle.certificates.specs.CellLists.{cells_in}
 use Rattle.certificates.specs.Pattern.{Pattern, InPatternRegion}
-use Rattle.patterns.specs.Arena.{pattern_at}
+use Rattle.closure.specs.Arena.{pattern_at}
 
 -- an entry with its grid
 pub record EntryCells : Type 0 where

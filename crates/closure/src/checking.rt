@@ -2,17 +2,22 @@
 ghost use Rattle.std.specs.Prelude.{◌≡◌, ◌≢◌, ◌<◌, ◌↔◌, ℕ, Bool, IsTrue, IfErr, OnOk, Some, length, slice_index_or};
 ghost use Rattle.board.specs.{Board.IsWellFormed, Game.start};
 ghost use Rattle.certificates.specs.Pattern.{IsCovered, AreLawful};
-ghost use Rattle.patterns.specs.{GroupPushes.AreNoted, Tables.AreTables, Trap.AreOff};
+ghost use Rattle.closure.specs.{GroupPushes.AreNoted, Tables.AreTables, Trap.AreOff};
 ghost use Rattle.certificates.specs.Closed.{Closed};
 ghost use Rattle.closure.specs.Checking.{IsChecker};
-ghost use Rattle.patterns.specs.{Arena.lines_in, Arena.list_in, Groups.boxes_of, Groups.list_of};
+ghost use Rattle.closure.specs.{Arena.lines_in, Arena.list_in, Groups.boxes_of, Groups.list_of};
 ghost use Rattle.closure.specs.FirstFault.{IsFirstPatternFault};
 
+use crate::arena::Arena;
 use crate::fault::CheckFault;
+use crate::lookups::Lookups;
+use crate::pushes::note_hinted;
+use crate::tables::Tables;
+use crate::task::Task;
+use crate::trap::find_trap;
 use board::Board;
 use cellset::CellSet;
 use certificates::are_in;
-use patterns::{Arena, Lookups, Tables, Task, find_trap, note_hinted};
 use reach::Rows;
 use std::alloc::{AllocError, Global};
 
@@ -102,7 +107,7 @@ struct Checker {
 }
 
 impl Checker {
-    // Notes the groups whose pushes the list covers, by rising number of boxes. A group that is noted settles all pushes from a piece of each
+    // Notes the groups whose pushes the list covers, by rising number of boxes. A group that is noted settles all pushes from a component of each
     // group with its boxes, and such groups may come by the thousand before it in the list.
     fn note_settled<S: CellSet>(
         &mut self,

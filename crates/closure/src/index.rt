@@ -4,11 +4,13 @@ ghost use Rattle.board.specs.Game.{State};
 ghost use Rattle.answers.specs.Grammar.{said_pattern};
 ghost use Rattle.certificates.specs.Pattern.{patterns_of, IsCovered, AreLawful};
 
+use crate::arena::Arena;
 use crate::coverage::Coverage;
+use crate::lookups::Lookups;
+use crate::tables::Tables;
 use answers::Pattern;
 use board::Board;
 use cellset::{Cell, CellSet};
-use patterns::{Arena, Lookups, Tables};
 use reach::Rows;
 use std::alloc::{AllocError, Global};
 use std::marker::Model;
@@ -24,7 +26,7 @@ impl<'a, S: CellSet> Model for Index<'a, S> {
     ghost use Rattle.closure.specs.Index.{Listed, coded_listed};
     ghost use Rattle.std.specs.Prelude.{◌≡◌};
     ghost use Rattle.std.specs.FinSet as finset;
-    ghost use Rattle.patterns.specs.{Arena.lines_in, Lookups.AreLookups, Tables.AreTables};
+    ghost use Rattle.closure.specs.{Arena.lines_in, Lookups.AreLookups, Tables.AreTables};
 
     ghost Value = { Listed };
 

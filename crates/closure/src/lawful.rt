@@ -3,14 +3,14 @@ ghost use Rattle.std.specs.Prelude.{IfOk, MatchBool, MatchOption};
 ghost use Rattle.cellset.specs.{Cell.IsOn, CellSet.Has, CellSet.Lacks, declared.cell.Cell.Cell as GridCell};
 ghost use Rattle.certificates.specs.CellLists.{cells_in};
 ghost use Rattle.certificates.specs.Pattern.{IsLawful};
-ghost use Rattle.patterns.specs.Arena.{IsOnGrid, IsStored, stored_pattern};
+ghost use Rattle.closure.specs.Arena.{IsOnGrid, IsStored, stored_pattern};
 ghost use Rattle.closure.specs.FirstFault.{IsUnlawful};
 
+use crate::arena::{Arena, StoredLine, part};
 use crate::fault::LineWhy;
 use board::Board;
 use cellset::{Cell, CellSet, Shape};
 use certificates::{are_in, are_outside, load, number_of};
-use patterns::{Arena, StoredLine, part};
 use std::alloc::{AllocError, Global};
 
 // Returns whether no seed is one of the boxes.

@@ -3,17 +3,17 @@ ghost use Rattle.std.specs.Prelude.{◌≡◌, ◌≢◌, ◌⊎◌, ◌++◌, �
 ghost use Rattle.board.specs.{Board.IsWellFormed, Game.Solvable};
 ghost use Rattle.answers.specs.Grammar.{said_pattern};
 ghost use Rattle.certificates.specs.Pattern.{pattern_of, patterns_of, AreLawful, IsLawful};
-ghost use Rattle.patterns.specs.Arena.{lines_in, list_in};
+ghost use Rattle.closure.specs.Arena.{lines_in, list_in};
 ghost use Rattle.certificates.specs.Closed.{Closed};
 ghost use Rattle.closure.specs.{FirstFault.IsFirstPatternFault, FirstFault.IsUnlawful, declared.fault.CheckFault.CheckFault as Fault};
 
+use crate::arena::Arena;
 use crate::checking::check_closed;
 use crate::fault::{CheckFault, LineWhy};
 use crate::lawful::why_unlawful;
 use answers::Pattern;
 use board::Board;
 use cellset::CellSet;
-use patterns::Arena;
 use std::alloc::{AllocError, Global};
 
 /// An accepted list: the number of its patterns.

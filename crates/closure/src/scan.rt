@@ -4,15 +4,16 @@ ghost use Rattle.cellset.specs.Cell.{IsOn};
 ghost use Rattle.board.specs.Game.{State};
 ghost use Rattle.answers.specs.Grammar.{said_pattern};
 ghost use Rattle.certificates.specs.Pattern.{patterns_of, IsCovered, IsLawful, AreLawful};
-ghost use Rattle.patterns.specs.Arena.{list_in, pattern_in};
+ghost use Rattle.closure.specs.Arena.{list_in, pattern_in};
 ghost use Rattle.closure.specs.Scan.{AreEntries, EntriesCover, IsEntryOf};
 
+use crate::arena::{Arena, CellPattern};
 use crate::coverage::Coverage;
+use crate::group_regions::Flood;
 use answers::Pattern;
 use board::Board;
 use cellset::{Cell, CellSet, Shape};
 use certificates::{are_in, is_among};
-use patterns::{Arena, CellPattern, Flood};
 use std::alloc::{AllocError, Global};
 use std::marker::Model;
 

@@ -51,7 +51,7 @@ pub trait Sink {
 /// A reader or writer that counts its failures.
 ///
 /// Errors of any kind are failures, also an interrupted call or running out of memory, and so is a write that takes no byte of
-/// a text that isn't empty. No call is tried again.
+/// a text that isn't empty. It tries no call again; its writer may, as a `BufWriter` does with an interrupted write.
 #[derive(Debug, Drop)]
 pub struct Device<T> {
     inner: T,

@@ -22,7 +22,7 @@ module _ (version total before : ℕ) (bytes : List ℕ) (r : RecordText) (after
       let below = first_shorter is.from _ is.below is.level_is.first in
       let kind_from = ap length is.kind_is.cut.parts ∙ length-append is.kind_is.skipped is.kind_from in
       let inside = first_shorter is.kind_from _ is.inside is.kind_is.first in
-      let last = ap length is.cut.parts ∙ length-append r.lines.text.now is.last in
+      let last = ap length is.cut.parts ∙ length-append is.text is.last in
       let ends = first_shorter is.last _ after is.ends in
       let level = ap (λ p. p.level) is.place in
       let body = ap (λ p. p.body) is.place in
@@ -44,19 +44,19 @@ module _ (version total before : ℕ) (bytes : List ℕ) (r : RecordText) (after
         below_lines = is.below_lines;
         kind_from = is.kind_from;
         inside = is.inside;
-        inside_lines = r.lines.before;
-        body = r.lines.text.now;
+        inside_lines = is.inside_lines;
+        body = is.text;
         last = is.last;
         level_is = rw level is.level_is;
         kind_is = is.kind_is;
         cut = is.cut;
-        goes_on = is.goes_on;
-        says = rw is.version_is at says;
+        goes_on = rw is.body at is.goes_on;
+        says = rw is.body at (rw is.version_is at says);
         ends = is.ends;
         number = is.number;
         level = sym level;
         kind_number = refl;
-        line = refl;
+        line = ap (λ p. p.line) is.place;
         at = let fits_at = fits.level in omega arith;
         body_at = let fits_body = fits.body in omega arith;
         body_end = let fits_end = fits.end in omega arith;

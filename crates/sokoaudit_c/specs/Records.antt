@@ -66,7 +66,7 @@ abbrev pub span_of : ℕ → RecordText → RecordSpan
 span_of total r = record {
   level = r.level;
   kind = number_of_kind r.kind;
-  line = r.lines.before + 1;
+  line = r.place.line;
   at = total - r.place.level;
   body = total - r.place.body;
   body_end = total - r.place.end;

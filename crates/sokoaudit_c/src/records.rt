@@ -91,7 +91,7 @@ fn span_of(total: usize, text: &RecordText<'_>) -> RecordSpan
     RecordSpan {
         level: text.level(),
         kind: kind_number(text.kind()),
-        line: text.body_line(),
+        line: place.line,
         at: total - place.level,
         body: total - place.body,
         body_end: total - place.end,

@@ -1,6 +1,6 @@
 use Rattle.std.proofs.Common.{length}
 use Rattle.answers.specs.Grammar.{NoneEnds}
-use Rattle.answers.proofs.KeptLines.{HasPassed}
+use Rattle.answers.specs.Held.{HasPassed}
 use Rattle.answers.proofs.line.cut_at_end.Given as goal
 
 abbrev pub invariant-loop-found : goal.invariant-loop-found

@@ -2,7 +2,8 @@
 -- first line of the rest that is kept is the first one of the whole. Each turn takes a line off, so the loop ends, and if only comments are
 -- left, no line is kept.
 use Rattle.std.proofs.Common.{refl, arith, sym, ◌∙◌}
-use Rattle.answers.proofs.KeptLines.{AreNone, all_comments, comments_passed, found_shorter, kept_here, kept_left, line_kept, other_passed, passed_count, passed_no_longer, passed_none, found_count}
+use Rattle.answers.specs.Held.{AreNone}
+use Rattle.answers.proofs.KeptLines.{all_comments, comments_passed, found_shorter, kept_here, kept_left, line_kept, other_passed, passed_count, passed_no_longer, passed_none, found_count}
 use Rattle.answers.proofs.line.next_kept.Goals as goal
 
 pub loop-found-init : goal.loop-found-init

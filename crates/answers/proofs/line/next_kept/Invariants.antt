@@ -1,5 +1,5 @@
 use Rattle.std.proofs.Common.{length}
-use Rattle.answers.proofs.KeptLines.{AreNone, HasPassed}
+use Rattle.answers.specs.Held.{AreNone, HasPassed}
 use Rattle.answers.proofs.line.next_kept.Given as goal
 
 abbrev pub invariant-loop-found : goal.invariant-loop-found

@@ -2,9 +2,9 @@ use Rattle.std.proofs.Common.{List, inl}
 use Rattle.cellset.specs.{CellSet.CellsOn, CellSet.Has, declared.cell.Cell.Cell}
 use Rattle.board.specs.{Board.IsWellFormed, Game.Level}
 use Rattle.certificates.specs.Pattern.{AreLawful, Pattern}
-use Rattle.patterns.specs.{Arena.list_in, Trap.AreTrapped, Trap.IsTrapOf}
+use Rattle.closure.specs.{Arena.list_in, Trap.AreTrapped, Trap.IsTrapOf}
 use Rattle.certificates.specs.Closed.{Closed}
-use Rattle.patterns.proofs.{Grouped.region_in_room, Traps.start_trapped, Traps.trapped_push}
+use Rattle.closure.proofs.{Grouped.region_in_room, Traps.start_trapped, Traps.trapped_push}
 use Rattle.closure.proofs.checking.check_closed.Goals as goal
 
 -- A list whose patterns are all trapped is closed if a box of the start is on the trap.

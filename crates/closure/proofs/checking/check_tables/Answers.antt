@@ -1,5 +1,5 @@
 use Rattle.std.proofs.{Common.refl, Common.◌∙◌, Common.ap, Common.length, lemmas.Bool.false≢true, lemmas.List.get_or-replicate, lemmas.List.length-replicate, lemmas.Option.none-some}
-use Rattle.patterns.proofs.GroupPushes.{covers_all}
+use Rattle.closure.proofs.GroupPushes.{covers_all}
 use Rattle.closure.proofs.checking.check_tables.Goals as goal
 
 pub note_hinted-requires-clause-covered : goal.note_hinted-requires-clause-covered

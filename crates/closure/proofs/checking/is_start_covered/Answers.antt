@@ -3,8 +3,8 @@ use Rattle.std.proofs.{Common.◌<◌, Common.length, Common.refl, Common.arith,
 use Rattle.board.specs.Game.{start}
 use Rattle.cellset.proofs.Members.{lacks_where, not_both}
 use Rattle.certificates.specs.CellLists.{cells_in}
-use Rattle.patterns.specs.Groups.{boxes_of, list_of}
-use Rattle.patterns.proofs.{Grouped.boxes_on, Grouped.covered_of_group, InBuckets.no_group_covers, Traps.start_trapped}
+use Rattle.closure.specs.Groups.{boxes_of, list_of}
+use Rattle.closure.proofs.{Grouped.boxes_on, Grouped.covered_of_group, InBuckets.no_group_covers, Traps.start_trapped}
 use Rattle.closure.proofs.checking.is_start_covered.Goals.{After-boxes-boxes}
 use Rattle.closure.proofs.checking.is_start_covered.Goals as goal
 

@@ -1,6 +1,6 @@
 use Rattle.std.proofs.Common.{ℕ, ◌<◌}
 use Rattle.board.specs.Game.{start}
-use Rattle.patterns.specs.Tables.{GroupCovers}
+use Rattle.closure.specs.Tables.{GroupCovers}
 use Rattle.closure.proofs.checking.is_start_covered.Given as goal
 
 abbrev pub invariant-loop-group : goal.invariant-loop-group

@@ -4,7 +4,7 @@ use Rattle.std.specs.Prelude.{MatchOption, Option, Result}
 use Rattle.std.proofs.lemmas.List.{get_or_push, length-append, length-map, map-append}
 use Rattle.answers.specs.{Body.PatternLine, Grammar.said_pattern}
 use Rattle.certificates.specs.Pattern.{pattern_of, patterns_of}
-use Rattle.patterns.specs.Arena.{IsOnGrid, pattern_at, stored_pattern}
+use Rattle.closure.specs.Arena.{IsOnGrid, pattern_at, stored_pattern}
 use Rattle.closure.proofs.pattern_list.add_lawful.Goals as goal
 use Rattle.closure.proofs.pattern_list.add_lawful.Goals.{After-line}
 

@@ -5,9 +5,9 @@ use Rattle.std.{proofs.Common.◌≡◌, proofs.Common.sym, proofs.Common.◌∙
 use Rattle.cellset.proofs.Truth.{either}
 use Rattle.certificates.specs.CellLists.{cells_in}
 use Rattle.certificates.proofs.CellLists.{in_list}
-use Rattle.patterns.specs.{Arena.pattern_in, Piece.IsFreeOf}
+use Rattle.closure.specs.{Arena.pattern_in, Component.IsFreeOf}
 use Rattle.certificates.proofs.RegionCells.{region_outside}
-use Rattle.patterns.proofs.Pieces.{room_is_one}
+use Rattle.closure.proofs.Components.{room_is_one}
 use Rattle.closure.proofs.scan.enter.Goals as goal
 use Rattle.closure.proofs.scan.enter.Goals.{then-find_line, else-find_line+in_ok-to_set}
 

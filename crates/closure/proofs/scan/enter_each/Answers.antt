@@ -1,5 +1,5 @@
 use Rattle.std.proofs.Common.{arith, ◌≡◌, length}
-use Rattle.patterns.{specs.Arena.list_in, proofs.Arenas.listed_at}
+use Rattle.closure.{specs.Arena.list_in, proofs.Arenas.listed_at}
 use Rattle.closure.proofs.Entries.{entries_more}
 use Rattle.closure.proofs.scan.enter_each.Goals as goal
 

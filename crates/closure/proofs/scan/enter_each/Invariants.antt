@@ -1,5 +1,5 @@
 use Rattle.std.proofs.Common.{◌≡◌, ◌≤◌, length, vec_capacity}
-use Rattle.patterns.specs.Arena.{list_in}
+use Rattle.closure.specs.Arena.{list_in}
 use Rattle.closure.specs.Scan.{AreEntries}
 use Rattle.closure.proofs.scan.enter_each.Given as goal
 

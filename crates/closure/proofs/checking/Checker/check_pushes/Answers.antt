@@ -7,10 +7,10 @@ use Rattle.std.{specs.Prelude.slice_index, proofs.lemmas.List.get_or-map, proofs
 use Rattle.std.proofs.lemmas.List.{get_or_default}
 use Rattle.answers.specs.Body.{PatternLine}
 use Rattle.certificates.specs.Pattern.{CoversPushesOf, Pattern}
-use Rattle.patterns.specs.{Arena.line_at, Arena.line_in, Arena.lines_in, Arena.pattern_at, Groups.list_of, Groups.position_at}
+use Rattle.closure.specs.{Arena.line_at, Arena.line_in, Arena.lines_in, Arena.pattern_at, Groups.list_of, Groups.position_at}
 use Rattle.closure.specs.FirstFault.{HasFirstUncovered}
-use Rattle.patterns.proofs.{Arenas.list_long, GroupPushes.pattern_of_group, GroupPushes.trapped_pushes}
-use Rattle.patterns.proofs.Numbered.{each_pattern, one_more}
+use Rattle.closure.proofs.{Arenas.list_long, GroupPushes.pattern_of_group, GroupPushes.trapped_pushes}
+use Rattle.closure.proofs.Numbered.{each_pattern, one_more}
 use Rattle.closure.proofs.{FirstLines.first_line}
 use Rattle.closure.proofs.checking.Checker.check_pushes.Goals.{After-index}
 use Rattle.closure.proofs.checking.Checker.check_pushes.Goals as goal

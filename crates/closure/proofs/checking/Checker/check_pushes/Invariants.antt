@@ -1,6 +1,6 @@
 use Rattle.std.proofs.Common.{ℕ, ◌<◌}
 use Rattle.certificates.specs.Pattern.{CoversPushesOf}
-use Rattle.patterns.specs.{Arena.pattern_at, Groups.list_of}
+use Rattle.closure.specs.{Arena.pattern_at, Groups.list_of}
 use Rattle.closure.specs.Checking.{IsChecker}
 use Rattle.closure.proofs.checking.Checker.check_pushes.Given as goal
 

@@ -1,5 +1,5 @@
 use Rattle.std.proofs.Common.{sym, ◌∙◌}
-use Rattle.patterns.proofs.GroupPushes.{noted_more}
+use Rattle.closure.proofs.GroupPushes.{noted_more}
 use Rattle.closure.proofs.Rests.{none_rest}
 use Rattle.closure.proofs.checking.Checker.note.Goals as goal
 

@@ -1,5 +1,5 @@
 use Rattle.std.proofs.Common.{◌≤◌, length}
-use Rattle.patterns.specs.GroupPushes.{AreNoted}
+use Rattle.closure.specs.GroupPushes.{AreNoted}
 use Rattle.closure.specs.Checking.{IsChecker}
 use Rattle.closure.proofs.checking.Checker.note_settled.Given as goal
 

@@ -1,5 +1,5 @@
 use Rattle.std.proofs.Common.{◌∙◌}
-use Rattle.patterns.proofs.Traps.{no_trap}
+use Rattle.closure.proofs.Traps.{no_trap}
 use Rattle.closure.proofs.index.Index.build.Goals as goal
 
 pub with_lines-requires : goal.with_lines-requires

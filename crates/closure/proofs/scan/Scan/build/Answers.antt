@@ -1,5 +1,5 @@
 use Rattle.std.proofs.Common.{arith}
-use Rattle.patterns.{specs.Arena.list_in, proofs.Arenas.list_long}
+use Rattle.closure.{specs.Arena.list_in, proofs.Arenas.list_long}
 use Rattle.closure.proofs.Entries.{entries_cover}
 use Rattle.closure.proofs.scan.Scan.build.Goals as goal
 

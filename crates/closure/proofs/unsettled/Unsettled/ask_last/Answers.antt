@@ -1,0 +1,11 @@
+use Rattle.closure.proofs.Asked.{asked_on, component_less}
+use Rattle.closure.proofs.unsettled.Unsettled.ask_last.Goals as goal
+
+pub settle_by-requires-clause-here : goal.settle_by-requires-clause-here
+settle_by-requires-clause-here g c = λ push has. c.requires.here push (c.ask.ensures.asked.here.only push has)
+
+pub settle_by-requires-clause-component : goal.settle_by-requires-clause-component
+settle_by-requires-clause-component g c = component_less c.args.task.now _ _ _ c.requires.component c.ask.ensures.asked.here.only
+
+pub returns : goal.returns
+returns g c = asked_on _ _ _ _ c.ask.ensures.asked c.settle_by.ensures.asked

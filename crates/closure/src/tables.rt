@@ -1,0 +1,112 @@
+//! The tables of an index: all that is kept of a list of patterns.
+ghost use Rattle.std.specs.Prelude.{◌≡◌, ◌<◌, ◌↔◌, IfOk, IsTrue, MatchBool, length};
+ghost use Rattle.cellset.specs.{CellSet.Has, CellSet.Lacks, declared.cell.Cell.Cell as GridCell};
+ghost use Rattle.certificates.specs.CellLists.{cell_no, cells_in};
+ghost use Rattle.certificates.specs.Pattern.{InPatternRegion, AreLawful};
+ghost use Rattle.closure.specs.{Sides.IsAround, Arena.list_in};
+ghost use Rattle.closure.specs.{Trap.AreOff, Trap.IsTrapOf, Groups.boxes_of, Groups.position_at};
+ghost use Rattle.closure.specs.Tables.{AreTables};
+
+use crate::arena::Arena;
+use crate::group_regions::{Regions, find_regions};
+use crate::groups::{Groups, group};
+use crate::sides::Sides;
+use crate::trap::is_trapped;
+use board::Board;
+use cellset::{Cell, CellSet};
+use reach::Rows;
+use std::alloc::{AllocError, Global};
+
+// A list of patterns on a board: its trap, its groups, and the regions of the groups without a box on the trap.
+#[derive(Debug, Drop)]
+pub(crate) struct Tables<'a, S: CellSet> {
+    pub board: &'a Board<S>,
+    pub trap: Rows,
+    // Whether the trap has no cells, which is so for most lists of more than one box a line. Long ones save 3 % of their instructions by it.
+    pub trapless: bool,
+    pub groups: Groups,
+    pub regions: Regions,
+}
+
+impl<'a, S: CellSet> Tables<'a, S> {
+    // Builds the tables of a list of lawful patterns.
+    pub(crate) fn build(
+        alloc: Global,
+        board: &'a Board<S>,
+        arena: Arena,
+        trap: Rows,
+    ) -> Result<Tables<'a, S>, AllocError>
+        requires lawful { AreLawful board.now (list_in arena) }
+        requires trap { IsTrapOf board.now (list_in arena) trap }
+        ensures same { IfOk result (λ k. k.groups.arena ≡ arena) }
+        ensures level { IfOk result (λ k. k.board.now ≡ board.now) }
+        ensures trap { IfOk result (λ k. k.trap ≡ trap) }
+        ensures tables { IfOk result AreTables }
+    {
+        // For the proof: the board is well formed.
+        let _shape = board.shape();
+        let groups = group(alloc, arena)?;
+        let Ok(regions) = find_regions(alloc, board, &groups, &trap) else {
+            drop(groups);
+            drop(trap);
+            return Err(AllocError);
+        };
+        Ok(Tables {
+            board,
+            trapless: trap.is_empty(),
+            trap,
+            groups,
+            regions,
+        })
+    }
+
+    // Returns whether a cell is on the trap.
+    #[inline(always)]
+    pub(crate) fn is_on_trap(&self, cell: Cell) -> bool
+        requires { AreTables self.now }
+        ensures { IsTrue result ↔ Has self.now.trap.members cell }
+    {
+        if self.trapless {
+            return false;
+        }
+        self.trap.has(cell)
+    }
+
+    // Returns whether one of the boxes is on the trap.
+    #[tactic(auto, using(crate::proofs::Traps::none_off))]
+    pub(crate) fn is_trapped(&self, boxes: &[Cell]) -> bool
+        requires { AreTables self.now }
+        ensures { MatchBool result
+            ((c : GridCell) × Has (cells_in boxes.now) c × Has self.now.trap.members c)
+            (AreOff self.now.trap.members boxes.now) }
+    {
+        if self.trapless {
+            return false;
+        }
+        is_trapped(boxes, &self.trap)
+    }
+
+    // Returns on which sides of a box of a group the region of the group lies.
+    pub(crate) fn sides_of(&self, group: usize, number: usize) -> Sides
+        requires tables { AreTables self.now }
+        requires group { group < length self.now.groups.spans.items }
+        requires number { number < length (boxes_of self.now.groups group) }
+        requires off { AreOff self.now.trap.members (boxes_of self.now.groups group) }
+        ensures { IsAround (InPatternRegion self.now.board.now (position_at self.now.board.now self.now.groups group))
+            (cell_no (boxes_of self.now.groups group) number) result }
+    {
+        self.regions.sides[self.groups.spans[group].from as usize + number]
+    }
+
+    // Returns whether a cell of the room that is no box of a group is in its region.
+    pub(crate) fn is_inside(&self, group: usize, cell: Cell) -> bool
+        requires tables { AreTables self.now }
+        requires group { group < length self.now.groups.spans.items }
+        requires off { AreOff self.now.trap.members (boxes_of self.now.groups group) }
+        requires room { Has self.now.board.now.room cell }
+        requires outside { Lacks (cells_in (boxes_of self.now.groups group)) cell }
+        ensures { IsTrue result ↔ InPatternRegion self.now.board.now (position_at self.now.board.now self.now.groups group) cell }
+    {
+        self.regions.kept.has(self.regions.of[group], cell)
+    }
+}

@@ -1,0 +1,265 @@
+//! The pushes out of a group that aren't settled, and which of them another group settles.
+//!
+//! A group settles a push if at most one of its boxes isn't there: none, and its region has the player, and it lacks the pushed box; or just
+//! the one on the cell ahead, and its region lies on the side of it from which the box comes. If the group covers the player and is noted as
+//! covered itself, it settles all pushes from the component.
+ghost use Rattle.std.specs.Prelude.{◌≡◌, ◌⊎◌, ◌↔◌, ◌<◌, ◌≤◌, IsTrue, MatchBool, OnOk, Option, length};
+ghost use Rattle.std.specs.List.{Contains};
+ghost use Rattle.reach.specs.declared.pushes.Push.{Push as OutPush};
+ghost use Rattle.certificates.specs.CellLists.{cell_no, cells_in};
+ghost use Rattle.closure.specs.{Place.IsSubset, Component.AreInComponent, Component.InComponent, Component.IsFreeOf};
+ghost use Rattle.closure.specs.Settling.{AreOpen, CoversNone, HasAsked, IsMet, IsPlaceOf, IsPushOut, IsParted, IsSettled, IsSettling, IsTask, LeadsTo, Misses};
+
+use crate::group_regions::Flood;
+use crate::place::Place;
+use crate::search::Search;
+use crate::sides::Sides;
+use crate::task::Task;
+use cellset::{Cell, CellSet, Dir};
+use certificates::{is_same, number_of};
+use reach::{Push, Rows};
+use std::alloc::AllocError;
+
+// The pushes that aren't settled, and the search for groups that settle them.
+#[derive(Debug, Drop)]
+pub(crate) struct Unsettled {
+    // Those by players in components that weren't entered yet.
+    pub away: Vec<Push>,
+    // Those by players in the component.
+    pub here: Vec<Push>,
+    pub search: Search,
+    // The groups found so far whose boxes are all there.
+    pub inside: Vec<usize>,
+    // The last group noted as covered that settled a component. It is asked first.
+    pub last: usize,
+}
+
+// The one box of a group that isn't there, and on which sides of it the region of the group lies.
+#[derive(Clone, Copy, Debug, PartialEq, Eq)]
+pub(crate) struct Ahead {
+    pub to: Cell,
+    pub sides: Sides,
+}
+
+// Which boxes of a group aren't there.
+#[derive(Clone, Copy, Debug, PartialEq, Eq)]
+pub(crate) enum Missing {
+    Nothing,
+    // The box with this number.
+    One(usize),
+    More,
+}
+
+impl Unsettled {
+    // Opens the pushes out of a group, but those to the trap, and begins the search. `free` is the room less the boxes.
+    pub(crate) fn begin<S: CellSet>(
+        &mut self,
+        task: &Task<S>,
+        free: &Rows,
+    ) -> Result<(), AllocError>
+        requires task { IsTask task.now }
+        requires free { IsFreeOf task.now.tables.now.board.now (cells_in task.now.boxes.now) free.now }
+        ensures settling { OnOk result ((buckets : _) → IsSettling task.now buckets self.new) }
+        ensures all { OnOk result ((push : OutPush) → IsPushOut task.now push → Contains self.new.away.items push ⊎ IsSettled task.now push) }
+    {
+        self.away.clear();
+        for number in 0..task.boxes.len() {
+            self.open_toward(task, free, number, Dir::L)?;
+            self.open_toward(task, free, number, Dir::U)?;
+            self.open_toward(task, free, number, Dir::R)?;
+            self.open_toward(task, free, number, Dir::D)?;
+        }
+        self.here.clear();
+        self.inside.clear();
+        self.search.begin(task, &self.away)?;
+        Ok(())
+    }
+
+    // Opens the push of a box in a direction, if it goes out of the group and not to the trap.
+    fn open_toward<S: CellSet>(
+        &mut self,
+        task: &Task<S>,
+        free: &Rows,
+        number: usize,
+        dir: Dir,
+    ) -> Result<(), AllocError>
+        requires task { IsTask task.now }
+        requires free { IsFreeOf task.now.tables.now.board.now (cells_in task.now.boxes.now) free.now }
+        requires number { number < length task.now.boxes.now }
+        requires away { AreOpen task.now self.old.away.items }
+        ensures away { OnOk result (AreOpen task.now self.new.away.items) }
+        ensures kept { (push : OutPush) → Contains self.old.away.items push → Contains self.new.away.items push }
+        ensures all { OnOk result ((push : OutPush) → IsPushOut task.now push → push.from ≡ cell_no task.now.boxes.now number → push.dir ≡ dir
+            → Contains self.new.away.items push ⊎ IsSettled task.now push) }
+    {
+        let shape = task.tables.board.shape();
+        if !task.tables.sides_of(task.group, number).has(dir.opposite()) {
+            return Ok(());
+        }
+        let from = task.boxes[number];
+        let Some(player) = shape.step(from, dir.opposite()) else {
+            return Ok(());
+        };
+        let Some(to) = shape.step(from, dir) else {
+            return Ok(());
+        };
+        if !free.has(to) {
+            return Ok(());
+        }
+        if task.tables.is_on_trap(to) {
+            return Ok(());
+        }
+        self.away.push(Push {
+            player,
+            dir,
+            from,
+            to,
+        })?;
+        Ok(())
+    }
+
+    // Makes the open pushes by players in a component those here.
+    #[tactic(auto, using(crate::proofs::Taken::taken_only, crate::proofs::Taken::taken_kept))]
+    pub(crate) fn enter(&mut self, flood: &Flood) -> Result<(), AllocError>
+        ensures { OnOk result (IsParted (InComponent flood.now) self.old self.new) }
+    {
+        self.here.clear();
+        let mut at = 0;
+        while at < self.away.len() {
+            let push = self.away[at];
+            if flood.in_component(push.player) {
+                self.here.push(push)?;
+                self.away.swap_remove(at);
+            } else {
+                at += 1;
+            }
+        }
+        Ok(())
+    }
+
+    // Returns whether the boxes of a group are all there. If just one isn't there, settles the pushes that lead there and that the group covers.
+    #[inline(always)]
+    pub(crate) fn ask<S: CellSet>(&mut self, task: &Task<S>, boxes: &Rows, group: usize) -> bool
+        requires task { IsTask task.now }
+        requires boxes { boxes.now.members ≡ cells_in task.now.boxes.now }
+        requires group { group < length task.now.tables.now.groups.spans.items }
+        requires away { AreOpen task.now self.old.away.items }
+        requires here { AreOpen task.now self.old.here.items }
+        ensures asked { HasAsked task.now self.old self.new }
+        ensures found { MatchBool result (IsSubset task.now.tables.now.groups (cells_in task.now.boxes.now) group)
+            (CoversNone task.now group self.new.away.items × CoversNone task.now group self.new.here.items) }
+    {
+        let kept = task.tables.groups.boxes(group);
+        match find_missing(kept, boxes) {
+            Missing::Nothing => true,
+            Missing::More => false,
+            Missing::One(number) => {
+                // The sides of a group with a box on the trap aren't known, and it covers none of these pushes.
+                if !task.tables.is_trapped(kept) {
+                    let ahead = Ahead {
+                        to: kept[number],
+                        sides: task.tables.sides_of(group, number),
+                    };
+                    // Without this, each look goes through all open pushes.
+                    if ahead.sides.has_any() {
+                        take_met(&mut self.here, kept, Some(ahead));
+                        take_met(&mut self.away, kept, Some(ahead));
+                    }
+                }
+                false
+            }
+        }
+    }
+
+    // Settles the pushes from the component that a group covers whose boxes are all there, or all of them if its own pushes are covered.
+    pub(crate) fn settle_by<S: CellSet>(&mut self, task: &Task<S>, place: &Place, group: usize)
+        requires place { IsPlaceOf task.now place.now }
+        requires group { IsSubset task.now.tables.now.groups (cells_in task.now.boxes.now) group }
+        requires here { AreOpen task.now self.old.here.items }
+        requires component { AreInComponent task.now.tables.now.board.now (cells_in task.now.boxes.now) place.now.player self.old.here.items }
+        ensures asked { HasAsked task.now self.old self.new }
+        ensures none { CoversNone task.now group self.new.here.items }
+    {
+        if self.here.is_empty() {
+            return;
+        }
+        if !task.tables.is_inside(group, place.player) {
+            return;
+        }
+        if task.covered[group] {
+            self.here.clear();
+            self.last = group;
+            return;
+        }
+        take_met(&mut self.here, task.tables.groups.boxes(group), None);
+    }
+}
+
+// Returns which of the boxes of a group aren't there.
+#[inline(always)]
+fn find_missing(kept: &[Cell], boxes: &Rows) -> Missing
+    ensures { Misses kept.now boxes.now.members result }
+{
+    let mut missing = None;
+    for number in 0..kept.len() {
+        if boxes.has(kept[number]) {
+            continue;
+        }
+        match missing {
+            None => missing = Some(number),
+            Some(known) => {
+                if !is_same(kept[known], kept[number]) {
+                    return Missing::More;
+                }
+            }
+        }
+    }
+    match missing {
+        None => Missing::Nothing,
+        Some(number) => Missing::One(number),
+    }
+}
+
+// Takes out the pushes of boxes that a group lacks, and of these only the ones that lead to the cell ahead if there is one.
+#[tactic(auto, using(crate::proofs::Taken::taken_only, crate::proofs::Taken::taken_kept, std::proofs::lemmas::List::get_or_default))]
+fn take_met(pushes: &mut Vec<Push>, kept: &[Cell], ahead: Option<Ahead>)
+    ensures kept { (push : OutPush) → Contains pushes.old.items push → Contains pushes.new.items push ⊎ IsMet kept.now ahead push }
+    ensures only { (push : OutPush) → Contains pushes.new.items push → Contains pushes.old.items push }
+    ensures fewer { length pushes.new.items ≤ length pushes.old.items }
+    ensures none { (push : OutPush) → Contains pushes.new.items push → IsMet kept.now ahead push → ⊥ }
+{
+    let mut at = 0;
+    while at < pushes.len() {
+        if is_met(pushes[at], kept, ahead) {
+            pushes.swap_remove(at);
+        } else {
+            at += 1;
+        }
+    }
+}
+
+// Returns whether a push moves a box that a group lacks, and leads to the cell ahead if there is one.
+#[tactic(auto, using(certificates::proofs::CellLists::in_list, cellset::proofs::Members::not_both))]
+#[inline(always)]
+fn is_met(push: Push, kept: &[Cell], ahead: Option<Ahead>) -> bool
+    ensures { IsTrue result ↔ IsMet kept.now ahead push }
+{
+    if !leads_to(push, ahead) {
+        return false;
+    }
+    match number_of(kept, push.from) {
+        Some(_) => false,
+        None => true,
+    }
+}
+
+// Returns whether a push leads to the cell ahead, if there is one, from a side on which the region lies.
+#[inline(always)]
+fn leads_to(push: Push, ahead: Option<Ahead>) -> bool
+    ensures { IsTrue result ↔ LeadsTo ahead push }
+{
+    match ahead {
+        None => true,
+        Some(ahead) => is_same(push.to, ahead.to) && ahead.sides.has(push.dir.opposite()),
+    }
+}

@@ -1,7 +1,0 @@
-use Rattle.std.{proofs.Common.◌≡◌, proofs.Common.take, specs.Prelude.map}
-use Rattle.answers.specs.Grammar.{said_pattern}
-use Rattle.patterns.specs.Arena.{lines_in}
-use Rattle.patterns.proofs.arena.Arena.with_lines.Given as goal
-
-abbrev pub invariant-loop-pattern : goal.invariant-loop-pattern
-invariant-loop-pattern l = lines_in l.arena ≡ map said_pattern (take l.pattern-index l.patterns)

@@ -1,5 +1,0 @@
-use Rattle.patterns.specs.GroupPushes.{AreNoted}
-use Rattle.patterns.proofs.pushes.note_hinted.Given as goal
-
-abbrev pub invariant-loop-group : goal.invariant-loop-group
-invariant-loop-group g l = record { covered : AreNoted l.tables.board.now l.tables.groups l.covered.items }

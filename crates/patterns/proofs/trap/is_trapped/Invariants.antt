@@ -1,6 +1,0 @@
-use Rattle.std.proofs.Common.{take}
-use Rattle.patterns.specs.Trap.{AreOff}
-use Rattle.patterns.proofs.trap.is_trapped.Given as goal
-
-abbrev pub invariant-loop-cell : goal.invariant-loop-cell
-invariant-loop-cell l = AreOff l.trap.members (take l.cell-index l.boxes)

@@ -1,5 +1,0 @@
-use Rattle.patterns.specs.Settling.{HasAsked}
-use Rattle.patterns.proofs.unsettled.Unsettled.ask_hinted.Given as goal
-
-abbrev pub invariant-loop-turn : goal.invariant-loop-turn
-invariant-loop-turn g l = record { asked : HasAsked l.task l.fn.self l.self }

@@ -1,9 +1,0 @@
-use Rattle.std.proofs.Common.{ℕ, ◌<◌, slice_index}
-use Rattle.patterns.specs.Settling.{CoversNone, HasAsked}
-use Rattle.patterns.proofs.unsettled.Unsettled.settle_inside.Given as goal
-
-abbrev pub invariant-loop-at : goal.invariant-loop-at
-invariant-loop-at g l = record {
-  asked : HasAsked l.task l.fn.self l.self;
-  none : (k : ℕ) → k < l.at → CoversNone l.task (slice_index l.self.inside.items k) l.self.here.items;
-}
