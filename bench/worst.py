@@ -324,8 +324,9 @@ def many_ahead(side: int, lines: int, decoys: int, boxes: int) -> Timed:
 
 
 def parted(side: int, lines: int, decoys: int, boxes: int, beyond: bool = False) -> Timed:
-    """Lines whose boxes part a winding corridor into as many components, and decoys that have a region
-    in the last component alone: two boxes, or with `beyond` most of the boxes of the farther half."""
+    """Lines whose boxes part a winding corridor into as many components, and decoys that have a
+    region in the last one alone: two boxes, or with `beyond` most of the boxes of the farther
+    half."""
     path = snake(side, 2)
     straight = [at for at in range(8, len(path) - 12)
                 if all(it[0] == path[at][0] for it in path[at - 4:at + 5])]
