@@ -67,6 +67,7 @@ mod trap;
 mod unsettled;
 mod zone;
 
+pub use checking::Accepted;
 pub use coverage::Coverage;
 pub use fault::{CheckFault, LineWhy, ZoneFault, ZoneLineWhy};
 pub use index::Index;
@@ -74,6 +75,6 @@ pub use laws::{
     closed_lists_have_no_fault, closed_means_unsolvable, lists_have_one_first_fault,
     refuting_zone_means_unsolvable, refuting_zones_have_no_fault, zones_have_one_first_fault,
 };
-pub use pattern_list::{Accepted, PatternList, check};
+pub use pattern_list::{PatternList, check};
 pub use scan::Scan;
 pub use zone::{AcceptedZone, check_zone};

@@ -1,6 +1,6 @@
 //! Lists of patterns, and their check. `check` is for callers. The program uses `PatternList`, with the same contract.
 ghost use Rattle.std.specs.Prelude.{◌≡◌, ◌≢◌, ◌⊎◌, ◌++◌, ◌∷◌, [], IfOk, IfErr, OnOk, IsOkUnless, MatchOption, length, map};
-ghost use Rattle.board.specs.{Board.IsWellFormed, Game.Solvable};
+ghost use Rattle.board.specs.{Game.Solvable};
 ghost use Rattle.answers.specs.Grammar.{said_pattern};
 ghost use Rattle.certificates.specs.Pattern.{pattern_of, patterns_of, AreLawful, IsLawful};
 ghost use Rattle.closure.specs.Arena.{lines_in, list_in};
@@ -8,19 +8,13 @@ ghost use Rattle.certificates.specs.Closed.{Closed};
 ghost use Rattle.closure.specs.{FirstFault.IsFirstPatternFault, FirstFault.IsUnlawful, declared.fault.CheckFault.CheckFault as Fault};
 
 use crate::arena::Arena;
-use crate::checking::check_closed;
+use crate::checking::{Accepted, check_lawful};
 use crate::fault::{CheckFault, LineWhy};
 use crate::lawful::why_unlawful;
 use answers::Pattern;
 use board::Board;
 use cellset::CellSet;
 use std::alloc::{AllocError, Global};
-
-/// An accepted list: the number of its patterns.
-#[derive(Clone, Copy, Debug, PartialEq, Eq)]
-pub struct Accepted {
-    pub patterns: usize,
-}
 
 /// A list of patterns, to which one line after another is added before it is checked.
 #[derive(Debug, Drop)]
@@ -99,24 +93,8 @@ impl<'a, S: CellSet> PatternList<'a, S> {
         if let Some((line, why)) = self.unlawful {
             return Err(CheckFault::Line { line, why });
         }
-        check_lines(alloc, self.board, self.arena)
+        check_lawful(alloc, self.board, self.arena)
     }
-}
-
-// Checks lawful lines, and counts them.
-fn check_lines<S: CellSet>(
-    alloc: Global,
-    board: &Board<S>,
-    arena: Arena,
-) -> Result<Accepted, CheckFault>
-    requires { AreLawful board.now (list_in arena) }
-    ensures formed { IsWellFormed board.now }
-    ensures ok { IfOk result (λ accepted. Closed board.now (list_in arena) × (accepted.patterns ≡ length (lines_in arena))) }
-    ensures exact { IfErr result (λ fault. fault ≢ CheckFault.Memory → IsFirstPatternFault board.now (lines_in arena) fault) }
-{
-    let patterns = arena.lines.len();
-    check_closed(alloc, board, arena)?;
-    Ok(Accepted { patterns })
 }
 
 /// Checks that a list of patterns is closed, and returns its first fault if it isn't.

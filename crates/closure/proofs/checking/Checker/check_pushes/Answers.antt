@@ -3,7 +3,7 @@
 -- `first_left` decides. If it returns a push, that is the line's first one whose result isn't covered, and the lines before it are fine, so it is
 -- the first fault of the list (`FirstLines.antt`).
 use Rattle.std.proofs.Common.{◌≡◌, ℕ, ◌+◌, ◌<◌, length, refl, sym, ◌∙◌, ap, arith}
-use Rattle.std.{specs.Prelude.slice_index, proofs.lemmas.List.get_or-map, proofs.lemmas.List.length-map}
+use Rattle.std.{specs.Prelude.false, specs.Prelude.slice_index, proofs.lemmas.List.get_or-map, proofs.lemmas.List.length-map}
 use Rattle.std.proofs.lemmas.List.{get_or_default}
 use Rattle.answers.specs.Body.{PatternLine}
 use Rattle.certificates.specs.Pattern.{CoversPushesOf, Pattern}
@@ -42,14 +42,18 @@ pub settle-requires-clause-group : goal.settle-requires-clause-group
 settle-requires-clause-group g c = is_group g (goal.at.settle-requires-clause-group g c).After-index
 
 -- ---- each way on
-pub loop-line-preserved-then-covered-group : goal.loop-line-preserved-then-covered-group
-loop-line-preserved-then-covered-group g c =
-    let at = (goal.at.loop-line-preserved-then-covered-group g c).After-index in
+pub loop-line-preserved-then-index : goal.loop-line-preserved-then-index
+loop-line-preserved-then-index g c =
+    let at = (goal.at.loop-line-preserved-then-index g c).After-index in
     let within = is_group g at in
-    let long = c.requires.covered.long in
+    let notes = c.loop-line.self.covered.items in
+    let noted = c.loop-line.invariant.checker.noted in
+    let long = noted.long in
+    let in_notes : c.index.result.now < length notes = omega arith in
+    let here = get_or_default notes c.index.result.now false c.index-in-loop-line.result.now in_notes in
     record {
       checker = c.loop-line.invariant.checker;
-      covered = one_line g at (c.requires.covered.covers c.index.result.now (omega arith) c.if-covered-group.true);
+      covered = one_line g at (noted.covers c.index.result.now in_notes (here ∙ (sym c.index-in-loop-line.ensures ∙ c.if-index.true)));
     }
 
 pub loop-line-preserved-then-is_trapped : goal.loop-line-preserved-then-is_trapped
@@ -67,7 +71,12 @@ loop-line-preserved g c =
     let checker = c.in_ok-settle.ensures.checker in
     let tried = c.in_default.ensures in
     record {
-      checker = record { are = tried.are; free = λ h is. rw tried.free (checker.free h is); rest = λ h is. rw tried.left (checker.rest h is) };
+      checker = record {
+        noted = checker.noted;
+        are = tried.are;
+        free = λ h is. rw tried.free (checker.free h is);
+        rest = λ h is. rw tried.left (checker.rest h is);
+      };
       covered = one_more (λ (j : ℕ). CoversPushesOf c.args.tables.now.board.now patterns (pattern_at patterns j)) c.loop-line.line
           c.loop-line.invariant.covered tried.exact;
     }

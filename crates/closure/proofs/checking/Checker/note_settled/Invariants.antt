@@ -1,18 +1,13 @@
 use Rattle.std.proofs.Common.{◌≤◌, length}
-use Rattle.closure.specs.GroupPushes.{AreNoted}
 use Rattle.closure.specs.Checking.{IsChecker}
 use Rattle.closure.proofs.checking.Checker.note_settled.Given as goal
 
 abbrev pub invariant-loop-count : goal.invariant-loop-count
-invariant-loop-count g l = record {
-  checker : IsChecker l.tables l.self;
-  noted : AreNoted l.tables.board.now l.tables.groups l.covered.items;
-}
+invariant-loop-count g l = record { checker : IsChecker l.tables l.self }
 
 abbrev pub invariant-loop-link : goal.invariant-loop-link
 invariant-loop-link g l = record {
   checker : IsChecker l.tables l.self;
-  noted : AreNoted l.tables.board.now l.tables.groups l.covered.items;
   link : l.link ≤ length l.tables.groups.spans.items;
 }
 

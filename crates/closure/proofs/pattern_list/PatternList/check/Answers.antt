@@ -17,21 +17,21 @@ pub returns-in-Some-clause-first : goal.returns-in-Some-clause-first
 returns-in-Some-clause-first g c = λ lines fault is found. inl (ap Err (one_pattern_fault c.args.self.board.now lines (Line c.in-Some.line c.in-Some.why) fault
     (rw c.in-Some.is at is) found))
 
-pub check_lines-requires : goal.check_lines-requires
-check_lines-requires g c = let all = rw c.in_default.is at c.requires.1 in rw all.0 all.1
+pub check_lawful-requires : goal.check_lawful-requires
+check_lawful-requires g c = let all = rw c.in_default.is at c.requires.1 in rw all.0 all.1
 
 pub returns : goal.returns
 returns g c =
     let level = c.args.self.board.now in
-    let result = c.check_lines.result in
+    let result = c.check_lawful.result in
     record {
-      ok = λ lines is. rw (rw c.in_default.is at is).0 at c.check_lines.ensures.ok;
+      ok = λ lines is. rw (rw c.in_default.is at is).0 at c.check_lawful.ensures.ok;
       only = λ lines is. ok_unless Memory memory_or (IsFirstPatternFault level lines) (Closed level (patterns_of lines))
-          (fault_not_closed level lines) result (rw (rw c.in_default.is at is).0 at c.check_lines.ensures.exact);
-      exact = λ lines is. rw (rw c.in_default.is at is).0 at c.check_lines.ensures.exact;
+          (fault_not_closed level lines) result (rw (rw c.in_default.is at is).0 at c.check_lawful.ensures.exact);
+      exact = λ lines is. rw (rw c.in_default.is at is).0 at c.check_lawful.ensures.exact;
       first = λ lines fault is. first_unless Memory memory_or (IsFirstPatternFault level lines) (Closed level (patterns_of lines))
           (fault_not_closed level lines) (one_pattern_fault level lines) (λ accepted. accepted.patterns ≡ length lines) result
-          (rw (rw c.in_default.is at is).0 at c.check_lines.ensures.ok) (rw (rw c.in_default.is at is).0 at c.check_lines.ensures.exact) fault;
+          (rw (rw c.in_default.is at is).0 at c.check_lawful.ensures.ok) (rw (rw c.in_default.is at is).0 at c.check_lawful.ensures.exact) fault;
       unsolvable = λ lines is. where_ok (λ accepted. accepted.patterns ≡ length lines) result
-          (closed_unsolvable level (patterns_of lines) c.check_lines.ensures.formed) (rw (rw c.in_default.is at is).0 at c.check_lines.ensures.ok);
+          (closed_unsolvable level (patterns_of lines) c.check_lawful.ensures.formed) (rw (rw c.in_default.is at is).0 at c.check_lawful.ensures.ok);
     }

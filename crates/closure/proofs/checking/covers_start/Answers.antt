@@ -5,8 +5,8 @@ use Rattle.cellset.proofs.Members.{lacks_where, not_both}
 use Rattle.certificates.specs.CellLists.{cells_in}
 use Rattle.closure.specs.Groups.{boxes_of, list_of}
 use Rattle.closure.proofs.{Grouped.boxes_on, Grouped.covered_of_group, InBuckets.no_group_covers, Traps.start_trapped}
-use Rattle.closure.proofs.checking.is_start_covered.Goals.{After-boxes-boxes}
-use Rattle.closure.proofs.checking.is_start_covered.Goals as goal
+use Rattle.closure.proofs.checking.covers_start.Goals.{After-boxes-boxes}
+use Rattle.closure.proofs.checking.covers_start.Goals as goal
 
 within : (g : _) (c : After-boxes-boxes g) → c.loop-group.group < length c.args.tables.now.groups.spans.items
 within g c = grind arith
