@@ -16,9 +16,12 @@ use Rattle.closure.specs.Trap.{AreOff, IsTrapOf, single}
 use Rattle.certificates.proofs.RegionCells.{region_on, room_outside}
 use Rattle.closure.proofs.Components.{other_cell}
 
--- No box is on a trap without cells.
+-- No cell is on a trap without cells, and no box.
+pub off_none : (trap : Cells) → trap ≡ set.empty → (c : Cell) → Lacks trap c
+off_none trap none c = lacks_where trap c (λ on. has_empty c (rw none at on))
+
 pub none_off : (trap : Cells) → trap ≡ set.empty → (boxes : List Cell) → AreOff trap boxes
-none_off trap none boxes c has = lacks_where trap c (λ on. has_empty c (rw none at on))
+none_off trap none boxes c has = off_none trap none c
 
 -- No cells are a trap of any list.
 pub no_trap : (level : Level) (patterns : List Pattern) (trap : CellsOn) → trap.extent ≡ level.shape → trap.members ≡ set.empty → IsTrapOf level patterns trap

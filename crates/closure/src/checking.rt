@@ -10,6 +10,7 @@ ghost use Rattle.closure.specs.FirstFault.{IsFirstPatternFault};
 
 use crate::arena::Arena;
 use crate::fault::CheckFault;
+use crate::index::is_covering;
 use crate::lookups::Lookups;
 use crate::pushes::note_hinted;
 use crate::tables::Tables;
@@ -17,7 +18,6 @@ use crate::task::Task;
 use crate::trap::find_trap;
 use board::Board;
 use cellset::CellSet;
-use certificates::are_in;
 use reach::Rows;
 use std::alloc::{AllocError, Global};
 
@@ -57,16 +57,13 @@ fn covers_start<S: CellSet>(tables: &Tables<S>) -> bool
     requires { AreTables tables.now }
     ensures { IsTrue result ↔ IsCovered tables.now.board.now (list_of tables.now.groups) (start tables.now.board.now) }
 {
-    let start = tables.board.boxes();
-    if tables.trap.meets(start) {
+    let player = tables.board.player();
+    let boxes = tables.board.boxes();
+    if tables.trap.meets(boxes) {
         return true;
     }
     for group in 0..tables.groups.spans.len() {
-        let boxes = tables.groups.boxes(group);
-        if !are_in(boxes, start) {
-            continue;
-        }
-        if tables.is_inside(group, tables.board.player()) {
+        if is_covering(tables, group, player, boxes) {
             return true;
         }
     }

@@ -4,7 +4,7 @@ use Rattle.std.proofs.{Common.refl, Common.◌∙◌, Common.ap, Common.sym, Com
 use Rattle.cellset.{specs.Cell.IsOn, proofs.Members.not_both, proofs.MemberLists.all_came, proofs.MemberLists.next_has, proofs.MemberLists.next_came, proofs.Truth.either}
 use Rattle.cellset.specs.SortedList.{index}
 use Rattle.closure.proofs.InBuckets.{no_group_covers, player_in_room}
-use Rattle.closure.proofs.lookups.Lookups.covers.Goals as goal
+use Rattle.closure.proofs.index.is_covered.Goals as goal
 
 pub loop-cell-init : goal.loop-cell-init
 loop-cell-init g c = grind arith
@@ -13,31 +13,30 @@ pub loop-cell-preserved : goal.loop-cell-preserved
 loop-cell-preserved g c =
     let inv = c.loop-cell.invariant in
     let whole = rw c.in-Some.ensures.steps at inv.all in
-    let found = rw c.load.ensures.members at c.if-is_covered_in_bucket.ensures in
+    let found = c.if-is_covered_in_bucket.ensures in
     record {
       can_next = tt;
       is_finite = tt;
       all = next_came c.loop-cell.yielded c.next.new.self c.in-Some.cell whole;
-      are = inv.are;
       passed = λ q k came key. either (Contains-push_cases c.loop-cell.yielded c.in-Some.cell q came)
           (λ old. inv.passed q k old key)
           (λ here. found k (key ∙ sym (ap (index c.args.tables.now.board.now.shape) here)));
     }
 
-pub returns-then-not-contains-clause-exact : goal.returns-then-not-contains-clause-exact
-returns-then-not-contains-clause-exact g c = (
+pub returns-then-not-contains : goal.returns-then-not-contains
+returns-then-not-contains g c = (
   λ h. absurd (false≢true h),
   λ covered.
       let inside = player_in_room c.args.tables.now c.requires.tables _ c.requires.tables.formed covered in
       absurd (not_both (g.S.CellSet.members c.room.result.now) c.args.player (rw c.room.ensures.members inside) (sym c.if-not-contains.ensures)),
 )
 
-pub returns-then-is_covered_in_bucket-clause-exact : goal.returns-then-is_covered_in_bucket-clause-exact
-returns-then-is_covered_in_bucket-clause-exact g c =
-    (λ _. rw c.load.ensures.members at c.if-is_covered_in_bucket.ensures, λ _. refl)
+pub returns-then-is_covered_in_bucket : goal.returns-then-is_covered_in_bucket
+returns-then-is_covered_in_bucket g c =
+    (λ _. c.if-is_covered_in_bucket.ensures, λ _. refl)
 
-pub returns-clause-exact : goal.returns-clause-exact
-returns-clause-exact g c = (
+pub returns : goal.returns
+returns g c = (
   λ h. absurd (false≢true h),
   λ covered.
       let shape = g.S.CellSet.extent c.args.boxes.now in
@@ -45,7 +44,7 @@ returns-clause-exact g c = (
       let whole = rw c.in-None.ensures.steps.0 at c.loop-cell.invariant.all in
       absurd (no_group_covers c.args.tables.now c.requires.tables _
       (λ k covers.
-      let bucket = c.requires.are.buckets.each k covers.0 in
+      let bucket = c.requires.buckets.each k covers.0 in
       c.loop-cell.invariant.passed bucket.cell k (((all_came shape boxes c.loop-cell.yielded whole).exact bucket.cell).1
       (covers.1.boxes bucket.cell bucket.has)) bucket.key covers)
       covered),
