@@ -15,15 +15,15 @@
 //! 3. **Groups**: lines with the same boxes are one group, found by a hash (`groups`, `hints`, `chains`). One flood for each group off the
 //!    trap finds its region, unless all that is free is in one component or a line says `*` (`group_regions`). Its rows are kept (`kept`),
 //!    so whether a player is in it is one bit, and on which sides of the boxes it lies (`sides`). That makes the tables (`tables`).
-//! 4. The start is covered if all boxes of a group are there and its region has the player.
+//! 4. **Start**: it is covered if it has a box on the trap, or all boxes of a group are there and its region has the player (`index`).
 //! 5. **Pushes by hints** (`pushes`): if a push leads to the trap, it is covered. Otherwise a hash finds the group of just the boxes after
 //!    the push, and one side of the pushed box decides. Groups of which all pushes are settled are noted as covered. If all are, the list
 //!    is closed. This is so for nearly every list that a program writes.
-//! 6. **Pushes by lookups** (`settling`, `unsettled`), for each other group, by rising number of boxes. Its pushes are open, and other
-//!    groups settle them. A group settles a push if at most one of its boxes isn't there: none, and its region has the player, and it lacks
-//!    the pushed box; or just the one on the cell ahead, and its region lies on the side from which the box comes. If a group whose boxes
-//!    are all there, with the player in its region, is noted as covered itself, it settles all pushes from the player's component of the
-//!    room less the boxes. A push that is open when all groups were asked isn't covered. If none is open, the group is noted as covered.
+//! 6. **Pushes by lookups** (`lookups`, `settling`, `unsettled`), for each other group, by rising number of boxes. Its pushes are open, and
+//!    other groups settle them. A group settles a push if at most one of its boxes isn't there: none, and its region has the player, and it
+//!    lacks the pushed box; or just the one on the cell ahead, and its region lies on the side from which the box comes. If a group whose
+//!    boxes are all there, with the player in its region, is noted as covered itself, it settles all pushes from the player's component of
+//!    the room less the boxes. A push that is open when all groups were asked isn't covered. If none is open, the group is noted as covered.
 //! 7. At last the lines are gone through up to the first fault. If a line's group isn't noted, its pushes are settled again. The line gets
 //!    a flood of its own, and the first push left by a player in it is the fault.
 //!
@@ -36,8 +36,8 @@
 //! and once more for each component if its boxes are all there. A region takes at most 8 KB, on the largest board, so a list at most half a
 //! gigabyte.
 //!
-//! `Index` answers whether a list covers a state (`index`, `lookups`), from the bucket of one of the state's boxes, and `Scan` answers the
-//! same questions line by line (`coverage`, `scan`). Zones are `zone`'s. `fault` has the faults, and `laws` what follows from an answer.
+//! `Index` answers whether a list covers a state (`index`): it asks the groups in the buckets of the state's boxes. `Scan` answers the same
+//! question line by line (`coverage`, `scan`). Zones are `zone`'s. `fault` has the faults, and `laws` what follows from an answer.
 #![tactic(auto)]
 
 mod arena;
