@@ -1,7 +1,7 @@
--- Pushes out of a group, by the sides of its boxes. The player of a push is on the side of the box from which it is pushed, so if the
--- region doesn't lie on that side, or the cell ahead isn't free, no push out of the group moves the box that way. After a push the player
--- is on the side of the box from which it came. So a group that has this box covers the result if its boxes are all there after the push
--- and its region lies on that side. A push out of a pattern is a push out of its group.
+-- Pushes out of a group, box by box and direction by direction. A push out of the group comes from its region and goes to a cell of the room
+-- that has no box of the group, and each push that does so goes out (`goes_out`). After a push the player is on the cell that the box left. So a
+-- group covers the result if its boxes are all there after the push and its region has that cell. A push out of a pattern is a push out of its
+-- group.
 use Rattle.std.proofs.Common.{◌≡◌, ◌≢◌, Bool, false, ℕ, ◌<◌, ◌≤◌, List, length, get_or, set, refl, sym, ◌∙◌, ap, subst, inl, inr, arith}
 use Rattle.std.{specs.Prelude.IsTrue, specs.Prelude.slice_index, specs.List.Contains, proofs.lemmas.Bool.cases_lt}
 use Rattle.std.proofs.lemmas.List.{get_or-set_other, get_or-set_same, length-set, get_or_default}
@@ -9,37 +9,50 @@ use Rattle.cellset.specs.{Cell.IsOn, Cell.neighbor, Cell.opposite, CellSet.Cells
 use Rattle.cellset.specs.declared.dir.Dir.TheVariants.{L, U, R, D}
 use Rattle.cellset.proofs.Neighbors.{neighbor_back}
 use Rattle.reach.specs.{declared.pushes.Push.Push}
-use Rattle.board.specs.Game.{Level, moved}
+use Rattle.board.specs.Game.{Level, IsFloor, moved}
 use Rattle.certificates.specs.CellLists.{cell_no, cells_in}
 use Rattle.certificates.proofs.CellLists.{in_list, no_cell}
 use Rattle.cellset.proofs.CellLists.{has_listed}
 use Rattle.certificates.specs.Pattern.{Pattern, InPatternRegion, IsCovered, PushesOut, after_push, CoversPushesOf}
-use Rattle.closure.specs.{Arena.pattern_at, Run.state_after, declared.groups.Groups.Groups, declared.pushes.PushedBox.PushedBox}
+use Rattle.closure.specs.{Arena.pattern_at, GroupRegions.IsFreeAt, Run.state_after, declared.groups.Groups.Groups}
 use Rattle.closure.specs.{declared.tables.Tables.Tables, Groups.IsGrouped, Groups.boxes_of, Groups.list_of, Groups.position_at, Tables.AreTables}
-use Rattle.closure.specs.GroupPushes.{AreNoted, CoversFrom, CoversToward, HasNoPush, IsPushAt, IsPushedBox, IsStepBack, pushed_cell}
+use Rattle.closure.specs.GroupPushes.{AreNoted, CoversFrom, CoversToward, IsPushOf}
 use Rattle.certificates.proofs.RegionCells.{region_on}
 use Rattle.closure.proofs.Arenas.{list_long}
-use Rattle.closure.proofs.Grouped.{box_floor, boxes_on, covered_of_group, group_in_room, line_boxes, of_line}
-use Rattle.closure.proofs.Traps.{onto_trap, trapped_push}
+use Rattle.closure.proofs.Grouped.{box_floor, covered_of_group, group_in_room, line_boxes, of_line}
+use Rattle.closure.proofs.Traps.{from_room, onto_trap, to_room, trapped_push}
 
--- The box that moves lies on the grid.
-pub pushed_on : {S : Type 0} (tables : Tables S) → AreTables tables → (pushed : PushedBox) → IsPushedBox tables.board.now tables.groups pushed →
-    IsOn tables.board.now.shape (pushed_cell pushed)
-pushed_on tables is pushed of = search (boxes_on, in_list)
+opposite_twice : (d : Dir) → opposite (opposite d) ≡ d
+opposite_twice L = refl
+opposite_twice U = refl
+opposite_twice R = refl
+opposite_twice D = refl
 
 module _ (level : Level) (pattern : Pattern) (cell : Cell) (dir : Dir) where
   pub player_behind : (push : Push) → PushesOut level pattern push → push.from ≡ cell → push.dir ≡ dir → push.player ≡ neighbor cell (opposite dir)
   player_behind push out from toward = grind (arith, region_on, neighbor_back)
 
-  pub unreached : (InPatternRegion level pattern (neighbor cell (opposite dir)) → ⊥) → HasNoPush level pattern cell dir
-  unreached lacks push out from toward = grind (arith, player_behind)
+  pub to_is : (push : Push) → PushesOut level pattern push → push.from ≡ cell → push.dir ≡ dir → push.to ≡ neighbor cell dir
+  to_is push out from toward = out.cell_behind ∙ (ap (λ c. neighbor c push.dir) from ∙ ap (λ e. neighbor cell e) toward)
+
+  -- There is just one such push.
+  pub same_push : (p : Push) → IsPushOf level pattern cell dir p → (q : Push) → PushesOut level pattern q → q.from ≡ cell → q.dir ≡ dir → q ≡ p
+  same_push p of q out from toward =
+      let player : q.player ≡ p.player = player_behind q out from toward ∙ sym (player_behind p of.out of.from of.dir_is) in
+      let dirs : q.dir ≡ p.dir = toward ∙ sym of.dir_is in
+      let froms : q.from ≡ p.from = from ∙ sym of.from in
+      let tos : q.to ≡ p.to = to_is q out from toward ∙ sym (to_is p of.out of.from of.dir_is) in
+      subst (λ x. q ≡ record { player = x; dir = p.dir; from = p.from; to = p.to }) player
+      (subst (λ x. q ≡ record { player = q.player; dir = x; from = p.from; to = p.to }) dirs
+      (subst (λ x. q ≡ record { player = q.player; dir = q.dir; from = x; to = p.to }) froms
+      (subst (λ x. q ≡ record { player = q.player; dir = q.dir; from = q.from; to = x }) tos refl)))
 
   -- If the result of one push of a box in a direction is covered, so is that of each push that moves the box that way.
-  pub covered_one : (patterns : List Pattern) (p : Push) → IsPushAt level.shape cell dir p → IsCovered level patterns (after_push pattern p) →
+  pub covered_one : (patterns : List Pattern) (p : Push) → IsPushOf level pattern cell dir p → IsCovered level patterns (after_push pattern p) →
       CoversToward level patterns pattern cell dir
-  covered_one patterns p at covered q out from toward =
-      let from_same : p.from ≡ q.from = at.from ∙ sym from in
-      let to_same : p.to ≡ q.to = at.to ∙ sym (out.cell_behind ∙ (ap (λ c. neighbor c q.dir) from ∙ ap (λ e. neighbor cell e) toward)) in
+  covered_one patterns p of covered q out from toward =
+      let from_same : p.from ≡ q.from = of.from ∙ sym from in
+      let to_same : p.to ≡ q.to = to_is p of.out of.from of.dir_is ∙ sym (to_is q out from toward) in
       subst (λ f. IsCovered level patterns (record { player = f; boxes = moved pattern.boxes f q.to })) from_same (rw to_same at covered)
 
 -- The results of a box's pushes are covered if those in each direction are.
@@ -68,30 +81,83 @@ pattern_of_group level groups grouped j lt covers push out =
 
 -- ---- the facts about a group
 module _ {S : Type 0} (tables : Tables S) (is : AreTables tables) (g : ℕ) where
-  -- A group covers the result of a push if the state then has its boxes, and its region lies on the side from which the box came.
-  pub covers_result : (before : Cells) (push : Push) → IsStepBack push → ((c : Cell) → Has (cells_in (boxes_of tables.groups g)) c →
+  -- A group covers the result of a push if the state then has its boxes, and its region has the cell that the box left.
+  pub covers_result : (before : Cells) (push : Push) → ((c : Cell) → Has (cells_in (boxes_of tables.groups g)) c →
       Has (moved before push.from push.to) c)
-      → InPatternRegion tables.board.now (position_at tables.board.now tables.groups g) (neighbor push.to (opposite push.dir)) →
+      → InPatternRegion tables.board.now (position_at tables.board.now tables.groups g) push.from →
       IsCovered tables.board.now (list_of tables.groups) (state_after before push)
-  covers_result before push back stand side =
-      covered_of_group tables.board.now tables.groups is.grouped (state_after before push) g (record { boxes = stand; player = rw back at side })
+  covers_result before push stand inside =
+      covered_of_group tables.board.now tables.groups is.grouped (state_after before push) g (record { boxes = stand; player = inside })
 
-  -- ---- the trap
   module _ (lt : g < length tables.groups.spans.items) where
     abbrev position : Pattern
     position = position_at tables.board.now tables.groups g
 
+    floor : (c : Cell) → Has (cells_in (boxes_of tables.groups g)) c → IsFloor tables.board.now c
+    floor = box_floor tables.board.now tables.groups is.lawful is.grouped g lt
+
+    in_room : (c : Cell) → InPatternRegion tables.board.now position c → Has tables.board.now.room c
+    in_room = group_in_room tables.board.now is.formed tables.groups is.grouped is.lawful g
+
+    -- ---- where a push out of the group comes from and goes to
+    module _ (push : Push) (out : PushesOut tables.board.now position push) where
+      pub leaves_room : Has tables.board.now.room push.from
+      leaves_room = from_room tables.board.now is.formed (list_of tables.groups) tables.trap is.trap position floor in_room push out
+
+      pub to_free : IsFreeAt tables.board.now tables.groups g push.to
+      to_free = (
+        rw out.cell_behind (to_room tables.board.now is.formed (list_of tables.groups) tables.trap is.trap position floor in_room push out),
+        out.free.no_bar,
+      )
+
+      -- A push to the trap is covered.
+      pub onto_trap_covered : Has tables.trap.members push.to → IsCovered tables.board.now (list_of tables.groups) (after_push position push)
+      onto_trap_covered = onto_trap tables.board.now is.formed (list_of tables.groups) tables.trap is.trap position floor in_room push out
+
+    module _ (number : ℕ) (low : number < length (boxes_of tables.groups g)) (dir : Dir) where
+      abbrev cell : Cell
+      cell = cell_no (boxes_of tables.groups g) number
+
+      cell_in : Has (cells_in (boxes_of tables.groups g)) cell
+      cell_in = in_list (boxes_of tables.groups g) number no_cell low
+
+      pub cell_on : IsOn tables.board.now.shape cell
+      cell_on = (floor cell cell_in).0
+
+      -- What goes in the direction.
+      pub goes_toward : (push : Push) → PushesOut tables.board.now position push → push.from ≡ cell → push.dir ≡ dir
+          → InPatternRegion tables.board.now position (neighbor cell (opposite dir)) × IsFreeAt tables.board.now tables.groups g (neighbor cell dir)
+      goes_toward push out from toward = (
+        rw (player_behind tables.board.now position cell dir push out from toward) at out.standing,
+        rw (to_is tables.board.now position cell dir push out from toward) at (to_free push out),
+      )
+
+      pub goes_out : InPatternRegion tables.board.now position (neighbor cell (opposite dir)) → IsFreeAt tables.board.now tables.groups g (neighbor cell dir)
+          → (player to : Cell) → player ≡ neighbor cell (opposite dir) → to ≡ neighbor cell dir
+          → IsPushOf tables.board.now position cell dir (record { player = player; dir = dir; from = cell; to = to })
+      goes_out inside free player to player_at to_at =
+          let ahead = is.formed.room (neighbor cell dir) free.0 in
+          record {
+            out = record {
+              standing = rw player_at inside;
+              next_cell = sym (ap (λ c. neighbor c dir) player_at ∙ (ap (neighbor (neighbor cell (opposite dir))) (sym (opposite_twice dir)) ∙ neighbor_back cell (opposite dir) cell_on.top cell_on.left));
+              box = cell_in;
+              cell_behind = to_at;
+              free = rw to_at (record { on = ahead.0; no_wall = ahead.1; no_bar = free.1 });
+            };
+            from = refl;
+            dir_is = refl;
+          }
+
+    -- ---- the trap
     -- The results of the pushes of a group with a box on the trap are covered, and so is the result of each push to the trap.
     pub trapped_pushes : (c : Cell) → Has (cells_in (boxes_of tables.groups g)) c → Has tables.trap.members c →
         CoversPushesOf tables.board.now (list_of tables.groups) position
     trapped_pushes c box has push out = search (trapped_push, box_floor, group_in_room)
 
-    pub toward_trap : (cell : Cell) (dir : Dir) (p : Push) → IsPushAt tables.board.now.shape cell dir p → Has tables.trap.members p.to →
+    pub toward_trap : (cell : Cell) (dir : Dir) (p : Push) → IsPushOf tables.board.now position cell dir p → Has tables.trap.members p.to →
         CoversToward tables.board.now (list_of tables.groups) position cell dir
-    toward_trap cell dir p at has push out from toward =
-        onto_trap tables.board.now is.formed (list_of tables.groups) tables.trap is.trap position (box_floor tables.board.now tables.groups is.lawful is.grouped g lt)
-        (group_in_room tables.board.now is.formed tables.groups is.grouped is.lawful g) push out
-        (rw (at.to ∙ sym (out.cell_behind ∙ (ap (λ c. neighbor c push.dir) from ∙ ap (λ e. neighbor cell e) toward))) at has)
+    toward_trap cell dir p of has = covered_one tables.board.now position cell dir (list_of tables.groups) p of (onto_trap_covered p of.out has)
 
 -- ---- notes
 module _ (level : Level) (groups : Groups) (noted : List Bool) (are : AreNoted level groups noted) where

@@ -4,8 +4,8 @@
 -- boxes are there and it covers the result, it lacks that box and covers the player, who can step back (`back_inside`). So the players of a
 -- component decide once for all pushes from there. If the list covers the pushes of a pattern that covers the player, it covers the result:
 -- either the pattern lacks the box, or the push is one out of the pattern, and the boxes after that one are among the boxes after this
--- (`subsumed_push`). A pattern that has a box on the cell ahead, and whose other boxes are there, decides by the side from which the box comes
--- (`ahead_decides`).
+-- (`subsumed_push`). A pattern that has a box on the cell ahead, and whose other boxes are there, covers the result if its region has the
+-- cell that the box leaves (`ahead_decides`).
 use Rattle.std.proofs.Common.{◌≡◌, List, arith}
 use Rattle.std.{specs.Prelude.◌↔◌, specs.Prelude.◌⊎◌, specs.List.Contains}
 use Rattle.cellset.specs.{Cell.neighbor, Cell.opposite, CellSet.Cells, CellSet.CellsOn, CellSet.Has, CellSet.Lacks, declared.cell.Cell.Cell, declared.dir.Dir.Dir}
@@ -13,7 +13,7 @@ use Rattle.cellset.proofs.{Members.has_insert, Members.has_or_lacks, Members.has
 use Rattle.reach.specs.{Region.IsFree, Region.Joined, Region.at_seed, Region.beside, declared.pushes.Push.Push}
 use Rattle.board.specs.{Game.IsFloor, Game.Level, Game.State, Board.IsWellFormed}
 use Rattle.certificates.specs.Pattern.{Pattern, Covers, InPatternRegion, IsCovered, PushesOut, CoversPushesOf}
-use Rattle.closure.specs.{GroupPushes.IsStepBack, Component.AreInComponent, Component.IsFreeOf, Place.AreCoveredAlike, Run.state_after}
+use Rattle.closure.specs.{Component.AreInComponent, Component.IsFreeOf, Place.AreCoveredAlike, Run.state_after}
 use Rattle.certificates.proofs.RegionCells.{region_lacks}
 use Rattle.closure.proofs.{Moves.IsWithin, Moves.lacks_within, Moves.moved_beside, Moves.moved_within, Components.joined_back}
 
@@ -121,12 +121,12 @@ module _ (level : Level) (boxes : Cells) (push : Push) (is : IsMove level boxes 
       (λ lacks. listed (state_after boxes push) (loose_push pattern lacks covers))
 
   -- ---- a box on the cell ahead
-  pub steps_back : IsStepBack push
+  pub steps_back : neighbor push.to (opposite push.dir) ≡ push.from
   steps_back = grind (arith, neighbor_back)
 
   pub ahead_decides : (pattern : Pattern) → ((c : Cell) → Has pattern.boxes c → Has boxes c ⊎ (c ≡ push.to)) → Lacks pattern.boxes push.from
-      → Covers level pattern (state_after boxes push) ↔ InPatternRegion level pattern (neighbor push.to (opposite push.dir))
-  ahead_decides pattern within lacks = grind (arith, steps_back, either, kept_by_insert, kept_by_remove, not_both, inserted)
+      → InPatternRegion level pattern push.from → Covers level pattern (state_after boxes push)
+  ahead_decides pattern within lacks inside = grind (arith, either, kept_by_insert, kept_by_remove, not_both, inserted)
 
   -- A pattern that covers the result has no box but those that are there and the cell ahead.
   pub after_within : (pattern : Pattern) → Covers level pattern (state_after boxes push) → (c : Cell) → Has pattern.boxes c → Has boxes c ⊎ (c ≡ push.to)

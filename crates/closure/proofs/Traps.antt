@@ -52,7 +52,7 @@ module _ (level : Level) (formed : IsWellFormed level) (patterns : List Pattern)
 
   module _ (pattern : Pattern) (floor : (c : Cell) → Has pattern.boxes c → IsFloor level c) (room : (c : Cell) → InPatternRegion level pattern c → Has level.room c)
       (push : Push) (out : PushesOut level pattern push) where
-    from_room : Has level.room push.from
+    pub from_room : Has level.room push.from
     from_room =
         subst (Has level.room) (sym out.next_cell) (formed.goes_on push.player push.dir (room push.player out.standing)
         (rw out.next_cell at (floor push.from out.box)))

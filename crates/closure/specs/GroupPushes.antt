@@ -1,26 +1,17 @@
 -- Pushes out of groups, box by box and direction by direction, and which of them the list covers.
 use Rattle.std.specs.Prelude.{◌≡◌, ℕ, ◌<◌, Bool, false, IsTrue, List, length, slice_index_or}
-use Rattle.cellset.specs.{Shape.Extent, Cell.IsOn, Cell.neighbor, Cell.opposite, declared.cell.Cell.Cell}
-use Rattle.cellset.specs.declared.dir.Dir.{Dir}
+use Rattle.cellset.specs.{declared.cell.Cell.Cell, declared.dir.Dir.Dir}
 use Rattle.reach.specs.declared.pushes.Push.{Push}
 use Rattle.board.specs.Game.{Level}
 use Rattle.certificates.specs.CellLists.{cell_no}
-use Rattle.certificates.specs.Pattern.{Pattern, InPatternRegion, IsCovered, PushesOut, after_push, CoversPushesOf}
-use Rattle.closure.specs.{Sides.IsAround, declared.pushes.PushedBox.PushedBox}
-use Rattle.closure.specs.{declared.groups.Groups.Groups, Groups.boxes_of, Groups.list_of, Groups.position_at}
+use Rattle.certificates.specs.Pattern.{Pattern, IsCovered, PushesOut, after_push, CoversPushesOf}
+use Rattle.closure.specs.{declared.pushes.PushedBox.PushedBox, declared.groups.Groups.Groups, Groups.boxes_of, Groups.list_of, Groups.position_at}
 
--- a push has just moved a box by one step in its direction
-abbrev pub IsStepBack : Push → Type 0
-IsStepBack push = neighbor push.to (opposite push.dir) ≡ push.from
-
--- the push of the box on this cell in the direction, to a cell of the grid
-pub record IsPushAt (shape : Extent) (cell : Cell) (dir : Dir) (push : Push) : Type 0 where
-  pub player : push.player ≡ neighbor cell (opposite dir)
+-- the push out of the pattern moves the box on this cell in the direction
+pub record IsPushOf (level : Level) (pattern : Pattern) (cell : Cell) (dir : Dir) (push : Push) : Type 0 where
+  pub out : PushesOut level pattern push
   pub from : push.from ≡ cell
   pub dir_is : push.dir ≡ dir
-  pub to : push.to ≡ neighbor cell dir
-  pub to_on : IsOn shape push.to
-  pub back : IsStepBack push
 
 -- no push out of the pattern moves the box on this cell in the direction
 abbrev pub HasNoPush : Level → Pattern → Cell → Dir → Type 0
@@ -43,9 +34,8 @@ pub record AreNoted (level : Level) (groups : Groups) (noted : List Bool) : Type
   pub long : length noted ≡ length groups.spans.items
   pub covers : (g : ℕ) → g < length noted → IsTrue (slice_index_or noted g false) → CoversPushesOf level (list_of groups) (position_at level groups g)
 
--- a box of a group, with the sides of it on which the region of the group's position lies
-pub record IsPushedBox (level : Level) (groups : Groups) (pushed : PushedBox) : Type 0 where
+-- a box of a group
+pub record IsPushedBox (groups : Groups) (pushed : PushedBox) : Type 0 where
   pub group : pushed.group < length groups.spans.items
   pub boxes : pushed.boxes.now ≡ boxes_of groups pushed.group
   pub number : pushed.number < length pushed.boxes.now
-  pub sides : IsAround (InPatternRegion level (position_at level groups pushed.group)) (pushed_cell pushed) pushed.sides

@@ -14,8 +14,8 @@ pub mod Search
 pub mod Settling
 pub mod Tables
 pub mod Run
-pub mod Sides
 pub mod Trap
+pub mod Ways
 pub mod Checking
 pub mod FirstFault
 pub mod Index

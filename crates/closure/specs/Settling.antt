@@ -1,11 +1,11 @@
 -- Settling the pushes out of a group: a push is settled if the list covers its result.
-use Rattle.std.specs.Prelude.{◌≡◌, ◌≢◌, ◌⊎◌, ℕ, ◌+◌, ◌<◌, ◌≤◌, IsTrue, List, Option, None, Some, length}
+use Rattle.std.specs.Prelude.{◌≡◌, ◌≢◌, ◌⊎◌, ℕ, ◌+◌, ◌<◌, ◌≤◌, List, Option, None, Some, length}
 use Rattle.std.specs.List.{Contains}
-use Rattle.cellset.specs.{Cell.opposite, CellSet.Cells, CellSet.Has, CellSet.Lacks, declared.cell.Cell.Cell}
+use Rattle.cellset.specs.{CellSet.Cells, CellSet.Has, CellSet.Lacks, declared.cell.Cell.Cell, declared.dir.Dir.Dir}
 use Rattle.reach.specs.declared.pushes.Push.{Push}
-use Rattle.certificates.specs.CellLists.{cell_no, cells_in}
+use Rattle.certificates.specs.CellLists.{cells_in}
 use Rattle.certificates.specs.Pattern.{IsCovered, PushesOut}
-use Rattle.closure.specs.{Run.state_after, Sides.toward, Trap.AreOff, Tables.AreTables, Tables.GroupCovers, GroupPushes.AreNoted}
+use Rattle.closure.specs.{Run.state_after, Trap.AreOff, Tables.AreTables, Tables.GroupCovers, GroupPushes.AreNoted}
 use Rattle.closure.specs.{Place.IsPlace, Place.IsSubset, Search.IsPassed, Search.IsSearch, declared.buckets.Buckets.Buckets, declared.place.Place.Place}
 use Rattle.closure.specs.{declared.task.Task.Task, declared.unsettled.Ahead.Ahead, declared.unsettled.Unsettled.Unsettled}
 use Rattle.closure.specs.declared.unsettled.Missing.{Missing, TheVariants.Nothing, TheVariants.One, TheVariants.More}
@@ -48,6 +48,12 @@ abbrev pub CoversNone : {S : Type 0} → Task S → ℕ → List Push → Type 0
 CoversNone task g pushes =
     (push : Push) → Contains pushes push → GroupCovers task.tables.now.board.now task.tables.now.groups g (state_after (cells_in task.boxes.now) push) → ⊥
 
+-- the group covers the result of none of these pushes in the direction
+abbrev pub CoversNoneToward : {S : Type 0} → Task S → ℕ → Dir → List Push → Type 0
+CoversNoneToward task g dir pushes =
+    (push : Push) → Contains pushes push → push.dir ≡ dir → GroupCovers task.tables.now.board.now task.tables.now.groups g (state_after (cells_in task.boxes.now) push)
+    → ⊥
+
 -- the pushes of a group are being settled; each group that the search has passed is inside, or covers the result of no push that isn't settled
 pub record IsSettling {S : Type 0} (task : Task S) (buckets : Buckets) (u : Unsettled) : Type 0 where
   pub away : AreOpen task u.away.items
@@ -82,18 +88,17 @@ pub record IsParted (Part : Cell → Type 0) (old new : Unsettled) : Type 0 wher
   pub search : new.search ≡ old.search
   pub inside : new.inside ≡ old.inside
 
--- the push leads to the cell, from a side on which the region lies
+-- the push moves a box as it says
 abbrev pub LeadsTo : Option Ahead → Push → Type 0
 LeadsTo None push = Unit {0}
-LeadsTo (Some ahead) push = (push.to ≡ ahead.to) × IsTrue (toward ahead.sides (opposite push.dir))
+LeadsTo (Some ahead) push = (push.from ≡ ahead.from) × (push.to ≡ ahead.to)
 
--- the push moves a box that isn't among these, and leads to the cell ahead if there is one
+-- the push moves a box that isn't among these, and moves it as `ahead` says, if it says anything
 abbrev pub IsMet : List Cell → Option Ahead → Push → Type 0
 IsMet kept ahead push = Lacks (cells_in kept) push.from × LeadsTo ahead push
 
 -- which boxes of a list aren't among these
 abbrev pub Misses : List Cell → Cells → Missing → Type 0
 Misses kept boxes Nothing = (c : Cell) → Has (cells_in kept) c → Has boxes c
-Misses kept boxes (One number) =
-    (number < length kept) × Lacks boxes (cell_no kept number) × ((c : Cell) → Has (cells_in kept) c → Has boxes c ⊎ (c ≡ cell_no kept number))
+Misses kept boxes (One to) = Has (cells_in kept) to × Lacks boxes to × ((c : Cell) → Has (cells_in kept) c → Has boxes c ⊎ (c ≡ to))
 Misses kept boxes More = (c d : Cell) × Has (cells_in kept) c × Has (cells_in kept) d × (c ≢ d) × Lacks boxes c × Lacks boxes d

@@ -1,26 +1,26 @@
 //! The regions of the groups.
 //!
 //! For each group one flood of the room without its boxes finds its region. If the boxes part nothing, or a line says `*`, the region is
-//! all that is free, and nothing is flooded. The rows of the region are kept (`kept`), and on which sides of the boxes it lies.
-ghost use Rattle.std.specs.Prelude.{◌≡◌, ◌+◌, ◌++◌, ◌<◌, ◌≤◌, ◌↔◌, ◌⊎◌, ℕ, List, length, slice_index_or, IfOk, IsTrue, MatchBool, OnOk};
+//! all that is free, and nothing is flooded. The rows of the region are kept (`kept`), and in which directions the boxes can be pushed.
+ghost use Rattle.std.specs.Prelude.{◌≡◌, ◌+◌, ◌++◌, ◌<◌, ◌≤◌, ◌↔◌, ◌⊎◌, ℕ, List, cond, length, slice_index_or, IfOk, IsTrue, MatchBool, OnOk};
 ghost use Rattle.std.specs.FinSet as set;
 ghost use Rattle.cellset.specs.{Cell.IsOn, CellSet.Has, CellSet.Lacks, declared.cell.Cell.Cell as GridCell};
 ghost use Rattle.certificates.specs.CellLists.{cell_no, cells_in};
 ghost use Rattle.certificates.specs.Pattern.{AreLawful};
-ghost use Rattle.closure.specs.{Around.AreSidesJoined, Around.IsFlooded, Around.IsOneComponent, GroupRegions.AreRegions, GroupRegions.no_sides};
+ghost use Rattle.closure.specs.{Around.AreSidesJoined, Around.IsFlooded, Around.IsOneComponent, GroupRegions.AreRegions, GroupRegions.no_ways};
 ghost use Rattle.reach.specs.Region.{Joined};
 ghost use Rattle.board.specs.{Board.IsWellFormed, Game.Level};
 ghost use Rattle.certificates.specs.Pattern.{InPatternRegion, IsLawful};
 ghost use Rattle.closure.specs.{Arena.pattern_in, Component.InComponent, Component.IsFreeOf};
 ghost use Rattle.closure.specs.Groups.{HasSeedsFrom, HasSeedsOnly, HasStar, IsGrouped, list_of};
 ghost use Rattle.closure.specs.Kept.{AreKept, IsThere, KeptHas};
-ghost use Rattle.closure.specs.Sides.{IsAround};
+ghost use Rattle.closure.specs.Ways.{AreWays};
 
 use crate::arena::CellPattern;
 use crate::groups::Groups;
 use crate::kept::{Kept, Region, no_rows};
-use crate::sides::Sides;
 use crate::trap::is_trapped;
+use crate::ways::Ways;
 use board::Board;
 use cellset::{Cell, CellSet, Shape};
 use reach::Rows;
@@ -30,8 +30,8 @@ use std::alloc::{AllocError, Global};
 // The regions of all groups.
 #[derive(Debug, Drop)]
 pub(crate) struct Regions {
-    // By box in the vector of all boxes: on which sides of it the region of its group lies.
-    pub sides: Vec<Sides>,
+    // By box in the vector of all boxes, in which directions it can be pushed out of its group.
+    pub ways: Vec<Ways>,
     pub of: Vec<Region>,
     pub kept: Kept,
 }
@@ -57,7 +57,7 @@ pub(crate) fn find_regions<S: CellSet>(
 {
     let room = board.room_rows();
     let trapless = trap.is_empty();
-    let mut sides = vec![in alloc; Sides::default(); groups.arena.boxes.len()]?;
+    let mut ways = vec![in alloc; Ways::default(); groups.arena.boxes.len()]?;
     let mut of = Vec::with_capacity(alloc, groups.spans.len())?;
     let mut kept = Kept::new(alloc, board.shape());
     let mut flood = Flood::new(alloc, board.shape())?;
@@ -69,12 +69,12 @@ pub(crate) fn find_regions<S: CellSet>(
         }
         flood.take_out(room, boxes);
         let whole = flood.find_region(groups, group);
-        let region = flood.found(whole);
-        note_sides(region, boxes, groups.spans[group].from as usize, &mut sides);
+        let from = groups.spans[group].from as usize;
+        flood.note_ways(whole, boxes, from, &mut ways);
         of.push_reserved(flood.keep(whole, &mut kept)?);
     }
     drop(flood);
-    Ok(Regions { sides, of, kept })
+    Ok(Regions { ways, of, kept })
 }
 
 impl Flood {
@@ -211,6 +211,36 @@ impl Flood {
         kept.keep(&self.region, &mut self.free)
     }
 
+    // Notes in which directions each box can be pushed by a player in the region that was found, in the entries from this one on.
+    fn note_ways(&self, whole: bool, boxes: &[Cell], from: usize, ways: &mut Vec<Ways>)
+        requires region { self.now.region.extent ≡ self.now.free.extent }
+        requires boxes { (c : GridCell) → Has (cells_in boxes.now) c → IsOn self.now.free.extent c }
+        requires room { from + length boxes.now ≤ length ways.old.items }
+        ensures long { length ways.new.items ≡ length ways.old.items }
+        ensures noted { (i : ℕ) → i < length boxes.now → AreWays (Has (cond whole self.now.free.members self.now.region.members))
+            (Has self.now.free.members) (cell_no boxes.now i) (slice_index_or ways.new.items (from + i) no_ways) }
+        ensures kept { (k : ℕ) → k < from → slice_index_or ways.new.items k no_ways ≡ slice_index_or ways.old.items k no_ways }
+    {
+        for number in 0..boxes.len() {
+            ways[from + number] = self.ways_at(whole, boxes[number]);
+        }
+    }
+
+    // Returns in which directions a box on a cell can be pushed by a player in the region that was found.
+    #[inline]
+    fn ways_at(&self, whole: bool, cell: Cell) -> Ways
+        requires region { self.now.region.extent ≡ self.now.free.extent }
+        requires cell { IsOn self.now.free.extent cell }
+        ensures { AreWays (Has (cond whole self.now.free.members self.now.region.members)) (Has self.now.free.members) cell result }
+    {
+        let to = self.free.ring(cell);
+        if whole {
+            return Ways::new(to, to);
+        }
+        let by = self.region.ring(cell);
+        Ways::new(by, to)
+    }
+
     // Returns the region that was found: all that is free, or the rows of the region.
     pub(crate) fn found(&self, whole: bool) -> &Rows
         requires { self.now.region.extent ≡ self.now.free.extent }
@@ -218,35 +248,6 @@ impl Flood {
         ensures members { MatchBool whole (result.now.members ≡ self.now.free.members) (result.now.members ≡ self.now.region.members) }
     {
         if whole { &self.free } else { &self.region }
-    }
-}
-
-// Notes on which sides of each box a region lies, in the entries from this one on.
-fn note_sides(region: &Rows, boxes: &[Cell], from: usize, sides: &mut Vec<Sides>)
-    requires boxes { (c : GridCell) → Has (cells_in boxes.now) c → IsOn region.now.extent c }
-    requires room { from + length boxes.now ≤ length sides.old.items }
-    ensures long { length sides.new.items ≡ length sides.old.items }
-    ensures noted { (i : ℕ) → i < length boxes.now
-        → IsAround (Has region.now.members) (cell_no boxes.now i) (slice_index_or sides.new.items (from + i) no_sides) }
-    ensures kept { (k : ℕ) → k < from → slice_index_or sides.new.items k no_sides ≡ slice_index_or sides.old.items k no_sides }
-{
-    for number in 0..boxes.len() {
-        sides[from + number] = sides_at(region, boxes[number]);
-    }
-}
-
-// Returns on which sides of a cell a region lies.
-#[inline]
-fn sides_at(region: &Rows, cell: Cell) -> Sides
-    requires { IsOn region.now.extent cell }
-    ensures { IsAround (Has region.now.members) cell result }
-{
-    let ring = region.ring(cell);
-    Sides {
-        left: ring.left,
-        up: ring.up,
-        right: ring.right,
-        down: ring.down,
     }
 }
 

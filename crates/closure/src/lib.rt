@@ -14,16 +14,18 @@
 //!    box on it. If each line has a box on the trap and the start has one there too, the list is closed (`checking`).
 //! 3. **Groups**: lines with the same boxes are one group, found by a hash (`groups`, `hints`, `chains`). One flood for each group off the
 //!    trap finds its region, unless all that is free is in one component or a line says `*` (`group_regions`). Its rows are kept (`kept`),
-//!    so whether a player is in it is one bit, and on which sides of the boxes it lies (`sides`). That makes the tables (`tables`).
+//!    so whether a cell is in it is one bit. In which directions each box can be pushed is noted too (`ways`). That makes the tables
+//!    (`tables`).
 //! 4. **Start**: it is covered if it has a box on the trap, or all boxes of a group are there and its region has the player (`index`).
 //! 5. **Pushes by hints** (`pushes`): if a push leads to the trap, it is covered. Otherwise a hash finds the group of just the boxes after
-//!    the push, and one side of the pushed box decides. Groups of which all pushes are settled are noted as covered. If all are, the list
-//!    is closed. This is so for nearly every list that a program writes.
+//!    the push, and one bit decides: whether its region has the cell that the pushed box leaves. Groups of which all pushes are settled are
+//!    noted as covered. If all are, the list is closed. This is so for nearly every list that a program writes.
 //! 6. **Pushes by lookups** (`lookups`, `settling`, `unsettled`), for each other group, by rising number of boxes. Its pushes are open, and
-//!    other groups settle them. A group settles a push if at most one of its boxes isn't there: none, and its region has the player, and it
-//!    lacks the pushed box; or just the one on the cell ahead, and its region lies on the side from which the box comes. If a group whose
-//!    boxes are all there, with the player in its region, is noted as covered itself, it settles all pushes from the player's component of
-//!    the room less the boxes. A push that is open when all groups were asked isn't covered. If none is open, the group is noted as covered.
+//!    other groups settle them. A group covers the result of a push exactly if each of its boxes is there or is where the push leads, and its
+//!    region has the cell that the pushed box leaves. If all boxes of a group are there and its region has the player, it covers the results
+//!    of the pushes from the player's component of the room less the boxes that move boxes which it lacks; and if it is noted as covered
+//!    itself, the list covers those of all. A push that is open when all groups were asked isn't covered. If none is open, the group is noted
+//!    as covered.
 //! 7. At last the lines are gone through up to the first fault. If a line's group isn't noted, its pushes are settled again. The line gets
 //!    a flood of its own, and the first push left by a player in it is the fault.
 //!
@@ -60,11 +62,11 @@ mod pushes;
 mod scan;
 mod search;
 mod settling;
-mod sides;
 mod tables;
 mod task;
 mod trap;
 mod unsettled;
+mod ways;
 mod zone;
 
 pub use checking::Accepted;

@@ -1,33 +1,29 @@
 //! The pushes out of groups, and whether the trap and hints show that the list covers their results.
 //!
-//! After a push the player is beside the box that was pushed. So the group of just the boxes after the push covers the result
-//! exactly if its region lies on that side of that box. Hints find such a group. Lookups settle the others (`settling`).
-ghost use Rattle.std.specs.Prelude.{◌≡◌, ◌<◌, ◌↔◌, IsTrue, IfSome, MatchOption, length};
+//! After a push the player is on the cell that the pushed box left. So the group of just the boxes after the push covers the result exactly if
+//! its region has that cell. Hints find such a group. Lookups settle the others (`settling`).
+ghost use Rattle.std.specs.Prelude.{◌≡◌, ◌<◌, IsTrue, IfSome, length};
 ghost use Rattle.cellset.specs.{CellSet.Has, CellSet.Lacks, declared.cell.Cell.Cell as GridCell};
-ghost use Rattle.reach.specs.Region.{IsFree};
 ghost use Rattle.board.specs.Game.{moved};
 ghost use Rattle.certificates.specs.CellLists.{cell_no, cells_in};
 ghost use Rattle.certificates.specs.Pattern.{IsCovered, CoversPushesOf};
 ghost use Rattle.closure.specs.{Run.state_after, Groups.list_of, Groups.position_at};
-ghost use Rattle.closure.specs.GroupPushes.{AreNoted, CoversFrom, CoversToward, HasNoPush, IsPushAt, IsPushedBox, IsStepBack, pushed_cell};
+ghost use Rattle.closure.specs.GroupPushes.{AreNoted, CoversFrom, CoversToward, IsPushedBox, pushed_cell};
 ghost use Rattle.closure.specs.{Tables.AreTables, Trap.AreOff};
 
 use crate::hints::{TRIES, hash_of, hash_with, hash_without};
-use crate::sides::Sides;
 use crate::tables::Tables;
-use board::Board;
 use cellset::{Cell, CellSet, Dir};
-use certificates::{is_same, number_of};
+use certificates::is_same;
 use reach::Push;
 
-// A box of a group, by its number, the hash of the other boxes, and on which sides of it the region lies.
+// A box of a group, by its number, and the hash of the other boxes.
 #[derive(Clone, Copy)]
 struct PushedBox<'a> {
     group: usize,
     boxes: &'a [Cell],
     others: usize,
     number: usize,
-    sides: Sides,
 }
 
 // Notes the groups whose pushes the trap and hints settle.
@@ -53,13 +49,11 @@ fn are_pushes_hinted<S: CellSet>(tables: &Tables<S>, group: usize) -> bool
     }
     let hash = hash_of(boxes);
     for number in 0..boxes.len() {
-        let sides = tables.sides_of(group, number);
         let pushed = PushedBox {
             group,
             boxes,
             others: hash_without(hash, boxes[number]),
             number,
-            sides,
         };
         if !is_hinted_each_way(tables, &pushed) {
             return false;
@@ -71,7 +65,7 @@ fn are_pushes_hinted<S: CellSet>(tables: &Tables<S>, group: usize) -> bool
 // Returns true only if the list covers each push of a box out of its group.
 fn is_hinted_each_way<S: CellSet>(tables: &Tables<S>, pushed: &PushedBox) -> bool
     requires tables { AreTables tables.now }
-    requires pushed { IsPushedBox tables.now.board.now tables.now.groups pushed.now }
+    requires pushed { IsPushedBox tables.now.groups pushed.now }
     requires off { AreOff tables.now.trap.members pushed.now.boxes.now }
     ensures { IsTrue result → CoversFrom tables.now.board.now (list_of tables.now.groups) (position_at tables.now.board.now tables.now.groups pushed.now.group) (pushed_cell pushed.now) }
 {
@@ -93,63 +87,14 @@ fn is_hinted_each_way<S: CellSet>(tables: &Tables<S>, pushed: &PushedBox) -> boo
 #[inline(always)]
 fn is_hinted_toward<S: CellSet>(tables: &Tables<S>, pushed: &PushedBox, dir: Dir) -> bool
     requires tables { AreTables tables.now }
-    requires pushed { IsPushedBox tables.now.board.now tables.now.groups pushed.now }
+    requires pushed { IsPushedBox tables.now.groups pushed.now }
     requires off { AreOff tables.now.trap.members pushed.now.boxes.now }
     ensures { IsTrue result → CoversToward tables.now.board.now (list_of tables.now.groups) (position_at tables.now.board.now tables.now.groups pushed.now.group) (pushed_cell pushed.now) dir }
 {
-    let Some(push) = push_of(tables, pushed, dir) else {
+    let Some(push) = tables.push_of(pushed.group, pushed.number, dir) else {
         return true;
     };
     tables.is_on_trap(push.to) || is_hinted(tables, pushed, push)
-}
-
-// Returns whether a cell is floor without one of the boxes.
-#[tactic(auto, using(certificates::proofs::CellLists::in_list, cellset::proofs::Members::not_both))]
-#[inline(always)]
-fn is_free<S: CellSet>(board: &Board<S>, boxes: &[Cell], cell: Cell) -> bool
-    ensures { IsTrue result ↔ IsFree board.now.shape board.now.walls (cells_in boxes.now) cell }
-{
-    if !board.floor().has(cell) {
-        return false;
-    }
-    match number_of(boxes, cell) {
-        Some(_) => false,
-        None => true,
-    }
-}
-
-// The push of a box in the direction, if it goes out of its group.
-#[inline(always)]
-fn push_of<S: CellSet>(tables: &Tables<S>, pushed: &PushedBox, dir: Dir) -> Option<Push>
-    requires tables { AreTables tables.now }
-    requires pushed { IsPushedBox tables.now.board.now tables.now.groups pushed.now }
-    ensures found { MatchOption result
-        (HasNoPush tables.now.board.now (position_at tables.now.board.now tables.now.groups pushed.now.group) (pushed_cell pushed.now) dir)
-        (IsPushAt tables.now.board.now.shape (pushed_cell pushed.now) dir) }
-    ensures room { IfSome result (λ push. Has tables.now.board.now.room push.player) }
-    ensures free { IfSome result (λ push. Lacks (cells_in pushed.now.boxes.now) push.to) }
-{
-    if !pushed.sides.has(dir.opposite()) {
-        return None;
-    }
-    let shape = tables.board.shape();
-    let from = pushed.boxes[pushed.number];
-    let Some(to) = shape.step(from, dir) else {
-        return None;
-    };
-    // A cell of the region is free.
-    if !pushed.sides.has(dir) && !is_free(tables.board, pushed.boxes, to) {
-        return None;
-    }
-    let Some(player) = shape.step(from, dir.opposite()) else {
-        return None;
-    };
-    Some(Push {
-        player,
-        dir,
-        from,
-        to,
-    })
 }
 
 // Returns the number of the first cell from a number on that is this one.
@@ -165,56 +110,49 @@ fn number_from(cells: &[Cell], from: usize, cell: Cell) -> Option<usize>
     None
 }
 
-// Returns the number of the pushed box among `after`, if these cells have boxes after the push. It tries boxes[number] first, because the
-// lists usually differ in one box, and finds all boxes if both lists are in the same order. A search goes on where the last one ended: lines
-// that agree in 1,500 boxes would take 2.8 s instead of 0.04 s if each search began anew.
-fn number_after(after: &[Cell], pushed: &PushedBox, push: Push) -> Option<usize>
-    ensures { IfSome result (λ number. (number < length after.now) × (cell_no after.now number ≡ push.to)
-        × ((c : GridCell) → Has (cells_in after.now) c → Has (moved (cells_in pushed.now.boxes.now) push.from push.to) c)) }
+// Returns true only if these cells have boxes after a push, and none of them is the cell that the pushed box leaves. It tries boxes[number]
+// first, because the lists usually differ in one box, and finds all boxes if both lists are in the same order. A search goes on where the last
+// one ended: lines that agree in 1,500 boxes would take 2.8 s instead of 0.04 s if each search began anew.
+fn are_after(after: &[Cell], boxes: &[Cell], push: Push) -> bool
+    ensures there { IsTrue result → (c : GridCell) → Has (cells_in after.now) c → Has (moved (cells_in boxes.now) push.from push.to) c }
+    ensures left { IsTrue result → Lacks (cells_in after.now) push.from }
 {
-    let mut found = None;
     let mut passed = 0;
     for (number, at) in after.iter().enumerate() {
+        if is_same(*at, push.from) {
+            return false;
+        }
         if is_same(*at, push.to) {
-            found = Some(number);
             continue;
         }
-        if is_same(*at, push.from) {
-            return None;
-        }
-        if number >= pushed.boxes.len() || !is_same(pushed.boxes[number], *at) {
-            passed = number_from(pushed.boxes, passed, *at)?;
+        if number >= boxes.len() || !is_same(boxes[number], *at) {
+            let Some(found) = number_from(boxes, passed, *at) else {
+                return false;
+            };
+            passed = found;
         }
     }
-    found
+    true
 }
 
-// Returns true only if a group covers the result of a push. Looks only at the sides of the pushed box.
+// Returns true only if a group covers the result of a push.
 #[tactic(auto, using(crate::proofs::Lists::length_more))]
 #[inline(always)]
-fn covers_after<S: CellSet>(
-    tables: &Tables<S>,
-    group: usize,
-    pushed: &PushedBox,
-    push: Push,
-) -> bool
+fn covers_after<S: CellSet>(tables: &Tables<S>, group: usize, boxes: &[Cell], push: Push) -> bool
     requires tables { AreTables tables.now }
     requires group { group < length tables.now.groups.spans.items }
-    requires back { IsStepBack push }
-    requires off { (c : GridCell) → Has (moved (cells_in pushed.now.boxes.now) push.from push.to) c → Lacks tables.now.trap.members c }
-    ensures { IsTrue result → IsCovered tables.now.board.now (list_of tables.now.groups) (state_after (cells_in pushed.now.boxes.now) push) }
+    requires room { Has tables.now.board.now.room push.from }
+    requires off { (c : GridCell) → Has (moved (cells_in boxes.now) push.from push.to) c → Lacks tables.now.trap.members c }
+    ensures { IsTrue result → IsCovered tables.now.board.now (list_of tables.now.groups) (state_after (cells_in boxes.now) push) }
 {
-    match number_after(tables.groups.boxes(group), pushed, push) {
-        Some(number) => tables.sides_of(group, number).has(push.dir.opposite()),
-        None => false,
-    }
+    are_after(tables.groups.boxes(group), boxes, push) && tables.is_inside(group, push.from)
 }
 
 // Returns whether a group that hints name covers the result of a push.
 #[inline(always)]
 fn is_hinted<S: CellSet>(tables: &Tables<S>, pushed: &PushedBox, push: Push) -> bool
     requires tables { AreTables tables.now }
-    requires back { IsStepBack push }
+    requires room { Has tables.now.board.now.room push.from }
     requires off { (c : GridCell) → Has (moved (cells_in pushed.now.boxes.now) push.from push.to) c → Lacks tables.now.trap.members c }
     ensures { IsTrue result → IsCovered tables.now.board.now (list_of tables.now.groups) (state_after (cells_in pushed.now.boxes.now) push) }
 {
@@ -224,7 +162,9 @@ fn is_hinted<S: CellSet>(tables: &Tables<S>, pushed: &PushedBox, push: Push) -> 
             return false;
         };
         if let Some(group) = slot.group_for(hash) {
-            if group < tables.groups.spans.len() && covers_after(tables, group, pushed, push) {
+            if group < tables.groups.spans.len()
+                && covers_after(tables, group, pushed.boxes, push)
+            {
                 return true;
             }
         }

@@ -52,7 +52,7 @@ impl Lookups {
         load_rows(task.boxes, &mut self.place.boxes);
         self.flood
             .take_out(task.tables.board.room_rows(), task.boxes);
-        self.unsettled.begin(task, &self.flood.free)?;
+        self.unsettled.begin(task)?;
         self.unsettled.ask_hints(task, &self.place.boxes);
         Ok(())
     }

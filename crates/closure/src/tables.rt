@@ -1,20 +1,19 @@
 //! The tables of an index: all that is kept of a list of patterns.
-ghost use Rattle.std.specs.Prelude.{◌≡◌, ◌<◌, ◌↔◌, IfOk, IsTrue, MatchBool, length};
-ghost use Rattle.cellset.specs.{CellSet.Has, CellSet.Lacks, declared.cell.Cell.Cell as GridCell};
+ghost use Rattle.std.specs.Prelude.{◌≡◌, ◌<◌, ◌↔◌, IfOk, IsTrue, MatchBool, MatchOption, length};
+ghost use Rattle.cellset.specs.{Cell.IsOn, CellSet.Has, CellSet.Lacks, declared.cell.Cell.Cell as GridCell};
 ghost use Rattle.certificates.specs.CellLists.{cell_no, cells_in};
 ghost use Rattle.certificates.specs.Pattern.{InPatternRegion, AreLawful};
-ghost use Rattle.closure.specs.{Sides.IsAround, Arena.list_in};
+ghost use Rattle.closure.specs.{Arena.list_in, GroupPushes.HasNoPush, GroupPushes.IsPushOf};
 ghost use Rattle.closure.specs.{Trap.AreOff, Trap.IsTrapOf, Groups.boxes_of, Groups.position_at};
 ghost use Rattle.closure.specs.Tables.{AreTables};
 
 use crate::arena::Arena;
 use crate::group_regions::{Regions, find_regions};
 use crate::groups::{Groups, group};
-use crate::sides::Sides;
 use crate::trap::is_trapped;
 use board::Board;
-use cellset::{Cell, CellSet};
-use reach::Rows;
+use cellset::{Cell, CellSet, Dir};
+use reach::{Push, Rows};
 use std::alloc::{AllocError, Global};
 
 // A list of patterns on a board: its trap, its groups, and the regions of the groups without a box on the trap.
@@ -86,26 +85,44 @@ impl<'a, S: CellSet> Tables<'a, S> {
         is_trapped(boxes, &self.trap)
     }
 
-    // Returns on which sides of a box of a group the region of the group lies.
-    pub(crate) fn sides_of(&self, group: usize, number: usize) -> Sides
+    // Returns the push of a box in a direction, if it goes out of its group.
+    #[inline(always)]
+    pub(crate) fn push_of(&self, group: usize, number: usize, dir: Dir) -> Option<Push>
         requires tables { AreTables self.now }
         requires group { group < length self.now.groups.spans.items }
         requires number { number < length (boxes_of self.now.groups group) }
         requires off { AreOff self.now.trap.members (boxes_of self.now.groups group) }
-        ensures { IsAround (InPatternRegion self.now.board.now (position_at self.now.board.now self.now.groups group))
-            (cell_no (boxes_of self.now.groups group) number) result }
+        ensures { MatchOption result
+            (HasNoPush self.now.board.now (position_at self.now.board.now self.now.groups group) (cell_no (boxes_of self.now.groups group) number) dir)
+            (IsPushOf self.now.board.now (position_at self.now.board.now self.now.groups group) (cell_no (boxes_of self.now.groups group) number) dir) }
     {
-        self.regions.sides[self.groups.spans[group].from as usize + number]
+        if !self.regions.ways[self.groups.spans[group].from as usize + number].has(dir) {
+            return None;
+        }
+        let shape = self.board.shape();
+        let from = self.groups.boxes(group)[number];
+        let Some(player) = shape.step(from, dir.opposite()) else {
+            return None;
+        };
+        let Some(to) = shape.step(from, dir) else {
+            return None;
+        };
+        Some(Push {
+            player,
+            dir,
+            from,
+            to,
+        })
     }
 
-    // Returns whether a cell of the room that is no box of a group is in its region.
+    // Returns whether a cell is in the region of a group, if it is in the room and no box of the group.
     pub(crate) fn is_inside(&self, group: usize, cell: Cell) -> bool
         requires tables { AreTables self.now }
         requires group { group < length self.now.groups.spans.items }
         requires off { AreOff self.now.trap.members (boxes_of self.now.groups group) }
-        requires room { Has self.now.board.now.room cell }
-        requires outside { Lacks (cells_in (boxes_of self.now.groups group)) cell }
-        ensures { IsTrue result ↔ InPatternRegion self.now.board.now (position_at self.now.board.now self.now.groups group) cell }
+        requires cell { IsOn self.now.board.now.shape cell }
+        ensures { Has self.now.board.now.room cell → Lacks (cells_in (boxes_of self.now.groups group)) cell
+            → IsTrue result ↔ InPatternRegion self.now.board.now (position_at self.now.board.now self.now.groups group) cell }
     {
         self.regions.kept.has(self.regions.of[group], cell)
     }

@@ -1,19 +1,19 @@
 //! The pushes out of a group that aren't settled, and which of them another group settles.
 //!
-//! A group settles a push if at most one of its boxes isn't there: none, and its region has the player, and it lacks the pushed box; or just
-//! the one on the cell ahead, and its region lies on the side of it from which the box comes. If the group covers the player and is noted as
-//! covered itself, it settles all pushes from the component.
+//! A group covers the result of a push exactly if each of its boxes is there or is where the push leads, and its region has the cell that the
+//! pushed box leaves. If the boxes are all there, the player of the push decides, who is beside that cell, and so do the other players of the
+//! component. If the group covers them and is noted as covered itself, it settles all pushes from the component.
 ghost use Rattle.std.specs.Prelude.{◌≡◌, ◌⊎◌, ◌↔◌, ◌<◌, ◌≤◌, IsTrue, MatchBool, OnOk, Option, length};
 ghost use Rattle.std.specs.List.{Contains};
 ghost use Rattle.reach.specs.declared.pushes.Push.{Push as OutPush};
 ghost use Rattle.certificates.specs.CellLists.{cell_no, cells_in};
-ghost use Rattle.closure.specs.{Place.IsSubset, Component.AreInComponent, Component.InComponent, Component.IsFreeOf};
-ghost use Rattle.closure.specs.Settling.{AreOpen, CoversNone, HasAsked, IsMet, IsPlaceOf, IsPushOut, IsParted, IsSettled, IsSettling, IsTask, LeadsTo, Misses};
+ghost use Rattle.closure.specs.{Groups.boxes_of, Place.IsSubset, Component.AreInComponent, Component.InComponent, Trap.AreOff};
+ghost use Rattle.closure.specs.Settling.{AreOpen, CoversNone, CoversNoneToward, HasAsked, IsMet, IsPlaceOf, IsPushOut, IsParted, IsSettled, IsSettling, IsTask, LeadsTo, Misses};
+ghost use Rattle.closure.specs.declared.unsettled.Missing.TheVariants.{One};
 
 use crate::group_regions::Flood;
 use crate::place::Place;
 use crate::search::Search;
-use crate::sides::Sides;
 use crate::task::Task;
 use cellset::{Cell, CellSet, Dir};
 use certificates::{is_same, number_of};
@@ -34,40 +34,35 @@ pub(crate) struct Unsettled {
     pub last: usize,
 }
 
-// The one box of a group that isn't there, and on which sides of it the region of the group lies.
+// A move of a box from a cell to another.
 #[derive(Clone, Copy, Debug, PartialEq, Eq)]
 pub(crate) struct Ahead {
+    pub from: Cell,
     pub to: Cell,
-    pub sides: Sides,
 }
 
 // Which boxes of a group aren't there.
 #[derive(Clone, Copy, Debug, PartialEq, Eq)]
 pub(crate) enum Missing {
     Nothing,
-    // The box with this number.
-    One(usize),
+    // The box on this cell.
+    One(Cell),
     More,
 }
 
 impl Unsettled {
-    // Opens the pushes out of a group, but those to the trap, and begins the search. `free` is the room less the boxes.
-    pub(crate) fn begin<S: CellSet>(
-        &mut self,
-        task: &Task<S>,
-        free: &Rows,
-    ) -> Result<(), AllocError>
+    // Opens the pushes out of a group, but those to the trap, and begins the search.
+    pub(crate) fn begin<S: CellSet>(&mut self, task: &Task<S>) -> Result<(), AllocError>
         requires task { IsTask task.now }
-        requires free { IsFreeOf task.now.tables.now.board.now (cells_in task.now.boxes.now) free.now }
         ensures settling { OnOk result ((buckets : _) → IsSettling task.now buckets self.new) }
         ensures all { OnOk result ((push : OutPush) → IsPushOut task.now push → Contains self.new.away.items push ⊎ IsSettled task.now push) }
     {
         self.away.clear();
         for number in 0..task.boxes.len() {
-            self.open_toward(task, free, number, Dir::L)?;
-            self.open_toward(task, free, number, Dir::U)?;
-            self.open_toward(task, free, number, Dir::R)?;
-            self.open_toward(task, free, number, Dir::D)?;
+            self.open_toward(task, number, Dir::L)?;
+            self.open_toward(task, number, Dir::U)?;
+            self.open_toward(task, number, Dir::R)?;
+            self.open_toward(task, number, Dir::D)?;
         }
         self.here.clear();
         self.inside.clear();
@@ -79,12 +74,10 @@ impl Unsettled {
     fn open_toward<S: CellSet>(
         &mut self,
         task: &Task<S>,
-        free: &Rows,
         number: usize,
         dir: Dir,
     ) -> Result<(), AllocError>
         requires task { IsTask task.now }
-        requires free { IsFreeOf task.now.tables.now.board.now (cells_in task.now.boxes.now) free.now }
         requires number { number < length task.now.boxes.now }
         requires away { AreOpen task.now self.old.away.items }
         ensures away { OnOk result (AreOpen task.now self.new.away.items) }
@@ -92,29 +85,13 @@ impl Unsettled {
         ensures all { OnOk result ((push : OutPush) → IsPushOut task.now push → push.from ≡ cell_no task.now.boxes.now number → push.dir ≡ dir
             → Contains self.new.away.items push ⊎ IsSettled task.now push) }
     {
-        let shape = task.tables.board.shape();
-        if !task.tables.sides_of(task.group, number).has(dir.opposite()) {
-            return Ok(());
-        }
-        let from = task.boxes[number];
-        let Some(player) = shape.step(from, dir.opposite()) else {
+        let Some(push) = task.tables.push_of(task.group, number, dir) else {
             return Ok(());
         };
-        let Some(to) = shape.step(from, dir) else {
-            return Ok(());
-        };
-        if !free.has(to) {
+        if task.tables.is_on_trap(push.to) {
             return Ok(());
         }
-        if task.tables.is_on_trap(to) {
-            return Ok(());
-        }
-        self.away.push(Push {
-            player,
-            dir,
-            from,
-            to,
-        })?;
+        self.away.push(push)?;
         Ok(())
     }
 
@@ -153,22 +130,54 @@ impl Unsettled {
         match find_missing(kept, boxes) {
             Missing::Nothing => true,
             Missing::More => false,
-            Missing::One(number) => {
-                // The sides of a group with a box on the trap aren't known, and it covers none of these pushes.
+            Missing::One(to) => {
+                // What is kept of a group with a box on the trap isn't its region, and it covers none of these pushes.
                 if !task.tables.is_trapped(kept) {
-                    let ahead = Ahead {
-                        to: kept[number],
-                        sides: task.tables.sides_of(group, number),
-                    };
-                    // Without this, each look goes through all open pushes.
-                    if ahead.sides.has_any() {
-                        take_met(&mut self.here, kept, Some(ahead));
-                        take_met(&mut self.away, kept, Some(ahead));
-                    }
+                    self.settle_ahead(task, boxes, group, to, Dir::L);
+                    self.settle_ahead(task, boxes, group, to, Dir::U);
+                    self.settle_ahead(task, boxes, group, to, Dir::R);
+                    self.settle_ahead(task, boxes, group, to, Dir::D);
                 }
                 false
             }
         }
+    }
+
+    // Settles the push in a direction to the one box of a group that isn't there, if the group covers its result.
+    #[inline(always)]
+    fn settle_ahead<S: CellSet>(
+        &mut self,
+        task: &Task<S>,
+        boxes: &Rows,
+        group: usize,
+        to: Cell,
+        dir: Dir,
+    )
+        requires task { IsTask task.now }
+        requires boxes { boxes.now.members ≡ cells_in task.now.boxes.now }
+        requires group { group < length task.now.tables.now.groups.spans.items }
+        requires off { AreOff task.now.tables.now.trap.members (boxes_of task.now.tables.now.groups group) }
+        requires misses { Misses (boxes_of task.now.tables.now.groups group) (cells_in task.now.boxes.now) (One to) }
+        requires away { AreOpen task.now self.old.away.items }
+        requires here { AreOpen task.now self.old.here.items }
+        ensures asked { HasAsked task.now self.old self.new }
+        ensures none_away { CoversNoneToward task.now group dir self.new.away.items }
+        ensures none_here { CoversNoneToward task.now group dir self.new.here.items }
+    {
+        let Some(from) = task.tables.board.shape().step(to, dir.opposite()) else {
+            return;
+        };
+        // Without this, each look goes through all open pushes.
+        if !boxes.has(from) {
+            return;
+        }
+        if !task.tables.is_inside(group, from) {
+            return;
+        }
+        let kept = task.tables.groups.boxes(group);
+        let ahead = Ahead { from, to };
+        take_met(&mut self.here, kept, Some(ahead));
+        take_met(&mut self.away, kept, Some(ahead));
     }
 
     // Settles the pushes from the component that a group covers whose boxes are all there, or all of them if its own pushes are covered.
@@ -216,7 +225,7 @@ fn find_missing(kept: &[Cell], boxes: &Rows) -> Missing
     }
     match missing {
         None => Missing::Nothing,
-        Some(number) => Missing::One(number),
+        Some(number) => Missing::One(kept[number]),
     }
 }
 
@@ -253,13 +262,13 @@ fn is_met(push: Push, kept: &[Cell], ahead: Option<Ahead>) -> bool
     }
 }
 
-// Returns whether a push leads to the cell ahead, if there is one, from a side on which the region lies.
+// Returns whether a push leads ahead, if there is something ahead.
 #[inline(always)]
 fn leads_to(push: Push, ahead: Option<Ahead>) -> bool
     ensures { IsTrue result ↔ LeadsTo ahead push }
 {
     match ahead {
         None => true,
-        Some(ahead) => is_same(push.to, ahead.to) && ahead.sides.has(push.dir.opposite()),
+        Some(ahead) => is_same(push.from, ahead.from) && is_same(push.to, ahead.to),
     }
 }

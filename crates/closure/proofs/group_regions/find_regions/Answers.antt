@@ -1,17 +1,17 @@
--- The invariant says that for each group so far the sides and the facts about its region are noted, and that the rows of the flood are on
+-- The invariant says that for each group so far the ways and the facts about its region are noted, and that the rows of the flood are on
 -- the grid. A turn makes the room without the boxes of a group free, which are on the grid because the group is lawful; the room is in one
 -- component at first (`Components.antt`). The flood finds the region of the group's position (`reached_position` in `Grouped.antt`). The boxes of a
--- group come after the boxes of earlier groups, so their sides stay when its own are noted.
-use Rattle.std.proofs.Common.{◌≡◌, ℕ, ◌+◌, ◌<◌, List, [], ◌∷◌, ◌++◌, length, get_or, sym, ◌∙◌, ap, subst, arith}
+-- group come after the boxes of earlier groups, so their ways stay when its own are noted.
+use Rattle.std.proofs.Common.{◌≡◌, ℕ, ◌+◌, ◌<◌, List, [], ◌∷◌, ◌++◌, cond, length, get_or, refl, sym, ◌∙◌, ap, subst, arith}
 use Rattle.std.proofs.lemmas.{List.length-drop, List.length-take}
 use Rattle.std.specs.Prelude.{◌↔◌, Bool, MatchBool, false, true}
 use Rattle.std.proofs.lemmas.List.{get_or_default}
-use Rattle.cellset.specs.{Cell.neighbor, CellSet.Cells, CellSet.Has, CellSet.Lacks, declared.cell.Cell.Cell}
+use Rattle.cellset.specs.{Cell.neighbor, Cell.opposite, CellSet.Cells, CellSet.Has, CellSet.Lacks, declared.cell.Cell.Cell}
 use Rattle.cellset.proofs.{Members.not_both, Truth.either}
 use Rattle.certificates.specs.CellLists.{cell_no, cells_in}
 use Rattle.certificates.specs.Pattern.{InPatternRegion}
 use Rattle.closure.specs.{Spans.AreSpans, Spans.part, Spans.span_at, Around.IsFlooded}
-use Rattle.closure.specs.{GroupRegions.AreSidesAt, GroupRegions.IsRegionAt, Groups.boxes_of, Groups.position_at, Trap.AreOff}
+use Rattle.closure.specs.{GroupRegions.AreWaysAt, GroupRegions.IsRegionAt, Groups.boxes_of, Groups.position_at, Trap.AreOff}
 use Rattle.board.specs.{Board.IsWellFormed, Game.Level}
 use Rattle.closure.specs.{Kept.AreKept, Kept.IsThere, Kept.KeptHas, Kept.parts_of, Kept.rows_of, declared.groups.Groups.Groups, declared.kept.Kept.Kept}
 use Rattle.closure.proofs.KeptRows.{column_in, has_more, there_more}
@@ -27,10 +27,17 @@ span_end cells spans inside g lt = grind (arith, length-take, length-drop)
 span_read : (spans : List Span) (g : ℕ) (span : Span) → g < length spans → span ≡ get_or spans g span → span.from ≡ (span_at spans g).from
 span_read spans g span lt read = grind (arith, get_or_default, no_span)
 
+choice : (b : Bool) (x y : Cells) → MatchBool b (cond b x y ≡ x) (cond b x y ≡ y)
+choice true x y = refl
+choice false x y = refl
+
 -- what holds for either of two sets holds for the one that was chosen
 chosen_has : (P : Cells → Type 0) (b : Bool) (x y z : Cells) → MatchBool b (z ≡ x) (z ≡ y) → MatchBool b (P x) (P y) → P z
 chosen_has P true x y z is has = rw is has
 chosen_has P false x y z is has = rw is has
+
+both : (A B P Q : Type 0) → A ↔ P → B ↔ Q → (A × B) ↔ (P × Q)
+both A B P Q first second = (λ h. (first.0 h.0, second.0 h.1), λ h. (first.1 h.0, second.1 h.1))
 
 -- what was found and kept says of a free cell whether it is in the region
 told : (b : Bool) (free part region : Cells) (c : Cell) (K : Type 0) → MatchBool b (region ≡ free) (region ≡ part) → MatchBool b K (K ↔ Has part c) → Has free c
@@ -79,13 +86,14 @@ take_out-requires g c =
 pub find_region-whole-requires : goal.find_region-whole-requires
 find_region-whole-requires g c = grind arith
 
-pub note_sides-requires : goal.note_sides-requires
-note_sides-requires g c =
+pub note_ways-requires : goal.note_ways-requires
+note_ways-requires g c =
     let groups = c.args.groups.now in
     let lt = rw (c.len-group-end.ensures ∙ groups.spans.ok.0) at c.loop-group-test.true in
-    let on : c.found-region.result.now.extent ≡ c.args.board.now.shape = cc in
+    let on : c.find_region-whole.new.self.free.extent ≡ c.args.board.now.shape = cc in
     record {
       boxes = λ q box. rw on (boxes_on c.args.board.now groups c.requires.lawful c.requires.groups c.loop-group.group lt _ c.boxes-boxes.ensures q box);
+      region = cc;
       room = rw c.boxes-boxes.ensures (
           let cells = groups.arena.boxes.items in
           let spans = groups.spans.items in
@@ -108,19 +116,21 @@ loop-group-preserved g c =
     let found = c.find_region-whole.ensures in
     let formed = c.shape.ensures.formed in
     let free = c.take_out.new.self.free.members in
-    let region = c.found-region.result.now.members in
+    let whole = c.find_region-whole.result in
+    let part = c.find_region-whole.new.self.region.members in
+    let region = cond whole free part in
     let is_free : (q : Cell) → Has free q ↔ (Has level.room q × Lacks (cells_in (boxes_of groups n)) q) = λ q.
     rw (← c.boxes-boxes.ensures, ← c.room_rows-room.ensures.members) (c.take_out.ensures.free q) in
-    let chosen = rw found.same.0 at c.found-region.ensures.members in
-    let exact : IsFlooded groups n free region = chosen_has (IsFlooded groups n free) c.find_region-whole.result _ _ region chosen found.exact in
+    let chosen = choice whole free part in
+    let exact : IsFlooded groups n free region = chosen_has (IsFlooded groups n free) whole _ _ region chosen found.exact in
     let position : (q : Cell) → Has region q ↔ InPatternRegion level (position_at level groups n) q = λ q.
     through (exact q) (reached_position level formed groups c.requires.groups c.requires.lawful n (Has free) is_free q) in
     let cells = groups.arena.boxes.items in
     let spans = groups.spans.items in
     let inside = c.requires.groups.all.inside in
     let from = span_read spans n c.index.result.now lt c.index.ensures in
-    let sides = c.note_sides.new.sides.items in
-    let noted = rw (c.boxes-boxes.ensures, from) at c.note_sides.ensures.noted in
+    let ways = c.note_ways.new.ways.items in
+    let noted = rw (c.boxes-boxes.ensures, from, found.same.0) at c.note_ways.ensures.noted in
     let old_kept = c.loop-group.kept in
     let new_kept = c.keep.new.kept in
     let kept = c.in_ok-keep.ensures in
@@ -131,24 +141,25 @@ loop-group-preserved g c =
     let here : IsRegionAt level trap groups new_kept n new = record {
       there = kept.there;
       says = λ _ q in_room lacks.
-          let part = c.find_region-whole.new.self.region.members in
           let is_open = (is_free q).1 (in_room, lacks) in
           let said = kept.exact q (rw found.same.0 is_open) (rw shape (formed.room q in_room).0) in
-          through (told c.find_region-whole.result free part region q (KeptHas new_kept new q) chosen said is_open) (position q);
+          through (told whole free part region q (KeptHas new_kept new q) chosen said is_open) (position q);
     } in
     record {
       free_on = kept.extent ∙ shape;
       region_on = rw (kept.region, found.same.1, c.take_out.ensures.same.1) inv.region_on;
       kept = are;
-      long = c.note_sides.ensures.long ∙ inv.long;
+      long = c.note_ways.ensures.long ∙ inv.long;
       count = rw c.push_reserved-in-loop-group.ensures.items (length_more c.loop-group.of.items new ∙ ap (λ k. k + 1) inv.count);
       roomy = rw c.push_reserved-in-loop-group.ensures.capacity inv.roomy;
-      sides = one_more (λ k. AreSidesAt level trap groups k sides) n
+      ways = one_more (λ k. AreWaysAt level trap groups k ways) n
           (λ k before off i within.
           let end = span_end cells spans inside k (omega arith) in
           let apart = inside.apart n k lt before in
-          rw (← (c.note_sides.ensures.kept ((span_at spans k).from + i) (omega arith))) at (inv.sides k before off i within))
-          (λ _ i within d. through (noted i within d) (position (neighbor (cell_no (boxes_of groups n) i) d)));
+          rw (← (c.note_ways.ensures.kept ((span_at spans k).from + i) (omega arith))) at (inv.ways k before off i within))
+          (λ _ i within d.
+          let cell = cell_no (boxes_of groups n) i in
+          through (noted i within d) (both _ _ _ _ (position (neighbor cell (opposite d))) (is_free (neighbor cell d))));
       each = region_more (IsRegionAt level trap groups new_kept) c.loop-group.of.items _ new n inv.count c.push_reserved-in-loop-group.ensures.items
           (λ k r before. still_there level trap groups formed old_kept new_kept kept.grown.0 inv.kept.parts parts kept.grown.1 k _ (inv.each k r before)) here;
     }
@@ -170,7 +181,7 @@ loop-group-preserved-then-is_trapped g c =
       long = inv.long;
       count = rw c.push_reserved.ensures.items (length_more c.loop-group.of.items new ∙ ap (λ k. k + 1) inv.count);
       roomy = rw c.push_reserved.ensures.capacity inv.roomy;
-      sides = one_more (λ k. AreSidesAt level trap groups k c.loop-group.sides.items) n inv.sides (λ off. absurd (on off));
+      ways = one_more (λ k. AreWaysAt level trap groups k c.loop-group.ways.items) n inv.ways (λ off. absurd (on off));
       each = region_more (IsRegionAt level trap groups c.loop-group.kept) c.loop-group.of.items _ new n inv.count c.push_reserved.ensures.items inv.each
           (record { there = none_there c.loop-group.kept new c.no_rows.ensures.none c.no_rows.ensures.begin; says = λ off. absurd (on off) });
     }
@@ -190,7 +201,7 @@ returns g c =
       kept = inv.kept;
       long = inv.long;
       count = inv.count ∙ end;
-      sides = λ k lt. inv.sides k (omega arith);
+      ways = λ k lt. inv.ways k (omega arith);
       each = λ k r lt. inv.each k r (omega arith);
     }
 

@@ -32,14 +32,15 @@ returns-then-is_among g c = (
 pub is_inside-requires-clause-off : goal.is_inside-requires-clause-off
 is_inside-requires-clause-off g c = λ q has. c.requires.off q (c.if-not-are_in.ensures q (rw c.boxes-kept.ensures has))
 
-pub is_inside-requires-clause-outside : goal.is_inside-requires-clause-outside
-is_inside-requires-clause-outside g c = rw c.boxes-kept.ensures at c.if-is_among.ensures
+pub is_inside-requires-clause-cell : goal.is_inside-requires-clause-cell
+is_inside-requires-clause-cell g c = (c.requires.tables.formed.room c.args.player c.requires.player).0
 
 pub returns : goal.returns
-returns g c = (
-  λ yes. record {
-    boxes = λ q h. c.if-not-are_in.ensures q (rw c.boxes-kept.ensures h);
-    player = c.is_inside.ensures.0 yes;
-  },
-  λ covers. c.is_inside.ensures.1 covers.player,
-)
+returns g c =
+    let inside = c.is_inside.ensures c.requires.player (rw c.boxes-kept.ensures at c.if-is_among.ensures) in (
+      λ yes. record {
+        boxes = λ q h. c.if-not-are_in.ensures q (rw c.boxes-kept.ensures h);
+        player = inside.0 yes;
+      },
+      λ covers. inside.1 covers.player,
+    )

@@ -1,6 +1,5 @@
 -- A group with a box on the trap needs no look (`trapped_pushes`). The invariant says that the list covers the pushes of each box so far out
--- of any other group. The tables have the sides of the next box on which the region lies
--- (`sides_of`), so `is_hinted_each_way` may be called for it. Every push out of the group moves one of its boxes, so after the loop the list
+-- of the group. Every push out of the group moves one of its boxes, so after the loop the list
 -- covers them all (`covered_each_box`). The result false claims nothing.
 use borrow.Author.Count.{below_more}
 use Rattle.std.proofs.Common.{ap}
@@ -34,6 +33,6 @@ loop-number-preserved g c =
 pub is_hinted_each_way-requires : goal.is_hinted_each_way-requires
 is_hinted_each_way-requires g c = record {
   tables = c.requires.tables;
-  pushed = record { group = c.requires.group; boxes = c.boxes-boxes.ensures; number = c.loop-number-test.true; sides = rw c.boxes-boxes.ensures c.sides_of-sides.ensures };
+  pushed = record { group = c.requires.group; boxes = c.boxes-boxes.ensures; number = c.loop-number-test.true };
   off = c.if-is_trapped.ensures;
 }

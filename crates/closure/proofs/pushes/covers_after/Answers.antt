@@ -1,17 +1,18 @@
-use Rattle.std.proofs.Common.{sym, ◌∙◌, ap, subst}
-use Rattle.cellset.specs.Cell.{neighbor, opposite}
-use Rattle.certificates.specs.CellLists.{cell_no, cells_in}
-use Rattle.certificates.specs.Pattern.{InPatternRegion}
-use Rattle.closure.{specs.Groups.position_at, proofs.GroupPushes.covers_result}
+use Rattle.closure.proofs.{GroupPushes.covers_result}
+use Rattle.certificates.specs.CellLists.{cells_in}
 use Rattle.closure.proofs.pushes.covers_after.Goals as goal
 
-pub returns-in-Some : goal.returns-in-Some
-returns-in-Some g c = λ has.
-    let level = c.args.tables.now.board.now in
-    let tables = c.args.tables.now in
-    let push = c.args.push in
-    let at = ap (λ l. cell_no l c.in-Some.number) (sym c.boxes.ensures) ∙ c.in-Some.ensures.1 in
-    let lies = rw c.opposite.ensures at c.has.ensures in
-    covers_result tables c.requires.tables c.args.group (cells_in c.args.pushed.now.boxes.now) push c.requires.back (rw c.boxes.ensures at c.in-Some.ensures.2)
-    (subst (λ q. InPatternRegion level (position_at level tables.groups c.args.group) (neighbor q (opposite push.dir))) at
-    ((c.sides_of.ensures (opposite push.dir)).0 (sym lies ∙ has)))
+pub is_inside-requires : goal.is_inside-requires
+is_inside-requires g c = record {
+  tables = c.requires.tables;
+  group = c.requires.group;
+  off = λ q has. c.requires.off q (c.are_after.ensures.there c.if-are_after.true q (rw c.boxes.ensures has));
+  cell = (c.requires.tables.formed.room c.args.push.from c.requires.room).0;
+}
+
+pub returns-then-are_after : goal.returns-then-are_after
+returns-then-are_after g c = λ yes.
+    let after = c.are_after.ensures in
+    let inside = c.is_inside.ensures c.requires.room (rw c.boxes.ensures at (after.left c.if-are_after.true)) in
+    covers_result c.args.tables.now c.requires.tables c.args.group (cells_in c.args.boxes.now) c.args.push
+    (λ q has. after.there c.if-are_after.true q (rw c.boxes.ensures has)) (inside.0 yes)

@@ -14,4 +14,4 @@ pub returns-in-None-missing : goal.returns-in-None-missing
 returns-in-None-missing c = grind (arith, has_listed, get_or_default, no_cell)
 
 pub returns-in-Some-missing : goal.returns-in-Some-missing
-returns-in-Some-missing c = grind (arith, has_listed, get_or_default, no_cell)
+returns-in-Some-missing c = (grind (arith, in_list, no_cell), grind arith, grind (arith, has_listed, get_or_default, no_cell))

@@ -1,9 +1,6 @@
 -- If a box of the group isn't there, it covers the result of no push but those that lead to that box's cell (`OpenPushes.antt`).
-use Rattle.std.proofs.{Common.refl, Common.sym, Common.◌∙◌, Common.inl, Common.inr, lemmas.Bool.false≢true}
-use Rattle.cellset.proofs.{Members.not_both, Truth.either}
-use Rattle.reach.specs.declared.pushes.Push.{Push}
-use Rattle.closure.specs.Settling.{IsPushOut}
-use Rattle.closure.proofs.OpenPushes.{ahead_none, ahead_settles, covering_off, more_none, open_in}
+use Rattle.cellset.proofs.{Members.not_both}
+use Rattle.closure.proofs.{Asked.asked_on, OpenPushes.covering_off, OpenPushes.each_dir, OpenPushes.more_none, OpenPushes.open_in}
 use Rattle.closure.proofs.unsettled.Unsettled.ask.Goals as goal
 
 pub returns-in-More-clause-found : goal.returns-in-More-clause-found
@@ -15,51 +12,70 @@ returns-in-More-clause-found g c =
       λ push has. more_none task is c.args.group c.requires.group push (open_in task is push (c.requires.here push has).0) misses,
     )
 
-pub returns-then-has_any-clause-asked : goal.returns-then-has_any-clause-asked
-returns-then-has_any-clause-asked g c =
-    let task = c.args.task.now in
-    let is = c.requires.task in
-    let misses = rw (c.boxes-kept.ensures, c.requires.boxes) at c.in-One.ensures in
-    let settles = λ (push : Push) (out : IsPushOut task push). ahead_settles task is c.args.group c.requires.group push (open_in task is push out) c.in-One.number misses c.sides_of.result c.sides_of.ensures in
-    record {
-      away = record {
-        kept = λ push was. either (c.take_met-then-has_any.ensures.kept push was) inl
-            (λ met. inr (settles push (c.requires.away push was).0 (rw c.boxes-kept.ensures at met)));
-        only = c.take_met-then-has_any.ensures.only;
-        fewer = c.take_met-then-has_any.ensures.fewer;
-      };
-      here = record {
-        kept = λ push was. either (c.take_met.ensures.kept push was) inl
-            (λ met. inr (settles push (c.requires.here push was).0 (rw c.boxes-kept.ensures at met)));
-        only = c.take_met.ensures.only;
-        fewer = c.take_met.ensures.fewer;
-      };
-      search = refl;
-      inside = refl;
-    }
+pub settle_ahead-requires : goal.settle_ahead-requires
+settle_ahead-requires g c = record {
+  task = c.requires.task;
+  boxes = c.requires.boxes;
+  group = c.requires.group;
+  off = rw c.boxes-kept.ensures at c.if-not-is_trapped.ensures;
+  misses = rw (c.boxes-kept.ensures, c.requires.boxes) at c.in-One.ensures;
+  away = λ push has. c.requires.away push has;
+  here = λ push has. c.requires.here push has;
+}
 
-pub returns-then-has_any-clause-found : goal.returns-then-has_any-clause-found
-returns-then-has_any-clause-found g c =
-    let task = c.args.task.now in
-    let is = c.requires.task in
-    let misses = rw (c.boxes-kept.ensures, c.requires.boxes) at c.in-One.ensures in (
-      λ push has. ahead_none task is c.args.group c.requires.group push
-          (open_in task is push (c.requires.away push (c.take_met-then-has_any.ensures.only push has)).0) c.in-One.number misses c.sides_of.result
-          c.sides_of.ensures (λ met. c.take_met-then-has_any.ensures.none push has (rw (← c.boxes-kept.ensures) at met)),
-      λ push has. ahead_none task is c.args.group c.requires.group push
-          (open_in task is push (c.requires.here push (c.take_met.ensures.only push has)).0) c.in-One.number misses c.sides_of.result
-          c.sides_of.ensures (λ met. c.take_met.ensures.none push has (rw (← c.boxes-kept.ensures) at met)),
-    )
+pub settle_ahead-requires-then-not-is_trapped : goal.settle_ahead-requires-then-not-is_trapped
+settle_ahead-requires-then-not-is_trapped g c = record {
+  task = c.requires.task;
+  boxes = c.requires.boxes;
+  group = c.requires.group;
+  off = rw c.boxes-kept.ensures at c.if-not-is_trapped.ensures;
+  misses = rw (c.boxes-kept.ensures, c.requires.boxes) at c.in-One.ensures;
+  away = λ push has. c.requires.away push (c.settle_ahead.ensures.asked.away.only push has);
+  here = λ push has. c.requires.here push (c.settle_ahead.ensures.asked.here.only push has);
+}
 
-pub returns-else-has_any-clause-found : goal.returns-else-has_any-clause-found
-returns-else-has_any-clause-found g c =
-    let task = c.args.task.now in
-    let is = c.requires.task in
-    let misses = rw (c.boxes-kept.ensures, c.requires.boxes) at c.in-One.ensures in
-    let none = λ (push : Push) (out : IsPushOut task push). ahead_none task is c.args.group c.requires.group push (open_in task is push out) c.in-One.number
-    misses c.sides_of.result c.sides_of.ensures (λ met. false≢true (sym c.if-has_any.false ∙ c.has_any.ensures _ met.1.1)) in (
-      λ push has. none push (c.requires.away push has).0,
-      λ push has. none push (c.requires.here push has).0,
+pub settle_ahead-requires-then-not-is_trapped-2 : goal.settle_ahead-requires-then-not-is_trapped-2
+settle_ahead-requires-then-not-is_trapped-2 g c = record {
+  task = c.requires.task;
+  boxes = c.requires.boxes;
+  group = c.requires.group;
+  off = rw c.boxes-kept.ensures at c.if-not-is_trapped.ensures;
+  misses = rw (c.boxes-kept.ensures, c.requires.boxes) at c.in-One.ensures;
+  away = λ push has. c.requires.away push (c.settle_ahead.ensures.asked.away.only push (c.settle_ahead-then-not-is_trapped.ensures.asked.away.only push has));
+  here = λ push has. c.requires.here push (c.settle_ahead.ensures.asked.here.only push (c.settle_ahead-then-not-is_trapped.ensures.asked.here.only push has));
+}
+
+pub settle_ahead-requires-then-not-is_trapped-3 : goal.settle_ahead-requires-then-not-is_trapped-3
+settle_ahead-requires-then-not-is_trapped-3 g c = record {
+  task = c.requires.task;
+  boxes = c.requires.boxes;
+  group = c.requires.group;
+  off = rw c.boxes-kept.ensures at c.if-not-is_trapped.ensures;
+  misses = rw (c.boxes-kept.ensures, c.requires.boxes) at c.in-One.ensures;
+  away = λ push has. c.requires.away push (c.settle_ahead.ensures.asked.away.only push (c.settle_ahead-then-not-is_trapped.ensures.asked.away.only push (c.settle_ahead-then-not-is_trapped-2.ensures.asked.away.only push has)));
+  here = λ push has. c.requires.here push (c.settle_ahead.ensures.asked.here.only push (c.settle_ahead-then-not-is_trapped.ensures.asked.here.only push (c.settle_ahead-then-not-is_trapped-2.ensures.asked.here.only push has)));
+}
+
+pub returns-then-not-is_trapped-clause-asked : goal.returns-then-not-is_trapped-clause-asked
+returns-then-not-is_trapped-clause-asked g c =
+    asked_on _ _ _ _ (asked_on _ _ _ _ (asked_on _ _ _ _ c.settle_ahead.ensures.asked c.settle_ahead-then-not-is_trapped.ensures.asked) c.settle_ahead-then-not-is_trapped-2.ensures.asked) c.settle_ahead-then-not-is_trapped-3.ensures.asked
+
+pub returns-then-not-is_trapped-clause-found : goal.returns-then-not-is_trapped-clause-found
+returns-then-not-is_trapped-clause-found g c =
+    let l = c.settle_ahead.ensures in
+    let u = c.settle_ahead-then-not-is_trapped.ensures in
+    let r = c.settle_ahead-then-not-is_trapped-2.ensures in
+    let d = c.settle_ahead-then-not-is_trapped-3.ensures in (
+      λ push has covers. each_dir ⊥ push.dir
+          (λ e. l.none_away push (u.asked.away.only push (r.asked.away.only push (d.asked.away.only push has))) e covers)
+          (λ e. u.none_away push (r.asked.away.only push (d.asked.away.only push has)) e covers)
+          (λ e. r.none_away push (d.asked.away.only push has) e covers)
+          (λ e. d.none_away push has e covers),
+      λ push has covers. each_dir ⊥ push.dir
+          (λ e. l.none_here push (u.asked.here.only push (r.asked.here.only push (d.asked.here.only push has))) e covers)
+          (λ e. u.none_here push (r.asked.here.only push (d.asked.here.only push has)) e covers)
+          (λ e. r.none_here push (d.asked.here.only push has) e covers)
+          (λ e. d.none_here push has e covers),
     )
 
 pub returns-else-not-is_trapped-clause-found : goal.returns-else-not-is_trapped-clause-found
