@@ -2,7 +2,7 @@
 -- pushed box leaves and it lacks that box; and it covers the result of no other open push. One whose boxes are all there settles
 -- the pushes from the component of the boxes that it lacks, if its region has the player, and all of them if its own pushes are covered; it covers
 -- the result of no push from the component if its region lacks the player. A group with a box on the trap covers the result of no open push.
-use Rattle.std.proofs.Common.{◌≡◌, ℕ, ◌<◌, List, Some, length, refl, sym, ◌∙◌, ap, inl, inr}
+use Rattle.std.proofs.Common.{◌≡◌, ℕ, ◌<◌, List, length, refl, sym, ◌∙◌, ap, inl, inr}
 use Rattle.std.specs.List.{Contains}
 use Rattle.cellset.specs.declared.dir.Dir.{Dir, TheVariants.L, TheVariants.U, TheVariants.R, TheVariants.D}
 use Rattle.cellset.specs.{Cell.neighbor, Cell.opposite, CellSet.Cells, CellSet.Has, CellSet.Lacks, declared.cell.Cell.Cell}
@@ -13,7 +13,7 @@ use Rattle.certificates.specs.CellLists.{cells_in}
 use Rattle.certificates.specs.Pattern.{Pattern, InPatternRegion, CoversPushesOf}
 use Rattle.closure.specs.{GroupPushes.IsPushOf, Run.state_after, Trap.AreOff, Tables.GroupCovers, Place.IsSubset, Component.AreInComponent}
 use Rattle.closure.specs.{declared.groups.Groups.Groups, declared.task.Task.Task, Groups.boxes_of, Groups.list_of, Groups.position_at}
-use Rattle.closure.specs.Settling.{IsMet, IsPushOut, IsSettled, IsTask, Misses}
+use Rattle.closure.specs.Settling.{IsPushOut, IsSettled, IsTask, Misses}
 use Rattle.closure.specs.declared.unsettled.Missing.TheVariants.{One, More}
 use Rattle.closure.proofs.Grouped.{box_floor, covered_of_group, group_in_room}
 use Rattle.closure.proofs.{GroupPushes.leaves_room, GroupPushes.toward_trap, Traps.off_after}
@@ -65,11 +65,9 @@ module _ {S : Type 0} (task : Task S) (is : IsTask task) where
   module _ (g : ℕ) (lt : g < length groups.spans.items) (push : Push) (within : IsPushIn level boxes push) where
     module _ (to : Cell) (misses : Misses (boxes_of groups g) boxes (One to)) where
       -- It settles a push to the one that isn't there if its region has the cell that the box leaves.
-      pub ahead_settles : (from : Cell) → InPatternRegion level (at g) from → IsMet (boxes_of groups g) (Some (record { from = from; to = to })) push
-          → IsSettled task push
-      ahead_settles from inside met =
-          let ahead = met.1.1 in
-          settled_by g push (lt, ahead_decides level boxes push within.move (at g) (λ c has. either (misses.2 c has) inl (λ e. inr (e ∙ sym ahead))) met.0 (rw met.1.0 inside))
+      pub ahead_settles : Lacks (cells_in (boxes_of groups g)) push.from → InPatternRegion level (at g) push.from → push.to ≡ to → IsSettled task push
+      ahead_settles lacks inside ahead =
+          settled_by g push (lt, ahead_decides level boxes push within.move (at g) (λ c has. either (misses.2 c has) inl (λ e. inr (e ∙ sym ahead))) lacks inside)
 
       -- Of other pushes it covers no result.
       pub ahead_is : GroupCovers level groups g (state_after boxes push) → push.to ≡ to

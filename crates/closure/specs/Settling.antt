@@ -1,5 +1,5 @@
 -- Settling the pushes out of a group: a push is settled if the list covers its result.
-use Rattle.std.specs.Prelude.{◌≡◌, ◌≢◌, ◌⊎◌, ℕ, ◌+◌, ◌<◌, ◌≤◌, List, Option, None, Some, length}
+use Rattle.std.specs.Prelude.{◌≡◌, ◌≢◌, ◌⊎◌, ℕ, ◌+◌, ◌<◌, ◌≤◌, List, length}
 use Rattle.std.specs.List.{Contains}
 use Rattle.cellset.specs.{CellSet.Cells, CellSet.Has, CellSet.Lacks, declared.cell.Cell.Cell, declared.dir.Dir.Dir}
 use Rattle.reach.specs.declared.pushes.Push.{Push}
@@ -7,7 +7,7 @@ use Rattle.certificates.specs.CellLists.{cells_in}
 use Rattle.certificates.specs.Pattern.{IsCovered, PushesOut}
 use Rattle.closure.specs.{Run.state_after, Trap.AreOff, Tables.AreTables, Tables.GroupCovers, GroupPushes.AreNoted}
 use Rattle.closure.specs.{Place.IsPlace, Place.IsSubset, Search.IsPassed, Search.IsSearch, declared.buckets.Buckets.Buckets, declared.place.Place.Place}
-use Rattle.closure.specs.{declared.task.Task.Task, declared.unsettled.Ahead.Ahead, declared.unsettled.Unsettled.Unsettled}
+use Rattle.closure.specs.{declared.task.Task.Task, declared.unsettled.Unsettled.Unsettled}
 use Rattle.closure.specs.declared.unsettled.Missing.{Missing, TheVariants.Nothing, TheVariants.One, TheVariants.More}
 use Rattle.closure.specs.Groups.{boxes_of, list_of, position_at}
 
@@ -88,14 +88,10 @@ pub record IsParted (Part : Cell → Type 0) (old new : Unsettled) : Type 0 wher
   pub search : new.search ≡ old.search
   pub inside : new.inside ≡ old.inside
 
--- the push moves a box as it says
-abbrev pub LeadsTo : Option Ahead → Push → Type 0
-LeadsTo None push = Unit {0}
-LeadsTo (Some ahead) push = (push.from ≡ ahead.from) × (push.to ≡ ahead.to)
-
--- the push moves a box that isn't among these, and moves it as `ahead` says, if it says anything
-abbrev pub IsMet : List Cell → Option Ahead → Push → Type 0
-IsMet kept ahead push = Lacks (cells_in kept) push.from × LeadsTo ahead push
+-- the push moves a box from the one cell to the other
+pub record Moves (from to : Cell) (push : Push) : Type 0 where
+  pub leaves : push.from ≡ from
+  pub enters : push.to ≡ to
 
 -- which boxes of a list aren't among these
 abbrev pub Misses : List Cell → Cells → Missing → Type 0

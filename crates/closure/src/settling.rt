@@ -33,7 +33,7 @@ impl Lookups {
         self.begin(task)?;
         while self.enter(task)? {
             self.unsettled
-                .settle_here(task, &self.place, &self.buckets)?;
+                .settle_here(task, &mut self.place, &self.buckets)?;
             self.left.extend_from_slice(&self.unsettled.here)?;
         }
         Ok(())
@@ -151,13 +151,14 @@ impl Unsettled {
     pub(crate) fn settle_here<S: CellSet>(
         &mut self,
         task: &Task<S>,
-        place: &Place,
+        place: &mut Place,
         buckets: &Buckets,
     ) -> Result<(), AllocError>
-        requires place { IsPlaceOf task.now place.now }
+        requires place { IsPlaceOf task.now place.old }
         requires buckets { AreBuckets task.now.tables.now.board.now task.now.tables.now.groups buckets.now }
         requires settling { IsSettling task.now buckets.now self.old }
-        requires component { AreInComponent task.now.tables.now.board.now (cells_in task.now.boxes.now) place.now.player self.old.here.items }
+        requires component { AreInComponent task.now.tables.now.board.now (cells_in task.now.boxes.now) place.old.player self.old.here.items }
+        ensures place { place.new ≡ place.old }
         ensures onward { OnOk result (IsOnward task.now buckets.now self.old self.new) }
         ensures rest { OnOk result ((push : OutPush) → Contains self.new.here.items push → IsSettled task.now push → ⊥) }
     {
@@ -172,12 +173,13 @@ impl Unsettled {
     }
 
     // Asks the group that settled the last component.
-    fn ask_last<S: CellSet>(&mut self, task: &Task<S>, place: &Place)
-        requires place { IsPlaceOf task.now place.now }
+    fn ask_last<S: CellSet>(&mut self, task: &Task<S>, place: &mut Place)
+        requires place { IsPlaceOf task.now place.old }
         requires away { AreOpen task.now self.old.away.items }
         requires here { AreOpen task.now self.old.here.items }
-        requires component { AreInComponent task.now.tables.now.board.now (cells_in task.now.boxes.now) place.now.player self.old.here.items }
-        ensures { HasAsked task.now self.old self.new }
+        requires component { AreInComponent task.now.tables.now.board.now (cells_in task.now.boxes.now) place.old.player self.old.here.items }
+        ensures place { place.new ≡ place.old }
+        ensures asked { HasAsked task.now self.old self.new }
     {
         let last = self.last;
         if last >= task.tables.groups.spans.len() {
@@ -190,12 +192,13 @@ impl Unsettled {
     }
 
     // Settles pushes by the groups that were found for other components.
-    fn settle_inside<S: CellSet>(&mut self, task: &Task<S>, place: &Place)
-        requires place { IsPlaceOf task.now place.now }
+    fn settle_inside<S: CellSet>(&mut self, task: &Task<S>, place: &mut Place)
+        requires place { IsPlaceOf task.now place.old }
         requires inside { (g : ℕ) → Contains self.old.inside.items g → IsSubset task.now.tables.now.groups (cells_in task.now.boxes.now) g }
         requires away { AreOpen task.now self.old.away.items }
         requires here { AreOpen task.now self.old.here.items }
-        requires component { AreInComponent task.now.tables.now.board.now (cells_in task.now.boxes.now) place.now.player self.old.here.items }
+        requires component { AreInComponent task.now.tables.now.board.now (cells_in task.now.boxes.now) place.old.player self.old.here.items }
+        ensures place { place.new ≡ place.old }
         ensures asked { HasAsked task.now self.old self.new }
         ensures none { (g : ℕ) → Contains self.new.inside.items g → CoversNone task.now g self.new.here.items }
     {
@@ -209,14 +212,15 @@ impl Unsettled {
     fn ask_next<S: CellSet>(
         &mut self,
         task: &Task<S>,
-        place: &Place,
+        place: &mut Place,
         buckets: &Buckets,
     ) -> Result<bool, AllocError>
-        requires place { IsPlaceOf task.now place.now }
+        requires place { IsPlaceOf task.now place.old }
         requires buckets { AreBuckets task.now.tables.now.board.now task.now.tables.now.groups buckets.now }
         requires settling { IsSettling task.now buckets.now self.old }
-        requires component { AreInComponent task.now.tables.now.board.now (cells_in task.now.boxes.now) place.now.player self.old.here.items }
+        requires component { AreInComponent task.now.tables.now.board.now (cells_in task.now.boxes.now) place.old.player self.old.here.items }
         requires none { (g : ℕ) → Contains self.old.inside.items g → CoversNone task.now g self.old.here.items }
+        ensures place { place.new ≡ place.old }
         ensures onward { OnOk result (IsOnward task.now buckets.now self.old self.new) }
         ensures none { OnOk result ((g : ℕ) → Contains self.new.inside.items g → CoversNone task.now g self.new.here.items) }
         ensures fewer { IfOk result (λ some. MatchBool some

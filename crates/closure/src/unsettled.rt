@@ -3,12 +3,13 @@
 //! A group covers the result of a push exactly if each of its boxes is there or is where the push leads, and its region has the cell that the
 //! pushed box leaves. If the boxes are all there, the player of the push decides, who is beside that cell, and so do the other players of the
 //! component. If the group covers them and is noted as covered itself, it settles all pushes from the component.
-ghost use Rattle.std.specs.Prelude.{◌≡◌, ◌⊎◌, ◌↔◌, ◌<◌, ◌≤◌, IsTrue, MatchBool, OnOk, Option, length};
+ghost use Rattle.std.specs.Prelude.{◌≡◌, ◌⊎◌, ◌↔◌, ◌<◌, ◌≤◌, IsTrue, MatchBool, OnOk, length};
+ghost use Rattle.cellset.specs.CellSet.{Has};
 ghost use Rattle.std.specs.List.{Contains};
 ghost use Rattle.reach.specs.declared.pushes.Push.{Push as OutPush};
 ghost use Rattle.certificates.specs.CellLists.{cell_no, cells_in};
 ghost use Rattle.closure.specs.{Groups.boxes_of, Place.IsSubset, Component.AreInComponent, Component.InComponent, Trap.AreOff};
-ghost use Rattle.closure.specs.Settling.{AreOpen, CoversNone, CoversNoneToward, HasAsked, IsMet, IsPlaceOf, IsPushOut, IsParted, IsSettled, IsSettling, IsTask, LeadsTo, Misses};
+ghost use Rattle.closure.specs.Settling.{AreOpen, CoversNone, CoversNoneToward, HasAsked, IsPlaceOf, IsPushOut, IsParted, IsSettled, IsSettling, IsTask, Misses, Moves};
 ghost use Rattle.closure.specs.declared.unsettled.Missing.TheVariants.{One};
 
 use crate::group_regions::Flood;
@@ -32,13 +33,6 @@ pub(crate) struct Unsettled {
     pub inside: Vec<usize>,
     // The last group noted as covered that settled a component. It is asked first.
     pub last: usize,
-}
-
-// A move of a box from a cell to another.
-#[derive(Clone, Copy, Debug, PartialEq, Eq)]
-pub(crate) struct Ahead {
-    pub from: Cell,
-    pub to: Cell,
 }
 
 // Which boxes of a group aren't there.
@@ -174,18 +168,20 @@ impl Unsettled {
         if !task.tables.is_inside(group, from) {
             return;
         }
-        let kept = task.tables.groups.boxes(group);
-        let ahead = Ahead { from, to };
-        take_met(&mut self.here, kept, Some(ahead));
-        take_met(&mut self.away, kept, Some(ahead));
+        let None = number_of(task.tables.groups.boxes(group), from) else {
+            return;
+        };
+        take_moves(&mut self.here, from, to);
+        take_moves(&mut self.away, from, to);
     }
 
     // Settles the pushes from the component that a group covers whose boxes are all there, or all of them if its own pushes are covered.
-    pub(crate) fn settle_by<S: CellSet>(&mut self, task: &Task<S>, place: &Place, group: usize)
-        requires place { IsPlaceOf task.now place.now }
+    pub(crate) fn settle_by<S: CellSet>(&mut self, task: &Task<S>, place: &mut Place, group: usize)
+        requires place { IsPlaceOf task.now place.old }
         requires group { IsSubset task.now.tables.now.groups (cells_in task.now.boxes.now) group }
         requires here { AreOpen task.now self.old.here.items }
-        requires component { AreInComponent task.now.tables.now.board.now (cells_in task.now.boxes.now) place.now.player self.old.here.items }
+        requires component { AreInComponent task.now.tables.now.board.now (cells_in task.now.boxes.now) place.old.player self.old.here.items }
+        ensures place { place.new ≡ place.old }
         ensures asked { HasAsked task.now self.old self.new }
         ensures none { CoversNone task.now group self.new.here.items }
     {
@@ -200,7 +196,11 @@ impl Unsettled {
             self.last = group;
             return;
         }
-        take_met(&mut self.here, task.tables.groups.boxes(group), None);
+        // While the boxes of the group are lifted, those that still stand are the ones that it lacks.
+        let kept = task.tables.groups.boxes(group);
+        place.lift(kept);
+        take_standing(&mut self.here, &place.boxes);
+        place.put(kept);
     }
 }
 
@@ -229,17 +229,17 @@ fn find_missing(kept: &[Cell], boxes: &Rows) -> Missing
     }
 }
 
-// Takes out the pushes of boxes that a group lacks, and of these only the ones that lead to the cell ahead if there is one.
+// Takes out the pushes of a box from a cell to another.
 #[tactic(auto, using(crate::proofs::Taken::taken_only, crate::proofs::Taken::taken_kept, std::proofs::lemmas::List::get_or_default))]
-fn take_met(pushes: &mut Vec<Push>, kept: &[Cell], ahead: Option<Ahead>)
-    ensures kept { (push : OutPush) → Contains pushes.old.items push → Contains pushes.new.items push ⊎ IsMet kept.now ahead push }
+fn take_moves(pushes: &mut Vec<Push>, from: Cell, to: Cell)
+    ensures kept { (push : OutPush) → Contains pushes.old.items push → Contains pushes.new.items push ⊎ Moves from to push }
     ensures only { (push : OutPush) → Contains pushes.new.items push → Contains pushes.old.items push }
     ensures fewer { length pushes.new.items ≤ length pushes.old.items }
-    ensures none { (push : OutPush) → Contains pushes.new.items push → IsMet kept.now ahead push → ⊥ }
+    ensures none { (push : OutPush) → Contains pushes.new.items push → Moves from to push → ⊥ }
 {
     let mut at = 0;
     while at < pushes.len() {
-        if is_met(pushes[at], kept, ahead) {
+        if is_move(pushes[at], from, to) {
             pushes.swap_remove(at);
         } else {
             at += 1;
@@ -247,28 +247,28 @@ fn take_met(pushes: &mut Vec<Push>, kept: &[Cell], ahead: Option<Ahead>)
     }
 }
 
-// Returns whether a push moves a box that a group lacks, and leads to the cell ahead if there is one.
-#[tactic(auto, using(certificates::proofs::CellLists::in_list, cellset::proofs::Members::not_both))]
+// Returns whether a push moves a box from a cell to another.
 #[inline(always)]
-fn is_met(push: Push, kept: &[Cell], ahead: Option<Ahead>) -> bool
-    ensures { IsTrue result ↔ IsMet kept.now ahead push }
+fn is_move(push: Push, from: Cell, to: Cell) -> bool
+    ensures { IsTrue result ↔ Moves from to push }
 {
-    if !leads_to(push, ahead) {
-        return false;
-    }
-    match number_of(kept, push.from) {
-        Some(_) => false,
-        None => true,
-    }
+    is_same(push.from, from) && is_same(push.to, to)
 }
 
-// Returns whether a push leads ahead, if there is something ahead.
-#[inline(always)]
-fn leads_to(push: Push, ahead: Option<Ahead>) -> bool
-    ensures { IsTrue result ↔ LeadsTo ahead push }
+// Takes out the pushes of these boxes.
+#[tactic(auto, using(crate::proofs::Taken::taken_only, crate::proofs::Taken::taken_kept, std::proofs::lemmas::List::get_or_default))]
+fn take_standing(pushes: &mut Vec<Push>, boxes: &Rows)
+    ensures kept { (push : OutPush) → Contains pushes.old.items push → Contains pushes.new.items push ⊎ Has boxes.now.members push.from }
+    ensures only { (push : OutPush) → Contains pushes.new.items push → Contains pushes.old.items push }
+    ensures fewer { length pushes.new.items ≤ length pushes.old.items }
+    ensures none { (push : OutPush) → Contains pushes.new.items push → Has boxes.now.members push.from → ⊥ }
 {
-    match ahead {
-        None => true,
-        Some(ahead) => is_same(push.from, ahead.from) && is_same(push.to, ahead.to),
+    let mut at = 0;
+    while at < pushes.len() {
+        if boxes.has(pushes[at].from) {
+            pushes.swap_remove(at);
+        } else {
+            at += 1;
+        }
     }
 }

@@ -16,12 +16,13 @@ loop-self-preserved g c =
     let inv = c.loop-self.invariant in
     let entered = c.in_ok-enter.ensures in
     let here = c.in_ok-settle_here.ensures.onward in
+    let same = c.in_ok-settle_here.ensures.place in
     let add = rw c.deref.ensures.value at c.in_ok-extend_from_slice.ensures.items in
     let are = entered.ready.are in
     record {
       ready = record {
-        are = record { buckets = are.buckets; place = are.place; free = are.free; region = are.region };
-        boxes = entered.ready.boxes;
+        are = record { buckets = are.buckets; place = rw same are.place; free = are.free; region = are.region };
+        boxes = rw same entered.ready.boxes;
         free = entered.ready.free;
         whole = entered.ready.whole;
         settling = here.settling;

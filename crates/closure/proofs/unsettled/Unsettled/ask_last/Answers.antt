@@ -7,5 +7,5 @@ settle_by-requires-clause-here g c = λ push has. c.requires.here push (c.ask.en
 pub settle_by-requires-clause-component : goal.settle_by-requires-clause-component
 settle_by-requires-clause-component g c = component_less c.args.task.now _ _ _ c.requires.component c.ask.ensures.asked.here.only
 
-pub returns : goal.returns
-returns g c = asked_on _ _ _ _ c.ask.ensures.asked c.settle_by.ensures.asked
+pub returns-clause-asked : goal.returns-clause-asked
+returns-clause-asked g c = asked_on _ _ _ _ c.ask.ensures.asked c.settle_by.ensures.asked

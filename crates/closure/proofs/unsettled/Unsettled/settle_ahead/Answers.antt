@@ -1,15 +1,17 @@
 -- The push in the direction to the one box that isn't there comes from the cell beside it. The group covers its result exactly if its region has
 -- that cell (`OpenPushes.antt`).
+use Rattle.std.specs.Prelude.{List, MatchOption, None, Option}
 use Rattle.std.proofs.{Common.◌≡◌, Common.ℕ, Common.◌<◌, Common.Some, Common.length, Common.refl, Common.sym, Common.◌∙◌, Common.inl, Common.inr, lemmas.Bool.false≢true}
-use Rattle.cellset.specs.{Cell.neighbor, Cell.opposite, declared.cell.Cell.Cell, declared.dir.Dir.Dir}
-use Rattle.cellset.proofs.{Truth.either}
+use Rattle.cellset.specs.{CellSet.Has, CellSet.Lacks, Cell.neighbor, Cell.opposite, declared.cell.Cell.Cell, declared.dir.Dir.Dir}
+use Rattle.cellset.proofs.{Members.not_both, Truth.either}
 use Rattle.reach.specs.declared.pushes.Push.{Push}
-use Rattle.certificates.specs.CellLists.{cells_in}
-use Rattle.closure.specs.{Groups.boxes_of, Groups.position_at, Run.state_after, Settling.IsMet, Settling.IsPushOut, Settling.IsSettled, Settling.IsTask, Settling.Misses, Tables.GroupCovers}
+use Rattle.certificates.specs.CellLists.{cell_no, cells_in}
+use Rattle.certificates.proofs.CellLists.{in_list, no_cell}
+use Rattle.closure.specs.{Groups.boxes_of, Groups.position_at, Run.state_after, Settling.IsPushOut, Settling.IsSettled, Settling.IsTask, Settling.Misses, Settling.Moves, Tables.GroupCovers}
 use Rattle.closure.specs.{declared.task.Task.Task, declared.unsettled.Missing.TheVariants.One}
 use Rattle.closure.proofs.{Grouped.boxes_on, Settled.lacks_pushed}
 use Rattle.closure.proofs.OpenPushes.{ahead_from, ahead_is, ahead_settles, open_from, open_in}
-use Rattle.closure.proofs.unsettled.Unsettled.settle_ahead.Goals.{After-take_met-2, In_default, Then-not-has, Then-not-is_inside}
+use Rattle.closure.proofs.unsettled.Unsettled.settle_ahead.Goals.{After-take_moves-2, In_default, Then-not-has, Then-not-is_inside}
 use Rattle.closure.proofs.unsettled.Unsettled.settle_ahead.Goals as goal
 
 pub step-requires : goal.step-requires
@@ -56,33 +58,58 @@ never_outside g c push out toward covers =
     let decides = c.is_inside.ensures (rw same at (open_from task is push out)) (rw same at lacks) in
     false≢true (sym c.if-not-is_inside.true ∙ decides.1 (rw same at covers.1.player))
 
-settles : (g : _) (c : After-take_met-2 g) (push : Push) → IsPushOut c.args.task.now push
-    → IsMet c.boxes-kept.result.now (Some (record { from = c.in-Some.from; to = c.args.to })) push → IsSettled c.args.task.now push
-settles g c push out met =
+-- a cell with a number is one of the cells
+listed : (xs : List Cell) (q : Cell) (r : Option ℕ) → (r ≡ None → ⊥) → MatchOption r (Lacks (cells_in xs) q) (λ n. (n < length xs) × (cell_no xs n ≡ q))
+    → Has (cells_in xs) q
+listed xs q None some is = absurd (some refl)
+listed xs q (Some n) some is = rw (sym is.1) (in_list xs n no_cell is.0)
+
+settles : (g : _) (c : After-take_moves-2 g) (push : Push) → IsPushOut c.args.task.now push → Moves c.in-Some.from c.args.to push → IsSettled c.args.task.now push
+settles g c push out moves =
     let task = c.args.task.now in
     let is = c.requires.task in
-    let same = met.1.0 in
-    let lacks = rw c.boxes-kept.ensures at met.0 in
-    let decides = c.is_inside.ensures (rw same at (open_from task is push out)) (rw same at lacks) in
-    ahead_settles task is c.args.group c.requires.group push (open_in task is push out) c.args.to c.requires.misses c.in-Some.from (decides.0 c.if-not-is_inside.false)
-    (rw c.boxes-kept.ensures at met)
+    let lacks = rw c.boxes.ensures at c.in-None.ensures in
+    let decides = c.is_inside.ensures (rw moves.leaves at (open_from task is push out)) lacks in
+    ahead_settles task is c.args.group c.requires.group push (open_in task is push out) c.args.to c.requires.misses (rw moves.leaves lacks)
+    (rw moves.leaves (decides.0 c.if-not-is_inside.false)) moves.enters
 
-meets : (g : _) (c : After-take_met-2 g) (push : Push) → IsPushOut c.args.task.now push → push.dir ≡ c.args.dir
+moves : (g : _) (c : After-take_moves-2 g) (push : Push) → IsPushOut c.args.task.now push → push.dir ≡ c.args.dir
     → GroupCovers c.args.task.now.tables.now.board.now c.args.task.now.tables.now.groups c.args.group (state_after (cells_in c.args.task.now.boxes.now) push)
-    → IsMet c.boxes-kept.result.now (Some (record { from = c.in-Some.from; to = c.args.to })) push
-meets g c push out toward covers =
+    → Moves c.in-Some.from c.args.to push
+moves g c push out toward covers =
+    let task = c.args.task.now in
+    let is = c.requires.task in
+    record {
+      leaves = came task is c.args.group c.requires.group push out c.args.to c.requires.misses c.args.dir c.opposite.result c.in-Some.from c.opposite.ensures
+          c.in-Some.ensures.1 toward covers;
+      enters = ahead_is task is c.args.group c.requires.group push (open_in task is push out) c.args.to c.requires.misses covers;
+    }
+
+pub returns-in_default-number_of-clause-none_away : goal.returns-in_default-number_of-clause-none_away
+returns-in_default-number_of-clause-none_away g c = λ push has toward covers.
     let task = c.args.task.now in
     let is = c.requires.task in
     let level = task.tables.now.board.now in
-    let within = open_in task is push out in
-    let lacks = lacks_pushed level (cells_in task.boxes.now) push within.move (position_at level task.tables.now.groups c.args.group) covers.1 in (
-      rw c.boxes-kept.ensures lacks,
-      (
-        came task is c.args.group c.requires.group push out c.args.to c.requires.misses c.args.dir c.opposite.result c.in-Some.from c.opposite.ensures
-            c.in-Some.ensures.1 toward covers,
-        ahead_is task is c.args.group c.requires.group push within c.args.to c.requires.misses covers,
-      ),
-    )
+    let out = (c.requires.away push has).0 in
+    let same = came task is c.args.group c.requires.group push out c.args.to c.requires.misses c.args.dir c.opposite.result c.in-Some.from c.opposite.ensures
+    c.in-Some.ensures.1 toward covers in
+    let lacks = lacks_pushed level (cells_in task.boxes.now) push (open_in task is push out).move (position_at level task.tables.now.groups c.args.group) covers.1 in
+    not_both (cells_in (boxes_of task.tables.now.groups c.args.group)) c.in-Some.from
+    (listed (boxes_of task.tables.now.groups c.args.group) c.in-Some.from c.number_of.result c.in_default-number_of.not-None (rw c.boxes.ensures at c.number_of.ensures))
+    (rw same at lacks)
+
+pub returns-in_default-number_of-clause-none_here : goal.returns-in_default-number_of-clause-none_here
+returns-in_default-number_of-clause-none_here g c = λ push has toward covers.
+    let task = c.args.task.now in
+    let is = c.requires.task in
+    let level = task.tables.now.board.now in
+    let out = (c.requires.here push has).0 in
+    let same = came task is c.args.group c.requires.group push out c.args.to c.requires.misses c.args.dir c.opposite.result c.in-Some.from c.opposite.ensures
+    c.in-Some.ensures.1 toward covers in
+    let lacks = lacks_pushed level (cells_in task.boxes.now) push (open_in task is push out).move (position_at level task.tables.now.groups c.args.group) covers.1 in
+    not_both (cells_in (boxes_of task.tables.now.groups c.args.group)) c.in-Some.from
+    (listed (boxes_of task.tables.now.groups c.args.group) c.in-Some.from c.number_of.result c.in_default-number_of.not-None (rw c.boxes.ensures at c.number_of.ensures))
+    (rw same at lacks)
 
 pub returns-in_default-clause-none_away : goal.returns-in_default-clause-none_away
 returns-in_default-clause-none_away g c = λ push has. never_off g (goal.at.returns-in_default-clause-none_away g c).In_default push (c.requires.away push has).0
@@ -104,8 +131,8 @@ returns-then-not-is_inside-clause-none_here g c = λ push has. never_outside g (
 
 pub returns-clause-asked : goal.returns-clause-asked
 returns-clause-asked g c =
-    let here = c.take_met.ensures in
-    let away = c.take_met-2.ensures in
+    let here = c.take_moves.ensures in
+    let away = c.take_moves-2.ensures in
     record {
       away = record {
         kept = λ push was. either (away.kept push was) inl (λ met. inr (settles g c push (c.requires.away push was).0 met));
@@ -123,10 +150,10 @@ returns-clause-asked g c =
 
 pub returns-clause-none_away : goal.returns-clause-none_away
 returns-clause-none_away g c = λ push has toward covers.
-    let taken = c.take_met-2.ensures in
-    taken.none push has (meets g c push (c.requires.away push (taken.only push has)).0 toward covers)
+    let taken = c.take_moves-2.ensures in
+    taken.none push has (moves g c push (c.requires.away push (taken.only push has)).0 toward covers)
 
 pub returns-clause-none_here : goal.returns-clause-none_here
 returns-clause-none_here g c = λ push has toward covers.
-    let taken = c.take_met.ensures in
-    taken.none push has (meets g c push (c.requires.here push (taken.only push has)).0 toward covers)
+    let taken = c.take_moves.ensures in
+    taken.none push has (moves g c push (c.requires.here push (taken.only push has)).0 toward covers)

@@ -1,30 +1,33 @@
+use Rattle.std.proofs.Common.{◌∙◌}
 use Rattle.closure.proofs.Asked.{asked_on, none_settled, onward_asked, onward_on, component_less}
 use Rattle.closure.proofs.unsettled.Unsettled.settle_here.Goals as goal
 
 pub settle_inside-requires : goal.settle_inside-requires
 settle_inside-requires g c =
     let was = c.requires.settling in
-    let now = c.ask_last.ensures in
+    let now = c.ask_last.ensures.asked in
+    let same = c.ask_last.ensures.place in
     record {
-      place = c.requires.place;
+      place = rw same c.requires.place;
       inside = λ h has. was.inside h (rw now.inside at has);
       away = λ push has. was.away push (now.away.only push has);
       here = λ push has. was.here push (now.here.only push has);
-      component = component_less c.args.task.now _ _ _ c.requires.component now.here.only;
+      component = rw same (component_less c.args.task.now _ _ _ c.requires.component now.here.only);
     }
 
 pub loop-self-init : goal.loop-self-init
 loop-self-init g c = record {
-  onward = onward_asked _ _ _ _ c.requires.settling (asked_on _ _ _ _ c.ask_last.ensures c.settle_inside.ensures.asked);
+  place = c.settle_inside.ensures.place ∙ c.ask_last.ensures.place;
+  onward = onward_asked _ _ _ _ c.requires.settling (asked_on _ _ _ _ c.ask_last.ensures.asked c.settle_inside.ensures.asked);
   none = c.settle_inside.ensures.none;
 }
 
 pub ask_next-requires-clause-component : goal.ask_next-requires-clause-component
-ask_next-requires-clause-component g c = component_less c.args.task.now _ _ _ c.requires.component c.loop-self.invariant.onward.here.only
+ask_next-requires-clause-component g c = rw c.loop-self.invariant.place (component_less c.args.task.now _ _ _ c.requires.component c.loop-self.invariant.onward.here.only)
 
 pub loop-self-preserved : goal.loop-self-preserved
 loop-self-preserved g c =
-    record { onward = onward_on _ _ _ _ _ c.loop-self.invariant.onward c.in_ok-ask_next.ensures.onward; none = c.in_ok-ask_next.ensures.none }
+    record { place = c.in_ok-ask_next.ensures.place ∙ c.loop-self.invariant.place; onward = onward_on _ _ _ _ _ c.loop-self.invariant.onward c.in_ok-ask_next.ensures.onward; none = c.in_ok-ask_next.ensures.none }
 
 pub returns-then-not-branch-clause-onward : goal.returns-then-not-branch-clause-onward
 returns-then-not-branch-clause-onward g c = onward_on _ _ _ _ _ c.loop-self.invariant.onward c.in_ok-ask_next.ensures.onward

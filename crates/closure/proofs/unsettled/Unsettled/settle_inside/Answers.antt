@@ -16,10 +16,10 @@ settle_by-requires g c =
     let lt = within g (goal.at.settle_by-requires g c).After-index-group in
     let listed : Contains c.loop-at.self.inside.items c.index-group.result.now = (c.loop-at.at, lt, sym c.index-group.ensures) in
     record {
-      place = c.requires.place;
+      place = rw c.loop-at.invariant.place c.requires.place;
       group = c.requires.inside c.index-group.result.now (rw now.inside at listed);
       here = λ push has. c.requires.here push (now.here.only push has);
-      component = component_less c.args.task.now _ _ _ c.requires.component now.here.only;
+      component = rw c.loop-at.invariant.place (component_less c.args.task.now _ _ _ c.requires.component now.here.only);
     }
 
 pub loop-at-preserved : goal.loop-at-preserved
@@ -31,6 +31,7 @@ loop-at-preserved g c =
     let here = c.settle_by.new.self.here.items in
     let read : c.index-group.result.now ≡ slice_index items c.loop-at.at = c.index-group.ensures ∙ get_or_default items c.loop-at.at c.index-group.result.now 0 lt in
     record {
+      place = now.place ∙ c.loop-at.invariant.place;
       asked = asked_on _ _ _ _ c.loop-at.invariant.asked now.asked;
       none = rw now.asked.inside (below_more (λ k. CoversNone task (slice_index items k) here) c.loop-at.at
           (λ k before push has. c.loop-at.invariant.none k before push (now.asked.here.only push has))

@@ -1,16 +1,16 @@
 use Rattle.std.proofs.Common.{◌⊎◌, ℕ, ◌<◌, ◌≤◌, ◌-◌, length, slice_index_or}
 use Rattle.std.specs.List.{Contains}
 use Rattle.reach.specs.declared.pushes.Push.{Push}
-use Rattle.closure.specs.Settling.{IsMet}
-use Rattle.closure.proofs.unsettled.take_met.Given as goal
+use Rattle.cellset.specs.CellSet.{Has}
+use Rattle.closure.proofs.unsettled.take_standing.Given as goal
 
 abbrev pub invariant-loop-at : goal.invariant-loop-at
 invariant-loop-at l = record {
   within : l.at ≤ length l.pushes.items;
-  kept : (push : Push) → Contains l.fn.pushes.items push → Contains l.pushes.items push ⊎ IsMet l.kept l.ahead push;
+  kept : (push : Push) → Contains l.fn.pushes.items push → Contains l.pushes.items push ⊎ Has l.boxes.members push.from;
   only : (push : Push) → Contains l.pushes.items push → Contains l.fn.pushes.items push;
   fewer : length l.pushes.items ≤ length l.fn.pushes.items;
-  none : (i : ℕ) (d : Push) → i < l.at → IsMet l.kept l.ahead (slice_index_or l.pushes.items i d) → ⊥;
+  none : (i : ℕ) (d : Push) → i < l.at → Has l.boxes.members (slice_index_or l.pushes.items i d).from → ⊥;
 }
 
 abbrev pub decreases-loop-at : goal.decreases-loop-at
