@@ -104,6 +104,38 @@ def late(check: Comparison, tab: Tab) -> None:
         check.same(f"late: {first}, then {then} after {pause} ms", wanted, tab.ask(SHOWN))
 
 
+# Keeps back all work that pauses between its parts.
+HOLD = """globalThis.held = [];
+    globalThis.setTimeout = (plain => (does, ...after) =>
+        after.length ? plain(does, ...after) : held.push(does))(setTimeout); 0"""
+GO_ON = "%s.splice(0).forEach(does => does()); new Promise(done => setTimeout(done, 50))"
+
+
+def overtaken(check: Comparison, tab: Tab) -> None:
+    """A result that the page still takes in, part by part, when something else is asked for: it is
+    never shown, and what runs then is still said."""
+    for name in ("slow.xsb", "slower.xsb", "fast.xsb"):
+        write(name, CORNER if name == "slower.xsb" else LEVEL + LETTERS)
+    for first, (then, (follow, wanted)) in product(
+            ("a slow file", "slow files", "pasting", "make"), THEN.items()):
+        tab.fresh()
+        if first == "make":
+            tab.paste("levels", f"{LEVEL}{LETTERS}\n\n{CORNER}")
+        tab.ask(HOLD)
+        FIRST[first](tab)
+        tab.wait("held.length && !runner.isBusy")
+        tab.ask("globalThis.former = held.splice(0); 0")
+        follow(tab)
+        tab.wait("!runner.isBusy && (held.length || $('busy').hidden)")
+        goes_on = tab.ask("!$('busy').hidden")
+        tab.ask(GO_ON % "former")
+        name = f"{first} is overtaken by {then}"
+        check.same(f"{name}, which goes on", [goes_on, ["", "", ""] if goes_on else wanted],
+                   tab.ask(f"[!$('busy').hidden, {SHOWN}]"))
+        tab.ask(GO_ON % "held")
+        check.same(name, [False, wanted], tab.ask(f"[!$('busy').hidden, {SHOWN}]"))
+
+
 def dropping(check: Comparison, tab: Tab) -> None:
     """Files that are chosen while the page still reads earlier ones: those that are dropped go the
     same way."""
@@ -251,5 +283,5 @@ def returning(check: Comparison, tab: Tab) -> None:
         "$('view').querySelector('[data-level=\"200\"]').getBoundingClientRect().top)"))
 
 
-UNPAINTED = (late, dropping)
+UNPAINTED = (late, overtaken, dropping)
 PARTS = (judging, stopped, around, returning)
