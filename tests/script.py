@@ -71,7 +71,9 @@ tree, here = f"{room}/tree", f"{room}/else where"
 nobody = "" if os.getuid() else "setpriv\n--reuid=65534\n--regid=65534\n--clear-groups"
 os.environ.update(top=TOP, tree=tree, run=f"{tree}/sokoaudit", nobody=nobody)
 os.environ["PATH"] = f"{room}/bin:{os.environ['PATH']}"
-shell(TREE)
+# the machine that a build needs, with two processors
+MACHINE = "fakes uname 'Linux x86_64'; fakes getconf 'glibc 2.34'; fakes nproc 2"
+shell(TREE + BEFORE + MACHINE)
 
 
 def case(name: str, status: int, line: str, says: str, command: str) -> None:
@@ -161,7 +163,7 @@ case("a program that can't be run is no refused level", 2, "", "perhaps of other
      f"/dev/stdin $tree/crates/sokoaudit/out/sokoaudit; {LACKS} $run audit levels answers; s=$?; "
      "rm -r $tree/crates/sokoaudit/out; exit $s")
 case("the first run builds", 0, "one one one|HERE|a  b c", "proved sokoaudit, 3 functions, 0:0",
-     "fakes nproc 2; BESIDE=99 $run 'a  b' c")
+     "BESIDE=99 $run 'a  b' c")
 # a job needs 2.5 GB
 if int(read("/proc/meminfo").split("MemAvailable:")[1].split()[0]) < 5000000:
     cases.skip("two libraries side by side", "this machine has no memory for two")
@@ -267,7 +269,7 @@ case("an old C library", 2, "", "glibc 2.34 or later",
      "edit five; fakes getconf 'glibc 2.31'; $run a")
 case("another system", 2, "", "Linux on x86-64", "fakes uname 'Darwin arm64'; $run a")
 if cases.needs("script", "a run on a terminal"):
-    on_terminal = "rm ../bin/{getconf,uname}; PROGRAM=2.5 script -qc '\"$run\" a' terminal"
+    on_terminal = f"{MACHINE}; PROGRAM=2.5 script -qc '\"$run\" a' terminal"
     count = "proving sokoaudit, 2 of 3 functions, 0:(0[1-9]|[1-5])"
     shown = f"grep -Eq '{count}' terminal || cat terminal >&2"
     case("on a terminal one line shows the progress", 0, "", "", f"{on_terminal} >said && {shown}")
