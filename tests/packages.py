@@ -1,7 +1,7 @@
 """tests/run packages BUILT: installs the program into a folder, tries it there, and uninstalls it;
 makes the packages, and tries their contents; builds the program again in another folder, and makes
-the same packages of that build, byte for byte; and tries the completions. BUILT is
-crates/sokoaudit/out. Ends in 'N passed, M failed'."""
+the same packages of that build, byte for byte. BUILT is crates/sokoaudit/out. Ends in 'N passed, M
+failed'."""
 import glob
 import os
 from typing import List, Sequence

@@ -140,6 +140,9 @@ case("nor is it to what installs the program", 2, "", "usage: packaging/install 
 case("it installs the reference", 0, "level 1 solved moves 1 pushes 1 changes 1", NOTE,
      "root/usr/bin/sokoaudit audit levels answers")
 case("and its help", 0, help, "", "root/usr/bin/sokoaudit --help")
+case("and the completions of both programs", 0, "6", "", "cd root/usr/share; ls bash-completion/"
+     "completions/{sokoaudit,sokotool} zsh/site-functions/_{sokoaudit,sokotool} "
+     "fish/vendor_completions.d/{sokoaudit,sokotool}.fish | wc -l")
 case("and sokotool, which finds the reference", 0, "it: 1 level, 1 solved, 0 unsolvable, "
      "0 refused, 0 missing", "", "PATH=$PWD/root/usr/bin:$tree/../plain SOKOAUDIT= sokotool check "
      "it levels --answers answers; grep -q 'by the reference' it.report")

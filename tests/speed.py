@@ -1,6 +1,8 @@
-"""tests/run speed PROGRAM [WORD..]: plants slow, greedy and broken programs, each of which
-bench/run has to find, all or some by their names. Ends in 'N passed, M failed'."""
+"""tests/run speed PROGRAM [WORD..]: plants slow, greedy and broken programs, and limits that are too
+high, each of which bench/run has to find, all or some by their names. Ends in 'N passed, M
+failed'."""
 import os
+import unittest.mock
 from typing import List, Tuple
 
 from bench import timing
@@ -11,6 +13,8 @@ from tests.tables.rows import text
 # two cases, the second of which has the larger texts
 NAMES = "patterns with seeds on a board", "zones looked for in 10,000 levels"
 HALF = "a_machine_half_as_fast"
+# by how much the time and the memory of the table are multiplied
+TOO_HIGH = {"time_limits_ten_times_too_high": (10, 1), "memory_limits_ten_times_too_high": (1, 10)}
 # what stands for $P, the program, and which of the cases of each name fail
 IS_SECOND = '[ "$1" = make ]'
 PLANTED = {
@@ -55,10 +59,18 @@ def plant(program: str, lines: str) -> None:
     os.replace("planted", "sokoaudit")
 
 
+def multiplied(times: int, rooms: int) -> str:
+    """Writes a table of limits that are so many times as high, and returns its name."""
+    rows = (f"{name} | {limit.units * times:.3f} | {limit.room * rooms} | {limit.said}\n"
+            for name, limit in timing.read_limits().items())
+    write("limits", "".join(rows))
+    return "limits"
+
+
 def main() -> None:
     """Runs the part."""
     program, *named = arguments("speed PROGRAM [NAME..]")
-    named = chosen(named, [*PLANTED, HALF])
+    named = chosen(named, [*PLANTED, HALF, *TOO_HIGH])
     cases, room = Cases("speed"), enter_folder()
     plant(program, 'exec $P "$@"')  # it makes the answers of one of the cases
     picked = [next(it for it in bench_cases(Size(is_tenth=True)) if name in it.name)
@@ -71,12 +83,15 @@ def main() -> None:
     runs: List[Tuple[str, str, List[str], timing.Work]] = [
         (what, lines, wanted, timing.work) for what, (lines, *wanted) in PLANTED.items()]
     runs.append((HALF, '$P "$@" >/dev/null; exec $P "$@"', ["", ""], twice))
+    runs += [(what, 'exec $P "$@"', ["high", "high"], timing.work) for what in TOO_HIGH]
     for what, lines, wanted, unit in runs:
         if what not in named:
             continue
         plant(program, lines)
+        table = multiplied(*TOO_HIGH[what]) if what in TOO_HIGH else timing.TABLE
         for case, words in zip(picked, wanted):
-            found = failures(case, unit)
+            with unittest.mock.patch.object(timing, "TABLE", table):
+                found = failures(case, unit)
             is_so = len(found) == len(words.split()) and all(map(str.count, found, words.split()))
             cases.holds(f"{what}: {case.name}: {words or 'nothing'} fails", is_so, *found)
     room.cleanup()
