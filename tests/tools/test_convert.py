@@ -133,6 +133,13 @@ class Levels(Case):
                 self.assertEqual(letters_of(solved), {2: "rR"})
                 self.assertIn("Gr\u00fc\u00dfe\n".encode(), found)
 
+    def test_lines_of_blanks(self) -> None:
+        """Of whatever blanks a line is, it is no board in other characters."""
+        for blank in filter(str.isspace, map(chr, range(0x3001))):
+            result, found, _ = self.convert(f"{ONE}\n{3 * blank}\n'{3 * blank}'\n{OTHER}")
+            self.assertEqual((result.status, rows_of(found)), (0, [ONE.strip(), OTHER.strip()]),
+                             repr(blank))
+
     def test_many_ends_of_lines(self) -> None:
         """A text of a million ends of lines takes no longer than another one."""
         def converts() -> None:

@@ -283,7 +283,8 @@ def _code_in(line: str) -> str:
     core = line.strip(" \t\"',;")
     if len(core) >= FEWEST_DIGITS and not core.strip("0123456789") and core.strip("2468"):
         return "d"
-    if len(core) > 2 and not core.strip(core[0]) and core[0] not in "-=_~*. :;#lurdLURD":
+    if len(core) > 2 and not core.strip(core[0]) and not core.isspace() \
+            and core[0] not in "-=_~*. :;#lurdLURD":
         return "w"
     if len(core) >= FEWEST_CODED and _BASE64.fullmatch(core) and core.strip("lurdLURD0123456789"):
         return "b"
