@@ -19,6 +19,7 @@ from pathlib import Path
 from shlex import quote
 from typing import Callable, Dict, List, Sequence
 
+from tests.expressions import Use, every_use, slow_on
 from tests.runner import (TOP, Cases, Ran, arguments, call, chosen, daily_seed, decode, encode,
                           read, write)
 
@@ -163,7 +164,9 @@ def texts(cases: Cases) -> None:
         cases.same(f"{mark} in the page", str(plain.count(mark)), str(page.count(mark)))
     cases.holds("no image in the page", "<img src=x" not in page)
     named = call([*TOOL, "named", "out.xsb", "out.report", "--csv"]).output.decode()
-    for row in csv.reader(io.StringIO(named)):
+    os.rename("in.txt", "=1+1.txt")
+    call([*TOOL, "check", "sheet", "=1+1.txt", "--seconds", "0", "--csv"])
+    for row in csv.reader(io.StringIO(named + read("sheet.csv"))):
         cases.holds(f"no formula in {row}", not any(it[:1] and it[0] in "=+-@\t\r" for it in row))
 
 
@@ -313,9 +316,19 @@ def interrupted(cases: Cases) -> None:
         cases.holds(f"{name}: {number} calls were", number > 0 or name == "no call")
 
 
+def expressions(cases: Cases) -> None:
+    """Lines that repeat a character, a pair or a phrase: no regular expression of the scripts takes
+    more than linear time on them."""
+    planted = Use("planted", re.compile("x*y"), "search")
+    cases.holds("one that takes more is noticed", slow_on(planted))
+    for use in every_use():
+        found = slow_on(use)
+        cases.holds(f"{use.place}.{use.method} takes linear time", not found, str(found))
+
+
 Attack = Callable[[Cases], None]
 QUICK: List[Attack] = [archives, xml, names, texts, devices, full_disk, at_once, interrupted]
-SLOW: List[Attack] = [cut_archives, many_files, system_calls]
+SLOW: List[Attack] = [cut_archives, many_files, system_calls, expressions]
 
 
 def run(cases: Cases, work: Attack) -> None:
