@@ -125,7 +125,7 @@ def _of(name: str, seen: Set[Tuple[int, int]], is_own: IsOut) -> Iterator[Export
     files."""
     is_ignored = _ignored(os.path.dirname(name))
     if os.path.isdir(name):
-        yield from _in_folder(name, seen, lambda file: is_own(file) or is_ignored(file))
+        yield from _in_folder(name, seen, is_own, is_ignored)
     elif name == "-" or not os.path.isfile(name):
         yield Export(name, lambda: texts.read(name), False)
     else:
@@ -143,6 +143,9 @@ def _ignored(folder: str) -> IsOut:
     patterns = [_plain(line.strip().rstrip("/")) for line in (text or "").split("\n")
                 if not line.startswith("#")]
 
+    if not any(patterns):
+        return lambda _: False
+
     def is_ignored(file: str) -> bool:
         inner = _plain(os.path.relpath(file, folder or "."))
         return any(fnmatch.fnmatchcase(inner if "/" in pattern else inner.rpartition("/")[2],
@@ -158,31 +161,44 @@ def _is_new(known: os.stat_result, seen: Set[Tuple[int, int]]) -> bool:
     return is_new
 
 
-def _in_folder(folder: str, seen: Set[Tuple[int, int]], is_out: IsOut) -> Iterator[Export]:
-    try:
-        if not _is_new(os.stat(folder), seen):
-            return
-        names = sorted(os.listdir(folder), key=_order)
-        is_ignored = _ignored(folder)
-    except OSError as error:
-        yield _unreadable(folder, error.strerror)
-        return
+def _in_folder(folder: str, seen: Set[Tuple[int, int]], is_own: IsOut, is_ignored: IsOut
+               ) -> Iterator[Export]:
+    """Yields the exports in a folder and in those below, however deep."""
+    rules = [is_ignored]
+    # of each folder around the next path, the paths that are left
+    left: List[Iterator[str]] = []
 
-    def is_left(file: str) -> bool:
-        return is_out(file) or is_ignored(file)
-
-    for path in [os.path.join(folder, name) for name in names if not name.startswith(".")]:
-        if is_left(path):
-            continue
+    def enter(path: str) -> Iterator[Export]:
         try:
-            known = os.stat(path)
+            if not _is_new(os.stat(path), seen):
+                return
+            names = sorted(os.listdir(path), key=_order)
+            rules.append(_ignored(path))
         except OSError as error:
             yield _unreadable(path, error.strerror)
-            continue
-        if stat.S_ISDIR(known.st_mode):
-            yield from _in_folder(path, seen, is_left)
-        elif stat.S_ISREG(known.st_mode) and _is_new(known, seen):
-            yield from (export for export in _in_file(path) if not is_left(export.name))
+            return
+        left.append(os.path.join(path, name) for name in names if not name.startswith("."))
+
+    def is_left(file: str) -> bool:
+        return any(rule(file) for rule in rules)
+
+    yield from enter(folder)
+    while left:
+        path = next(left[-1], None)
+        if path is None:
+            left.pop()
+            rules.pop()
+        elif not is_left(path):
+            try:
+                known = os.stat(path)
+            except OSError as error:
+                yield _unreadable(path, error.strerror)
+                continue
+            if stat.S_ISDIR(known.st_mode):
+                yield from enter(path)
+            # deep in folders `is_own` takes long, so it is asked of files alone
+            elif stat.S_ISREG(known.st_mode) and not is_own(path) and _is_new(known, seen):
+                yield from (export for export in _in_file(path) if not is_left(export.name))
 
 
 class _Room:
