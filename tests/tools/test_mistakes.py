@@ -108,6 +108,13 @@ class Mistakes(Case):
             self.assertEqual((len(said), said[-1]), (1001, b"a.answers: 64536 more warnings"))
         self.takes_less(3, work)
 
+    def test_a_long_row_of_blanks(self) -> None:
+        """No blank of it is looked at more than once, whatever comes after them."""
+        blanks = "pattern 3,2" + " " * 50_000 + "@ *"
+        self.write("a.answers", f"sokoban-answers 1\nlevel 1\nunsolvable\n{blanks}\nend\n")
+        self.write("a.xsb", PAIR)
+        self.takes_less(.5, lambda: self.tool("warn", "a.xsb", "a.answers"))
+
     def test_a_refused_line_in_the_summary(self) -> None:
         self.write("a.txt", PAIR)
         self.write("my.xsb", PAIR)

@@ -28,7 +28,7 @@ _PATTERN, _ZONE = (re.compile(it % ((_CELLS,) * it.count(b"%b"))) for it in (
     rb"pattern %b @ (?:\*|%b)", rb"zone %b"))
 # what is mended in a line, one after another, and the mistake
 _MENDS: Sequence[Tuple[str, Callable[[bytes], bytes]]] = (
-    (COMMA, lambda line: re.sub(rb"[ \t]+,[ \t]*|,[ \t]+", b",", line)),
+    (COMMA, lambda line: re.sub(rb"(?<![ \t])[ \t]+,[ \t]*|,[ \t]+", b",", line)),
     (SPACES, lambda line: re.sub(rb"(?<=[^ \t])(?=@)|(?<=@)(?=[^ \t])", b" ", line)),
     (BLANKS, lambda line: b" ".join(line.split())),
     (ZERO, lambda line: re.sub(rb"(?<![0-9])0+(?=[0-9])", b"", line)))
