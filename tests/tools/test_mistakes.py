@@ -1,5 +1,7 @@
 """The usual mistakes in certificates: what warn, check and a solver's refusal say of each."""
+import json
 import os
+import re
 from typing import List, Sequence, Tuple
 
 from sokotool import mistakes
@@ -119,9 +121,40 @@ class Mistakes(Case):
         self.write("a.txt", PAIR)
         self.write("my.xsb", PAIR)
         self.write("my.answers", "sokoban-answers 1\nlevel 1\nunsolvable\npattern 3, 2 @ *\nend\n")
-        result = self.tool("check", "my", "a.txt", "--seconds", "0")
-        self.assertIn("refused line 4 syntax: The line isn't a pattern or a zone. Here: "
-                      + COMMA + ".", result.out.decode())
+        result = self.tool("check", "my", "a.txt", "--seconds", "0", "--csv")
+        why = f"refused line 4 syntax: The line isn't a pattern or a zone. Here: {COMMA}."
+        self.assertIn(why, result.out.decode())
+        self.assertIn(why[len("refused "):], self.read("my.csv").decode())
+
+    def test_wherever_a_refusal_is_shown(self) -> None:
+        """The four usual mistakes, in what named prints and in the data of the page."""
+        refused = (("pattern 2,3 2,5 @ 2,2", "wall", SWAPPED),
+                   ("pattern 5,2 3,2 @ 2,2", "syntax", ORDER),
+                   ("pattern 3,2 5,2 @2,2", "syntax", SPACES),
+                   ("pattern 3, 2 @ *", "syntax", COMMA))
+        self.write("a.xsb", "\n".join([PAIR] * 5))
+        self.write("a.answers", "sokoban-answers 1\n" + "".join(
+            f"level {number}\nunsolvable\n{line}\nend\n"
+            for number, (line, _, _) in enumerate(refused, 1)))
+        self.write("a.report", "".join(
+            f"level {number} refused line {4 * number} {word}\n"
+            for number, (_, word, _) in enumerate(refused, 1)) + "level 5 missing\n"
+            "total 5 solved 0 unsolvable 0 refused 4 missing 1\n")
+        words = "named", "a.xsb", "a.report", "--answers", "a.answers"
+        plain, made, rows = (self.tool(*words, *more).out.decode().splitlines()
+                             for more in ((), ("--json",), ("--csv",)))
+        drawn = self.tool("page", "a.xsb", "a.answers", "a.report").out.decode()
+        page = json.loads(re.findall('id="data">(.*?)</script>', drawn)[0])
+        for number, (_, _, why) in enumerate(refused):
+            self.assertEqual(plain[number].split("\t")[3:], [why])
+            self.assertTrue(json.loads(made[number])["reason"].endswith(f" Here: {why}."))
+            self.assertIn(f" Here: {why}.", rows[number + 1])
+            self.assertEqual(page["verdicts"][str(number + 1)]["mistake"], why)
+        self.assertEqual(plain[4].count("\t"), 2)
+        self.assertNotIn("mistake", page["verdicts"]["5"])
+        without = self.tool(*words[:3]).out.decode().splitlines()
+        self.assertEqual([line.split("\t")[:3] for line in plain],
+                         [line.split("\t") for line in without])
 
     def test_the_page_of_messages(self) -> None:
         """Each row of its table is said of what is typed there, and what should be is right."""

@@ -31,6 +31,7 @@ class Eye(Page):
                          [(number, f"card {status}") for number, status in wanted])
         self.open("#9")
         self.assertEqual(self.all(".refused-line code"), ["pattern 3,3 2,3 @ *"])
+        self.assertIn("Here: the cells aren't in reading order", self.all(".why")[0])
         self.open("#20")
         self.assertEqual(self.all(".arrow.refused", "data-at"), ["2,3"])
         self.assertEqual(self.all(".arrow.refused", "data-dir"), ["r"])

@@ -3,7 +3,7 @@ exports, `choose` candidates for the answers, and `audit` the best ones."""
 import argparse
 import contextlib
 import os
-from typing import List, NamedTuple, Optional, Sequence, Set, Tuple
+from typing import Dict, List, NamedTuple, Optional, Sequence, Set, Tuple
 
 from . import (answers, auditor, candidates, forms, level_texts, levels, memory, merging, mistakes,
                own_files, report, shelf, texts)
@@ -14,7 +14,6 @@ from .conversion import Conversion
 from .outcomes import Outcomes
 from .own_files import ANSWERS, KEPT_ANSWERS, KEPT_XSB, OTHER, REPORT, SHEET, XSB, noted
 from .progress import Progress
-from .report import Line
 
 
 class Inputs(NamedTuple):
@@ -108,13 +107,11 @@ class State(NamedTuple):
         return [self.now.forms[line.level - 1] for line in self.now.lines
                 if not line.is_answered and line.words[:1] != ["board"]]
 
-    def mistake(self, line: Line) -> str:
-        """Returns the mistake in the line of an answer that a report line names, or ""."""
-        if line.words[:1] != ["line"]:
-            return ""
-        found = answers.read(self.answers).records
-        record = next(it for it in found if it.level == line.level)
-        return mistakes.of_report(record, self.now.levels[line.level - 1], line)
+    def mistakes(self) -> Dict[int, str]:
+        """Returns the mistakes in the lines of answers that the report names, by the numbers of the
+        levels."""
+        return mistakes.of_reports(self.now.levels, answers.read(self.answers).records,
+                                   self.now.lines)
 
 
 def begun(run: Run) -> State:

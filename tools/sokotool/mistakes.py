@@ -70,6 +70,16 @@ def of_report(record: Record, level: Level, said: report.Line) -> str:
     return found.get(numbers.index(int(said.words[1])), "")
 
 
+def of_reports(found: Sequence[Level], records: Iterable[Record], lines: Sequence[report.Line]
+               ) -> Dict[int, str]:
+    """Returns the mistakes in the lines of records that report lines name, by the numbers of the
+    levels."""
+    refused = {it.level: it for it in lines if it.words[:1] in (["line"], ["move"])}
+    said = {it.level: of_report(it, found[it.level - 1], refused[it.level])
+            for it in records if it.level in refused}
+    return {number: mistake for number, mistake in said.items() if mistake}
+
+
 def _mended(line: bytes) -> Tuple[bytes, List[str]]:
     """Returns a line with all of its blanks and numbers as they have to be, and the mistakes."""
     said = []

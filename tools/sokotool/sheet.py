@@ -11,16 +11,18 @@ COLUMNS = ("number", "title", "author", "status", "moves", "pushes", "boxes", "w
 
 
 def text(listed: Sequence[Level], lines: Sequence[report.Line], name: str,
-         sources: Dict[int, Dict[str, Any]]) -> bytes:
+         sources: Dict[int, Dict[str, Any]], mistakes: Dict[int, str]) -> bytes:
     """Returns the table of levels and their report lines in UTF-8. No cell begins like a formula,
     which a spreadsheet would run. `sources` has the file and the line from which a level comes, by
-    its number; by default that is its line in the file of this name."""
+    its number; by default that is its line in the file of this name. `mistakes` has the mistakes in
+    answers by the numbers of their levels."""
     made = io.StringIO()
     writer = csv.writer(made, lineterminator="\n")
     writer.writerow(COLUMNS)
     for level, said in zip(listed, lines):
         source = sources.get(level.number, {"file": name, "line": level.line})
-        writer.writerow(map(_plain, _cells(level, said, source)))
+        why = messages.reason(level, said, mistakes.get(level.number, ""))
+        writer.writerow(map(_plain, _cells(level, said, source, why)))
     return made.getvalue().encode()
 
 
@@ -28,7 +30,7 @@ def is_begun(data: bytes) -> bool:
     return data.startswith(",".join(COLUMNS).encode() + b"\n")
 
 
-def _cells(level: Level, said: report.Line, source: Dict[str, Any]) -> List[Any]:
+def _cells(level: Level, said: report.Line, source: Dict[str, Any], why: str) -> List[Any]:
     drawn = b"".join(level.rows)
     counts = said.counts[:2] or ("", "")
     # the words of a refusal and their sentence
@@ -36,7 +38,7 @@ def _cells(level: Level, said: report.Line, source: Dict[str, Any]) -> List[Any]
     return [level.number, level.title, level.author, said.status, *counts,
             drawn.count(b"$") + drawn.count(b"*"), max(map(len, level.rows)), len(level.rows),
             forms.form_of(level).digest, source["file"], source["line"],
-            words + messages.reason(level, said)]
+            words + why]
 
 
 def _plain(cell: Any) -> Any:

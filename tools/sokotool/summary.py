@@ -32,9 +32,10 @@ def lines(run: Run, state: State, problems: Sequence[str]) -> Iterator[str]:
         for file in own_files.versions(run.name)])
     sources = run.conversion.origins.sources(state.merged.written.places)
     places = {number: str(place) for number, (place, _) in sources.items()}
+    mistakes = state.mistakes()
     yield from _some("no answer: ", [
         (places.get(level.number) or f"{name}.xsb line {level.line}") + ": "
-        + _unanswered(level, line, state.mistake(line))
+        + _unanswered(level, line, mistakes.get(level.number, ""))
         for level, line in zip(now.levels, now.lines) if not line.is_answered])
     yield from searched(state.unanswered(), state.former.memory.outcomes, run.outcomes)
     found = changes.changes(run.before, now) if run.before else []

@@ -207,7 +207,8 @@ def contents(given: Run, state: State) -> Dict[str, Optional[bytes]]:
     sources: Dict[int, page.Source] = {
         number: {"file": texts.shown(place.published), "line": place.line, "left": left}
         for number, (place, left) in found.items()}
-    table = {SHEET: sheet.text(state.now.levels, state.now.lines, names[0], sources)
+    table = {SHEET: sheet.text(state.now.levels, state.now.lines, names[0], sources,
+                               state.mistakes())
              } if former.has_table else {}
     files = [state.text, state.answers, state.report]
     made_of = texts.digest(b"\n".join([ascii([

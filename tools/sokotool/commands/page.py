@@ -14,7 +14,7 @@ import re
 import sys
 from typing import Any, Dict, List, Optional, Sequence, Tuple
 
-from .. import answers, levels, messages, report, texts
+from .. import answers, levels, messages, mistakes, report, texts
 from ..board import Board, board_of
 
 _MARK = re.compile(r"@([A-Za-z.]+)@")
@@ -51,9 +51,11 @@ def written(files: Sequence[bytes], names: List[str], above: str = "",
     found = levels.read_within(files[0], names[0])
     read = report.read(files[2])
     records: Dict[int, answers.Record] = {}
+    mistaken: Dict[int, str] = {}
     try:
         records = {record.level: record for record in answers.read(files[1], len(found)).records}
         fault = difference(found, records, read)
+        mistaken = {} if fault else mistakes.of_reports(found, records.values(), read.lines)
     except answers.Fault as wrong:
         fault = f"answers line {wrong.line} {wrong.why}"
     # Letters and rows have one character for each byte.
@@ -64,7 +66,9 @@ def written(files: Sequence[bytes], names: List[str], above: str = "",
             "records": {number: {"kind": record.kind, "body": [
                 [at, line.decode("latin-1")] for at, line in record.body]}
                         for number, record in records.items()},
-            "verdicts": {line.level: {"status": line.status, "words": line.words, "line": line.text}
+            "verdicts": {line.level: {"status": line.status, "words": line.words, "line": line.text,
+                                      **({"mistake": mistaken[line.level]}
+                                         if line.level in mistaken else {})}
                          for line in read.lines},
             "sources": sources or {}}
     return _page_of(data, above), fault

@@ -9,8 +9,10 @@ const plain = words => words.normalize("NFKC").toLowerCase();
 // what a level is found by
 const wordsOf = level =>
     level.words ??= plain(`${level.number} ${level.title} ${level.verdict.line}`);
-// a sentence on why a level or its answer is refused, or ""
-const whyOf = ({ verdict: { status, words } }) => status === "refused" ? refusalWords(words) : "";
+// sentences on why a level or its answer is refused, the last one on the mistake if it is known; or
+// ""
+const whyOf = ({ verdict: { status, words, mistake } }) => status !== "refused" ? ""
+    : refusalWords(words) + (mistake ? ` Here: ${mistake}.` : "");
 const boardOf = level => level.board ??= new Board(level.rows);
 
 // a report line as a card has room for it
