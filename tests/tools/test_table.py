@@ -64,8 +64,9 @@ class Table(Case):
 
     @needs_program
     def test_entrants_with_exports(self) -> None:
-        """Exports with boards, lists by number, and a file with a byte order mark count like
-        answers files. What the levels' own file has below a level is nobody's answer."""
+        """Exports with boards, lists of letters by number or without, and answers with a byte order
+        mark or without the first line count like answers files. What the levels' own file has below
+        a level is nobody's answer."""
         self.write("levels.xsb", LEVELS + "Solution\nRurD\n")
         first, second = LEVELS.split("\n\n")
         turned = "\n".join(row[::-1] for row in second.split("\n")[1:])
@@ -73,35 +74,42 @@ class Table(Case):
         self.write("fred.txt", "2: RurD\n1: rRR\n")
         self.write("gina.answers", "\ufeff" + solutions("rRR", "RurD"))
         self.write("hugo.txt", "Sorry\n")
+        self.write("ines.answers", solutions("rRR", "RurD").partition("\n")[2])
+        self.write("jan.txt", "RurD\nrRR\n")
         result, rows, standings = self.table("emil.sok", "fred.txt", "gina.answers", "hugo.txt",
-                                             "--page", "table.html")
+                                             "ines.answers", "jan.txt", "--page", "table.html")
         said = ("no answers file, and no solution of these levels is read in it; hugo.txt line 1: "
                 "no level in this file")
         self.assertEqual(standings[1:], [f"1\t{name}\t2\t0\t0\t0\t7\t4\t2\t2\t" for name in (
-            "emil.sok", "fred.txt", "gina")] + ["\thugo.txt" + "\t" * 9 + said])
+            "emil.sok", "fred.txt", "gina", "ines", "jan.txt")] + ["\thugo.txt" + "\t" * 9 + said])
         self.assertEqual(rows[1], f"\thugo.txt\t{said}\t\t\t\t\t")
         self.assertEqual((result.status, result.err), (1, ""))
-        self.assertEqual(len(data_of(self.read("table.html"))["levels"]), 6)
+        self.assertEqual(len(data_of(self.read("table.html"))["levels"]), 10)
 
     @needs_program
     def test_records_in_any_order(self) -> None:
         """Records out of order count, of several for a level the best, and one of a level that
-        isn't there costs no other."""
+        isn't there or with a wrong number costs no other."""
         first, second = solutions("rRR", "RurD").split("level 2\n")
         one, two = first[18:], "level 2\n" + second
         longer = one.replace("rRR", "rlrRR")
         for name, text in (("emil", two + one), ("fred", longer + one + two + longer),
-                           ("gina", one + two + one.replace("level 1", "level 12"))):
+                           ("gina", one + two + one.replace("level 1", "level 12")),
+                           ("hugo", one.replace("level 1", "level 2") + two)):
             self.write(f"{name}.answers", "sokoban-answers 1\n" + text)
-        result, _, standings = self.table("emil.answers", "fred.answers", "gina.answers")
-        self.assertEqual(standings[1:], [f"1\t{name}\t2\t0\t0\t0\t7\t4\t2\t2\t"
-                                         for name in ("emil", "fred", "gina")])
+        result, _, standings = self.table("emil.answers", "fred.answers", "gina.answers",
+                                          "hugo.answers")
+        self.assertEqual(standings[1:], [*(f"1\t{name}\t2\t0\t0\t0\t7\t4\t2\t2\t"
+                                           for name in ("emil", "fred", "gina")),
+                                         "4\thugo\t1\t0\t0\t1\t4\t2\t1\t1\t"])
         self.assertEqual((result.status, result.err.splitlines()), (0, [
             "table: emil.answers line 6: the records aren't in order, or several are for a level: "
             "they count as if they were sorted, the best one of each level",
             "table: fred.answers line 6: the records aren't in order, or several are for a level: "
             "they count as if they were sorted, the best one of each level",
-            "table: gina.answers line 10: there is no level 12: this record doesn't count"]))
+            "table: gina.answers line 10: there is no level 12: this record doesn't count",
+            "table: hugo.answers line 6: the records aren't in order, or several are for a level: "
+            "they count as if they were sorted, the best one of each level"]))
 
     def test_equal_entrants_share_a_place(self) -> None:
         os.mkdir("other")
