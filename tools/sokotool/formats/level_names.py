@@ -22,8 +22,9 @@ class Names:
         self.exports = exports
         self._by_title: Dict[str, List[int]] = {}
         self._by_export = texts.grouped((it.export, i) for i, it in enumerate(found))
-        self._by_stem = texts.grouped((_stem(exports[number].file), number)
-                                      for number in self._by_export)
+        self._by_path, self._by_stem = (
+            texts.grouped((name_of(exports[number].file), number) for number in self._by_export)
+            for name_of in (_path, _stem))
         self._said = texts.cached(letters.said_in)
         for number, its in self._by_export.items():
             for i, title in zip(its, _titles(exports[number], found)):
@@ -42,7 +43,7 @@ class Names:
         by_title: Set[int] = set()
         by_number: Set[int] = set()
         its = self._counted(number)
-        for line in self._words(export, at):
+        for line in self._words(number, at):
             words: List[str] = [it for it in _BETWEEN.split(line[:1000].casefold()) if it]
             for first in range(min(len(words), MOST_WORDS)):
                 for end in range(first + 1, min(len(words), first + MOST_WORDS) + 1):
@@ -55,8 +56,9 @@ class Names:
         single = {*its} if len(its) == 1 and not export.spans else set()
         return sorted(by_title & by_number or by_title | by_number or single)
 
-    def _words(self, export: Export, at: int) -> List[str]:
+    def _words(self, number: int, at: int) -> List[str]:
         """Returns the line of letters, if it has words too, and the lines of words above it."""
+        export = self.exports[number]
         said = self._said(export.text(at))
         found = [export.text(at)] if said and (said.is_numbered or not said.alone) else []
         for above in range(at - 1, max(at - MOST_ABOVE, -1) - 1, -1):
@@ -64,7 +66,7 @@ class Names:
                 break
             line = export.text(above)
             said = self._said(line)
-            if said and not self.is_title((self.exports.index(export), above)) and (
+            if said and not self.is_title((number, above)) and (
                     said.alone or said.among and said.ends_in_letters):
                 break
             found += [line] if said else []
@@ -75,9 +77,7 @@ class Names:
         if number in self._by_export:
             return self._by_export[number]
         file = self.exports[number].file
-        same = [it for it in self._by_export
-                if os.path.splitext(self.exports[it].file)[0] == os.path.splitext(file)[0]]
-        same = same or self._by_stem.get(_stem(file), [])
+        same = self._by_path.get(_path(file)) or self._by_stem.get(_stem(file), [])
         if not same and len(self._by_export) == 1:
             same = [*self._by_export]
         return self._by_export[same[0]] if same else []
@@ -113,5 +113,9 @@ def _key(title: str) -> str:
     return " ".join(_BETWEEN.split(title.casefold())).strip()
 
 
+def _path(file: str) -> str:
+    return os.path.splitext(file)[0]
+
+
 def _stem(file: str) -> str:
-    return os.path.splitext(os.path.basename(file))[0].lower()
+    return os.path.basename(_path(file)).lower()

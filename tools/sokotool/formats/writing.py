@@ -4,6 +4,7 @@ import re
 from typing import Dict, List, Sequence
 
 from .. import levels, texts
+from ..builder import Try
 from . import letters
 from .export_lines import Export
 from .reading import Reader
@@ -36,15 +37,15 @@ def write(reader: Reader) -> None:
         say(line, why.format(numbers[i]) if i >= 0 else why, file)
     for i, answer in reader.certificates.items():
         collection.kept.setdefault(i, answer)
+    tries = texts.grouped((it.file, it) for some in reader.solving for it in some)
     for export in reader.exports:
         if not export.spans and export.used:
-            _note_words(reader, export)
+            _note_words(reader, export, tries.get(export.file, []))
 
 
-def _note_words(reader: Reader, export: Export) -> None:
+def _note_words(reader: Reader, export: Export, tries: Sequence[Try]) -> None:
     """Gives the words of an export without levels to its solutions, as notes."""
-    placed = sorted({it.at: it for some in reader.solving for it in some
-                     if it.file == export.file}.items())
+    placed = sorted({it.at: it for it in tries}.items())
     *above, last = reader.names.notes(export, [at for at, _ in placed])
     for (_, it), notes in zip(placed, above):
         it.notes[:0] = notes
