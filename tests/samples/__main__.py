@@ -29,7 +29,8 @@ FILES = {
 cases = Cases("samples")
 os.chdir(f"{TOP}/samples")
 for words, (file, status) in FILES.items():
-    cases.prints(f"sokoaudit {words}", f"{read(file)}status {status}\n", f'"$0" {words}', program)
+    cases.prints(f"sokoaudit {words}", f"{read(file)}status {status}\n",
+                 f'exec -a sokoaudit "$0" {words}', program)
 found = {it for end in ("report", "made", "map") for it in glob.glob(f"**/*.{end}", recursive=True)}
 left = sorted(found - {it for it, _ in FILES.values()})
 cases.same("the files that no run is compared with", "", " ".join(left))

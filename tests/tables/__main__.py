@@ -50,7 +50,8 @@ def run_row(cases: Cases, program: str, table: str, row: Mapping[str, Any]) -> N
         for file in row.keys() - NO_FILES:
             write(file, text(row[file]))
         if not is_plain:
-            printed, said = run_apart(["bash", "-c", f'"$0" {row["words"]}', program])
+            command = f'exec -a sokoaudit "$0" {row["words"]}'
+            printed, said = run_apart(["bash", "-c", command, program])
         elif hasattr(os, "fork"):
             printed, said = run_copied(program, words)
         else:
