@@ -6,10 +6,11 @@ import unittest
 import unittest.mock
 from typing import Any, Dict, List, Tuple
 
-from sokotool import answers, levels
+from sokotool import answers, builder, levels, sources
+from sokotool.commands import convert
 from tests.tools import helping
 from tests.tools.exports import ALPHA, BETA, GAMMA
-from tests.tools.helping import Case, Result
+from tests.tools.helping import ONE, Case, Result
 from tests.tools.test_export import MAPS, Generator
 
 THREE = f"Alpha\n{ALPHA}\n\nBeta\n{BETA}\n\nGamma ray\n{GAMMA}\n"
@@ -152,6 +153,17 @@ class Lists(Case):
         form = chance.choice(BY_TITLE[:8] + BY_NUMBER[:6] + BOTH)
         chance.shuffle(lines)
         return text, "".join(form.format(n=n, t=t, s=s) for n, t, s in lines), wanted
+
+    def test_a_list_for_each_of_many_levels(self) -> None:
+        """The time grows as the files do."""
+        listed = [sources.Export(f"{at}.{end}", lambda text=text: text)  # type: ignore[misc]
+                  for at in range(3000) for end, text in (("sok", ONE.encode()), ("sol", b"R\n"))]
+
+        def work() -> None:
+            collection = builder.Collection()
+            convert.read_files(collection, listed)
+            self.assertEqual((len(collection.kept), collection.faults), (3000, 0))
+        self.takes_less(6, work)
 
     def test_random(self) -> None:
         for seed in range(200):
