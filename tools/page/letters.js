@@ -177,6 +177,15 @@ function firstLines(text, isOne) {
 // ---- replays
 
 const joined = pieces => pieces.map(({ piece }) => piece).join("");
+// Letters cut at the blank lines between them: { number, line, piece, pieces }.
+function paragraphsOf(pieces) {
+    const found = [];
+    for (const it of pieces) {
+        if (it.isNew || !found.length) found.push([]);
+        found.at(-1).push(it);
+    }
+    return found.map(some => ({ ...some[0], piece: joined(some), pieces: some }));
+}
 // the steps of letters that solve nothing; after enough of them no more are tried
 let steps = 0;
 

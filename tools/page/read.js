@@ -157,31 +157,39 @@ class Reading {
         for (const { pieces } of alone) this.take(pieces);
         return true;
     }
-    // Tries letters, whole and line by line, on the level below and on all that have no solution.
-    // If they solve none and are meant for the level above, it gets them, and the report says what
-    // is wrong with them.
+    // Tries letters, whole, by paragraphs and line by line, on the level below and on all that have
+    // no solution. If they solve none and are meant for the level above, it gets them, and the
+    // report says what is wrong with them.
     tryElsewhere(it) {
-        const whole = { number: it.number, piece: joined(it.pieces) },
-            above = this.chosen[it.level];
+        const whole = { number: it.number, piece: joined(it.pieces), pieces: it.pieces },
+            paragraphs = paragraphsOf(it.pieces), above = this.chosen[it.level];
         let isPlaced = false;
-        for (const some of it.pieces.length > 1 ? [whole, ...it.pieces] : [whole]) {
+        for (const some of it.pieces.length > 1 ? [whole, ...paragraphs.filter(({ pieces }) =>
+            pieces.length > 1 && pieces.length < it.pieces.length), ...it.pieces] : [whole]) {
             const isNumbered = this.isNumbered(some.line ?? it.pieces[0].line);
             if (it.isWords && !it.isSure && !isNumbered && IS_WORD.test(some.piece)) continue;
-            for (const i of this.solvedBy(some.piece, it.level, some === whole)) {
+            const found = this.solvedBy(some.piece, it.level, some === whole);
+            for (const i of found) {
                 this.add(i, { solution: played(this.boardAt(i), some.piece), number: some.number,
                     part: it.part });
                 if (it.part === this.partOf(Math.max(0, it.level)))
                     this.say(it.part, some.number, `letters that solve level ${i + 1}`, true);
-                isPlaced = true;
             }
-            if (isPlaced) this.take(some === whole ? it.pieces : [some]);
-            if (isPlaced && some === whole) break;
+            if (!found.length) continue;
+            this.take(some.pieces ?? [some]);
+            isPlaced = true;
+            if (some === whole) break;
+        }
+        const words = `letters that solve no level${steps < MOST_STEPS ? "" : " of those tried"}: `
+            + it.solution.why;
+        for (const { number, piece, pieces } of isPlaced && it.isSure && !it.isWords
+            ? paragraphs : []) {
+            if (piece.length >= LONG && !pieces.some(({ line }) => line.taken))
+                this.say(it.part, number, words);
         }
         if (!it.isSure || isPlaced || this.isTaken(it.pieces)) return;
         if (above && !above.length && it.solution.letters) above.push(it);
-        this.say(it.part, it.number,
-            `letters that solve no level${steps < MOST_STEPS ? "" : " of those tried"}: `
-            + it.solution.why);
+        this.say(it.part, it.number, words);
     }
     // Whether the words of a line begin with the number of a level of its part.
     isNumbered({ line, part }) {

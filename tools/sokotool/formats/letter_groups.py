@@ -30,6 +30,16 @@ class Group:
         self.is_headed = self.is_saved = self.is_head_of_front = self.is_name = False
 
 
+def paragraphs(pieces: Sequence[Piece]) -> List[List[Piece]]:
+    """Returns letters cut at the blank lines between them."""
+    found: List[List[Piece]] = []
+    for piece in pieces:
+        if piece.is_new or not found:
+            found.append([])
+        found[-1].append(piece)
+    return found
+
+
 class _Head(NamedTuple):
     place: Place
     is_saved: bool

@@ -13,7 +13,7 @@ from ..board import Board, board_of
 from ..builder import Attempt, Collection, Try
 from . import coding, letters, level_rows
 from .export_lines import Export, Level
-from .letter_groups import LONG, Group, Groups, Piece, Place
+from .letter_groups import LONG, Group, Groups, Piece, Place, paragraphs
 from .level_names import Names
 
 MOST_TRIES, MOST_PARTS, MOST_TRIED = 20, 1000, 2_000_000
@@ -235,8 +235,8 @@ class Reader:
     # ---- letters for other levels
 
     def _try_elsewhere(self, it: Loose) -> None:
-        """Tries letters on all other levels: whole, between titles, and line by line. Reports those
-        that solve none. A name is for no other level."""
+        """Tries letters on all other levels: whole, between titles, by paragraphs, and line by line.
+        Reports those that solve none. A name is for no other level."""
         if it.group.is_name:
             return
         group, size = it.group, sum(len(piece.letters) for piece in it.pieces)
@@ -267,6 +267,10 @@ class Reader:
         is_title = len(it.pieces) == 1 and self.names.is_title(it.pieces[0].place)
         if (is_sure and not placed and not is_title or is_meant) and not self._is_taken(it):
             self._report(it)
+        for some in paragraphs(it.pieces) if is_sure and placed and not group.is_words else ():
+            if sum(len(piece.letters) for piece in some) >= LONG and not any(
+                    piece.place in self._taken for piece in some):
+                self._report(Loose(group, some, it.above, None))
 
     def _report(self, it: Loose) -> None:
         """Reports letters that solve no level. If there are words about one, or one above, they are
@@ -286,7 +290,8 @@ class Reader:
         self._say(place, f"{words}{attempt.why}", i)
 
     def _parts_of(self, it: Loose) -> List[Sequence[Piece]]:
-        """Returns letters that may be a solution: all, those between titles, and each line."""
+        """Returns letters that may be a solution: all, those between titles, each paragraph, and
+        each line."""
         if not 1 < len(it.pieces) <= MOST_PARTS:
             return [it.pieces]
         between: List[List[Piece]] = [[]]
@@ -296,6 +301,7 @@ class Reader:
             else:
                 between[-1].append(piece)
         return [it.pieces, *(some for some in between if some and len(between) > 1),
+                *(some for some in paragraphs(it.pieces) if 1 < len(some) < len(it.pieces)),
                 *([piece] for piece in it.pieces)]
 
     def _near(self, it: Loose) -> Sequence[int]:
