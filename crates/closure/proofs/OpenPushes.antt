@@ -2,10 +2,10 @@
 -- pushed box leaves and it lacks that box; and it covers the result of no other open push. One whose boxes are all there settles
 -- the pushes from the component of the boxes that it lacks, if its region has the player, and all of them if its own pushes are covered; it covers
 -- the result of no push from the component if its region lacks the player. A group with a box on the trap covers the result of no open push.
-use Rattle.std.proofs.Common.{◌≡◌, ℕ, ◌<◌, List, length, refl, sym, ◌∙◌, ap, inl, inr}
+use Rattle.std.proofs.Common.{◌≡◌, ℕ, ◌<◌, List, length, refl, sym, ◌∙◌, inl, inr}
 use Rattle.std.specs.List.{Contains}
 use Rattle.cellset.specs.declared.dir.Dir.{Dir, TheVariants.L, TheVariants.U, TheVariants.R, TheVariants.D}
-use Rattle.cellset.specs.{Cell.neighbor, Cell.opposite, CellSet.Cells, CellSet.Has, CellSet.Lacks, declared.cell.Cell.Cell}
+use Rattle.cellset.specs.{CellSet.Cells, CellSet.Has, CellSet.Lacks, declared.cell.Cell.Cell}
 use Rattle.cellset.proofs.{Members.not_both, Truth.either}
 use Rattle.reach.specs.declared.pushes.Push.{Push}
 use Rattle.board.specs.Game.{Level}
@@ -17,7 +17,7 @@ use Rattle.closure.specs.Settling.{IsPushOut, IsSettled, IsTask, Misses}
 use Rattle.closure.specs.declared.unsettled.Missing.TheVariants.{One, More}
 use Rattle.closure.proofs.Grouped.{box_floor, covered_of_group, group_in_room}
 use Rattle.closure.proofs.{GroupPushes.leaves_room, GroupPushes.toward_trap, Traps.off_after}
-use Rattle.closure.proofs.Settled.{IsPushIn, push_in, ahead_decides, after_within, back_inside, loose_push, steps_back, subsumed_push}
+use Rattle.closure.proofs.Settled.{IsPushIn, push_in, ahead_decides, after_within, back_inside, loose_push, subsumed_push}
 
 pub each_dir : (P : Type 0) (d : Dir) → (d ≡ L → P) → (d ≡ U → P) → (d ≡ R → P) → (d ≡ D → P) → P
 each_dir P L l u r d = l refl
@@ -64,18 +64,16 @@ module _ {S : Type 0} (task : Task S) (is : IsTask task) where
   -- ---- a group one of whose boxes isn't there
   module _ (g : ℕ) (lt : g < length groups.spans.items) (push : Push) (within : IsPushIn level boxes push) where
     module _ (to : Cell) (misses : Misses (boxes_of groups g) boxes (One to)) where
-      -- It settles a push to the one that isn't there if its region has the cell that the box leaves.
-      pub ahead_settles : Lacks (cells_in (boxes_of groups g)) push.from → InPatternRegion level (at g) push.from → push.to ≡ to → IsSettled task push
-      ahead_settles lacks inside ahead =
-          settled_by g push (lt, ahead_decides level boxes push within.move (at g) (λ c has. either (misses.2 c has) inl (λ e. inr (e ∙ sym ahead))) lacks inside)
+      -- It covers the result of a push to the one that isn't there if its region has the cell that the box leaves.
+      pub ahead_covers : Lacks (cells_in (boxes_of groups g)) push.from → InPatternRegion level (at g) push.from → push.to ≡ to
+          → GroupCovers level groups g (state_after boxes push)
+      ahead_covers lacks inside ahead =
+          (lt, ahead_decides level boxes push within.move (at g) (λ c has. either (misses.2 c has) inl (λ e. inr (e ∙ sym ahead))) lacks inside)
 
       -- Of other pushes it covers no result.
       pub ahead_is : GroupCovers level groups g (state_after boxes push) → push.to ≡ to
       ahead_is covers = either (after_within level boxes push within.move (at g) covers.1 to misses.0)
           (λ there. absurd (not_both boxes to there misses.1)) sym
-
-      pub ahead_from : GroupCovers level groups g (state_after boxes push) → push.from ≡ neighbor to (opposite push.dir)
-      ahead_from covers = sym (steps_back level boxes push within.move) ∙ ap (λ c. neighbor c (opposite push.dir)) (ahead_is covers)
 
     -- A group two of whose boxes aren't there covers nothing.
     pub more_none : Misses (boxes_of groups g) boxes More → GroupCovers level groups g (state_after boxes push) → ⊥

@@ -1,13 +1,13 @@
 -- Settling the pushes out of a group: a push is settled if the list covers its result.
-use Rattle.std.specs.Prelude.{◌≡◌, ◌≢◌, ◌⊎◌, ℕ, ◌+◌, ◌<◌, ◌≤◌, List, length}
+use Rattle.std.specs.Prelude.{◌≡◌, ◌≢◌, ◌⊎◌, ℕ, ◌+◌, ◌<◌, ◌≤◌, IsTrue, List, length}
 use Rattle.std.specs.List.{Contains}
-use Rattle.cellset.specs.{CellSet.Cells, CellSet.Has, CellSet.Lacks, declared.cell.Cell.Cell, declared.dir.Dir.Dir}
+use Rattle.cellset.specs.{CellSet.Cells, CellSet.Has, CellSet.Lacks, declared.cell.Cell.Cell}
 use Rattle.reach.specs.declared.pushes.Push.{Push}
 use Rattle.certificates.specs.CellLists.{cells_in}
 use Rattle.certificates.specs.Pattern.{IsCovered, PushesOut}
-use Rattle.closure.specs.{Run.state_after, Trap.AreOff, Tables.AreTables, Tables.GroupCovers, GroupPushes.AreNoted}
+use Rattle.closure.specs.{Run.state_after, Ways.goes, Trap.AreOff, Tables.AreTables, Tables.GroupCovers, GroupPushes.AreNoted}
 use Rattle.closure.specs.{Place.IsPlace, Place.IsSubset, Search.IsPassed, Search.IsSearch, declared.buckets.Buckets.Buckets, declared.place.Place.Place}
-use Rattle.closure.specs.{declared.task.Task.Task, declared.unsettled.Unsettled.Unsettled}
+use Rattle.closure.specs.{declared.task.Task.Task, declared.unsettled.Unsettled.Unsettled, declared.ways.Ways.Ways}
 use Rattle.closure.specs.declared.unsettled.Missing.{Missing, TheVariants.Nothing, TheVariants.One, TheVariants.More}
 use Rattle.closure.specs.Groups.{boxes_of, list_of, position_at}
 
@@ -48,12 +48,6 @@ abbrev pub CoversNone : {S : Type 0} → Task S → ℕ → List Push → Type 0
 CoversNone task g pushes =
     (push : Push) → Contains pushes push → GroupCovers task.tables.now.board.now task.tables.now.groups g (state_after (cells_in task.boxes.now) push) → ⊥
 
--- the group covers the result of none of these pushes in the direction
-abbrev pub CoversNoneToward : {S : Type 0} → Task S → ℕ → Dir → List Push → Type 0
-CoversNoneToward task g dir pushes =
-    (push : Push) → Contains pushes push → push.dir ≡ dir → GroupCovers task.tables.now.board.now task.tables.now.groups g (state_after (cells_in task.boxes.now) push)
-    → ⊥
-
 -- the pushes of a group are being settled; each group that the search has passed is inside, or covers the result of no push that isn't settled
 pub record IsSettling {S : Type 0} (task : Task S) (buckets : Buckets) (u : Unsettled) : Type 0 where
   pub away : AreOpen task u.away.items
@@ -88,10 +82,10 @@ pub record IsParted (Part : Cell → Type 0) (old new : Unsettled) : Type 0 wher
   pub search : new.search ≡ old.search
   pub inside : new.inside ≡ old.inside
 
--- the push moves a box from the one cell to the other
-pub record Moves (from to : Cell) (push : Push) : Type 0 where
-  pub leaves : push.from ≡ from
-  pub enters : push.to ≡ to
+-- the push goes to the cell in one of the ways
+pub record IsAhead (to : Cell) (ways : Ways) (push : Push) : Type 0 where
+  pub cell : push.to ≡ to
+  pub way : IsTrue (goes ways push.dir)
 
 -- which boxes of a list aren't among these
 abbrev pub Misses : List Cell → Cells → Missing → Type 0

@@ -235,10 +235,10 @@ impl Flood {
     {
         let to = self.free.ring(cell);
         if whole {
-            return Ways::new(to, to);
+            return Ways::between(to, to);
         }
         let by = self.region.ring(cell);
-        Ways::new(by, to)
+        Ways::between(by, to)
     }
 
     // Returns the region that was found: all that is free, or the rows of the region.

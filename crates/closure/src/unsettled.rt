@@ -8,14 +8,15 @@ ghost use Rattle.cellset.specs.CellSet.{Has};
 ghost use Rattle.std.specs.List.{Contains};
 ghost use Rattle.reach.specs.declared.pushes.Push.{Push as OutPush};
 ghost use Rattle.certificates.specs.CellLists.{cell_no, cells_in};
-ghost use Rattle.closure.specs.{Groups.boxes_of, Place.IsSubset, Component.AreInComponent, Component.InComponent, Trap.AreOff};
-ghost use Rattle.closure.specs.Settling.{AreOpen, CoversNone, CoversNoneToward, HasAsked, IsPlaceOf, IsPushOut, IsParted, IsSettled, IsSettling, IsTask, Misses, Moves};
+ghost use Rattle.closure.specs.{Run.state_after, Tables.GroupCovers, Ways.goes, Groups.boxes_of, Place.IsSubset, Component.AreInComponent, Component.InComponent, Trap.AreOff};
+ghost use Rattle.closure.specs.Settling.{AreOpen, CoversNone, HasAsked, IsAhead, IsPlaceOf, IsPushOut, IsParted, IsSettled, IsSettling, IsTask, Misses};
 ghost use Rattle.closure.specs.declared.unsettled.Missing.TheVariants.{One};
 
 use crate::group_regions::Flood;
 use crate::place::Place;
 use crate::search::Search;
 use crate::task::Task;
+use crate::ways::Ways;
 use cellset::{Cell, CellSet, Dir};
 use certificates::{is_same, number_of};
 use reach::{Push, Rows};
@@ -127,52 +128,13 @@ impl Unsettled {
             Missing::One(to) => {
                 // What is kept of a group with a box on the trap isn't its region, and it covers none of these pushes.
                 if !task.tables.is_trapped(kept) {
-                    self.settle_ahead(task, boxes, group, to, Dir::L);
-                    self.settle_ahead(task, boxes, group, to, Dir::U);
-                    self.settle_ahead(task, boxes, group, to, Dir::R);
-                    self.settle_ahead(task, boxes, group, to, Dir::D);
+                    let ways = ways_ahead(task, boxes, group, to);
+                    take_ahead(&mut self.here, to, ways);
+                    take_ahead(&mut self.away, to, ways);
                 }
                 false
             }
         }
-    }
-
-    // Settles the push in a direction to the one box of a group that isn't there, if the group covers its result.
-    #[inline(always)]
-    fn settle_ahead<S: CellSet>(
-        &mut self,
-        task: &Task<S>,
-        boxes: &Rows,
-        group: usize,
-        to: Cell,
-        dir: Dir,
-    )
-        requires task { IsTask task.now }
-        requires boxes { boxes.now.members ≡ cells_in task.now.boxes.now }
-        requires group { group < length task.now.tables.now.groups.spans.items }
-        requires off { AreOff task.now.tables.now.trap.members (boxes_of task.now.tables.now.groups group) }
-        requires misses { Misses (boxes_of task.now.tables.now.groups group) (cells_in task.now.boxes.now) (One to) }
-        requires away { AreOpen task.now self.old.away.items }
-        requires here { AreOpen task.now self.old.here.items }
-        ensures asked { HasAsked task.now self.old self.new }
-        ensures none_away { CoversNoneToward task.now group dir self.new.away.items }
-        ensures none_here { CoversNoneToward task.now group dir self.new.here.items }
-    {
-        let Some(from) = task.tables.board.shape().step(to, dir.opposite()) else {
-            return;
-        };
-        // Without this, each look goes through all open pushes.
-        if !boxes.has(from) {
-            return;
-        }
-        if !task.tables.is_inside(group, from) {
-            return;
-        }
-        let None = number_of(task.tables.groups.boxes(group), from) else {
-            return;
-        };
-        take_moves(&mut self.here, from, to);
-        take_moves(&mut self.away, from, to);
     }
 
     // Settles the pushes from the component that a group covers whose boxes are all there, or all of them if its own pushes are covered.
@@ -229,17 +191,65 @@ fn find_missing(kept: &[Cell], boxes: &Rows) -> Missing
     }
 }
 
-// Takes out the pushes of a box from a cell to another.
+// Returns the ways of the pushes to the one box of a group that isn't there whose results the group covers.
+#[inline(always)]
+fn ways_ahead<S: CellSet>(task: &Task<S>, boxes: &Rows, group: usize, to: Cell) -> Ways
+    requires task { IsTask task.now }
+    requires boxes { boxes.now.members ≡ cells_in task.now.boxes.now }
+    requires group { group < length task.now.tables.now.groups.spans.items }
+    requires off { AreOff task.now.tables.now.trap.members (boxes_of task.now.tables.now.groups group) }
+    requires misses { Misses (boxes_of task.now.tables.now.groups group) (cells_in task.now.boxes.now) (One to) }
+    ensures { (push : OutPush) → IsPushOut task.now push → push.to ≡ to → IsTrue (goes result push.dir)
+        ↔ GroupCovers task.now.tables.now.board.now task.now.tables.now.groups group (state_after (cells_in task.now.boxes.now) push) }
+{
+    let left = is_way_ahead(task, boxes, group, to, Dir::L);
+    let up = is_way_ahead(task, boxes, group, to, Dir::U);
+    let right = is_way_ahead(task, boxes, group, to, Dir::R);
+    let down = is_way_ahead(task, boxes, group, to, Dir::D);
+    Ways::new(left, up, right, down)
+}
+
+// Returns whether a group covers the result of a push in a direction to the one box of it that isn't there.
+#[inline(always)]
+fn is_way_ahead<S: CellSet>(task: &Task<S>, boxes: &Rows, group: usize, to: Cell, dir: Dir) -> bool
+    requires task { IsTask task.now }
+    requires boxes { boxes.now.members ≡ cells_in task.now.boxes.now }
+    requires group { group < length task.now.tables.now.groups.spans.items }
+    requires off { AreOff task.now.tables.now.trap.members (boxes_of task.now.tables.now.groups group) }
+    requires misses { Misses (boxes_of task.now.tables.now.groups group) (cells_in task.now.boxes.now) (One to) }
+    ensures { (push : OutPush) → IsPushOut task.now push → push.to ≡ to → push.dir ≡ dir → IsTrue result
+        ↔ GroupCovers task.now.tables.now.board.now task.now.tables.now.groups group (state_after (cells_in task.now.boxes.now) push) }
+{
+    let Some(from) = task.tables.board.shape().step(to, dir.opposite()) else {
+        return false;
+    };
+    if !task.tables.is_inside(group, from) {
+        return false;
+    }
+    if !boxes.has(from) {
+        return false;
+    }
+    match number_of(task.tables.groups.boxes(group), from) {
+        Some(_) => false,
+        None => true,
+    }
+}
+
+// Takes out the pushes to a cell in these ways.
 #[tactic(auto, using(crate::proofs::Taken::taken_only, crate::proofs::Taken::taken_kept, std::proofs::lemmas::List::get_or_default))]
-fn take_moves(pushes: &mut Vec<Push>, from: Cell, to: Cell)
-    ensures kept { (push : OutPush) → Contains pushes.old.items push → Contains pushes.new.items push ⊎ Moves from to push }
+fn take_ahead(pushes: &mut Vec<Push>, to: Cell, ways: Ways)
+    ensures kept { (push : OutPush) → Contains pushes.old.items push → Contains pushes.new.items push ⊎ IsAhead to ways push }
     ensures only { (push : OutPush) → Contains pushes.new.items push → Contains pushes.old.items push }
     ensures fewer { length pushes.new.items ≤ length pushes.old.items }
-    ensures none { (push : OutPush) → Contains pushes.new.items push → Moves from to push → ⊥ }
+    ensures none { (push : OutPush) → Contains pushes.new.items push → IsAhead to ways push → ⊥ }
 {
+    // Without this, each look goes through all open pushes.
+    if ways.is_none() {
+        return;
+    }
     let mut at = 0;
     while at < pushes.len() {
-        if is_move(pushes[at], from, to) {
+        if is_ahead(pushes[at], to, ways) {
             pushes.swap_remove(at);
         } else {
             at += 1;
@@ -247,12 +257,12 @@ fn take_moves(pushes: &mut Vec<Push>, from: Cell, to: Cell)
     }
 }
 
-// Returns whether a push moves a box from a cell to another.
+// Returns whether a push goes to a cell in one of these ways.
 #[inline(always)]
-fn is_move(push: Push, from: Cell, to: Cell) -> bool
-    ensures { IsTrue result ↔ Moves from to push }
+fn is_ahead(push: Push, to: Cell, ways: Ways) -> bool
+    ensures { IsTrue result ↔ IsAhead to ways push }
 {
-    is_same(push.from, from) && is_same(push.to, to)
+    is_same(push.to, to) && ways.has(push.dir)
 }
 
 // Takes out the pushes of these boxes.

@@ -1,5 +1,5 @@
 //! In which directions a box can be pushed out of its group.
-ghost use Rattle.std.specs.Prelude.{◌≡◌, ◌&&◌, cond};
+ghost use Rattle.std.specs.Prelude.{◌≡◌, ◌&&◌, IsTrue, cond};
 ghost use Rattle.cellset.specs.declared.dir.Dir.TheVariants.{L, U, R, D};
 ghost use Rattle.closure.specs.Ways.{goes};
 
@@ -13,19 +13,38 @@ pub(crate) struct Ways {
 }
 
 impl Ways {
+    // Returns the ways in these directions.
+    pub(crate) fn new(left: bool, up: bool, right: bool, down: bool) -> Ways
+        ensures left { goes result L ≡ left }
+        ensures up { goes result U ≡ up }
+        ensures right { goes result R ≡ right }
+        ensures down { goes result D ≡ down }
+    {
+        Ways {
+            bits: bit_if(left, 1) | bit_if(up, 2) | bit_if(right, 4) | bit_if(down, 8),
+        }
+    }
+
     // Returns the ways of a box by a player in one set to another, by what each of them has around the box.
-    pub(crate) fn new(by: Ring, to: Ring) -> Ways
+    pub(crate) fn between(by: Ring, to: Ring) -> Ways
         ensures left { goes result L ≡ (by.right && to.left) }
         ensures up { goes result U ≡ (by.down && to.up) }
         ensures right { goes result R ≡ (by.left && to.right) }
         ensures down { goes result D ≡ (by.up && to.down) }
     {
-        Ways {
-            bits: bit_if(by.right & to.left, 1)
-                | bit_if(by.down & to.up, 2)
-                | bit_if(by.left & to.right, 4)
-                | bit_if(by.up & to.down, 8),
-        }
+        Ways::new(
+            by.right & to.left,
+            by.down & to.up,
+            by.left & to.right,
+            by.up & to.down,
+        )
+    }
+
+    // Returns whether no push goes in any direction.
+    pub(crate) fn is_none(self) -> bool
+        ensures { IsTrue result → self.bits ≡ 0 }
+    {
+        self.bits == 0
     }
 
     // Returns whether a push goes in the direction.

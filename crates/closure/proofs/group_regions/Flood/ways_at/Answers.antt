@@ -20,12 +20,12 @@ each region free cell by to w is_by is_to left up right down D = way _ _ _ down 
 
 pub returns-then-whole : goal.returns-then-whole
 returns-then-whole c =
-    let is = c.new.ensures in
-    rw c.if-whole.true (each c.args.self.now.free.members c.args.self.now.free.members c.args.cell c.ring-to.result c.ring-to.result c.new.result c.ring-to.ensures
+    let is = c.between.ensures in
+    rw c.if-whole.true (each c.args.self.now.free.members c.args.self.now.free.members c.args.cell c.ring-to.result c.ring-to.result c.between.result c.ring-to.ensures
     c.ring-to.ensures is.left is.up is.right is.down)
 
 pub returns : goal.returns
 returns c =
-    let is = c.new-2.ensures in
-    rw c.if-whole.false (each c.args.self.now.region.members c.args.self.now.free.members c.args.cell c.ring-by.result c.ring-to.result c.new-2.result c.ring-by.ensures
+    let is = c.between-2.ensures in
+    rw c.if-whole.false (each c.args.self.now.region.members c.args.self.now.free.members c.args.cell c.ring-by.result c.ring-to.result c.between-2.result c.ring-by.ensures
     c.ring-to.ensures is.left is.up is.right is.down)

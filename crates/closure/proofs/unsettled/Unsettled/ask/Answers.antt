@@ -1,6 +1,7 @@
 -- If a box of the group isn't there, it covers the result of no push but those that lead to that box's cell (`OpenPushes.antt`).
-use Rattle.cellset.proofs.{Members.not_both}
-use Rattle.closure.proofs.{Asked.asked_on, OpenPushes.covering_off, OpenPushes.each_dir, OpenPushes.more_none, OpenPushes.open_in}
+use Rattle.std.proofs.Common.{refl, inl, inr}
+use Rattle.cellset.proofs.{Members.not_both, Truth.either}
+use Rattle.closure.proofs.OpenPushes.{ahead_is, covering_off, more_none, open_in, settled_by}
 use Rattle.closure.proofs.unsettled.Unsettled.ask.Goals as goal
 
 pub returns-in-More-clause-found : goal.returns-in-More-clause-found
@@ -12,70 +13,49 @@ returns-in-More-clause-found g c =
       λ push has. more_none task is c.args.group c.requires.group push (open_in task is push (c.requires.here push has).0) misses,
     )
 
-pub settle_ahead-requires : goal.settle_ahead-requires
-settle_ahead-requires g c = record {
+pub ways_ahead-ways-requires : goal.ways_ahead-ways-requires
+ways_ahead-ways-requires g c = record {
   task = c.requires.task;
   boxes = c.requires.boxes;
   group = c.requires.group;
   off = rw c.boxes-kept.ensures at c.if-not-is_trapped.ensures;
   misses = rw (c.boxes-kept.ensures, c.requires.boxes) at c.in-One.ensures;
-  away = λ push has. c.requires.away push has;
-  here = λ push has. c.requires.here push has;
-}
-
-pub settle_ahead-requires-then-not-is_trapped : goal.settle_ahead-requires-then-not-is_trapped
-settle_ahead-requires-then-not-is_trapped g c = record {
-  task = c.requires.task;
-  boxes = c.requires.boxes;
-  group = c.requires.group;
-  off = rw c.boxes-kept.ensures at c.if-not-is_trapped.ensures;
-  misses = rw (c.boxes-kept.ensures, c.requires.boxes) at c.in-One.ensures;
-  away = λ push has. c.requires.away push (c.settle_ahead.ensures.asked.away.only push has);
-  here = λ push has. c.requires.here push (c.settle_ahead.ensures.asked.here.only push has);
-}
-
-pub settle_ahead-requires-then-not-is_trapped-2 : goal.settle_ahead-requires-then-not-is_trapped-2
-settle_ahead-requires-then-not-is_trapped-2 g c = record {
-  task = c.requires.task;
-  boxes = c.requires.boxes;
-  group = c.requires.group;
-  off = rw c.boxes-kept.ensures at c.if-not-is_trapped.ensures;
-  misses = rw (c.boxes-kept.ensures, c.requires.boxes) at c.in-One.ensures;
-  away = λ push has. c.requires.away push (c.settle_ahead.ensures.asked.away.only push (c.settle_ahead-then-not-is_trapped.ensures.asked.away.only push has));
-  here = λ push has. c.requires.here push (c.settle_ahead.ensures.asked.here.only push (c.settle_ahead-then-not-is_trapped.ensures.asked.here.only push has));
-}
-
-pub settle_ahead-requires-then-not-is_trapped-3 : goal.settle_ahead-requires-then-not-is_trapped-3
-settle_ahead-requires-then-not-is_trapped-3 g c = record {
-  task = c.requires.task;
-  boxes = c.requires.boxes;
-  group = c.requires.group;
-  off = rw c.boxes-kept.ensures at c.if-not-is_trapped.ensures;
-  misses = rw (c.boxes-kept.ensures, c.requires.boxes) at c.in-One.ensures;
-  away = λ push has. c.requires.away push (c.settle_ahead.ensures.asked.away.only push (c.settle_ahead-then-not-is_trapped.ensures.asked.away.only push (c.settle_ahead-then-not-is_trapped-2.ensures.asked.away.only push has)));
-  here = λ push has. c.requires.here push (c.settle_ahead.ensures.asked.here.only push (c.settle_ahead-then-not-is_trapped.ensures.asked.here.only push (c.settle_ahead-then-not-is_trapped-2.ensures.asked.here.only push has)));
 }
 
 pub returns-then-not-is_trapped-clause-asked : goal.returns-then-not-is_trapped-clause-asked
 returns-then-not-is_trapped-clause-asked g c =
-    asked_on _ _ _ _ (asked_on _ _ _ _ (asked_on _ _ _ _ c.settle_ahead.ensures.asked c.settle_ahead-then-not-is_trapped.ensures.asked) c.settle_ahead-then-not-is_trapped-2.ensures.asked) c.settle_ahead-then-not-is_trapped-3.ensures.asked
+    let task = c.args.task.now in
+    let is = c.requires.task in
+    let covers = c.ways_ahead-ways.ensures in
+    record {
+      away = record {
+        kept = λ push was. either (c.take_ahead-then-not-is_trapped.ensures.kept push was) inl (λ met. inr (settled_by task is c.args.group push ((covers push (c.requires.away push was).0 met.cell).0 met.way)));
+        only = c.take_ahead-then-not-is_trapped.ensures.only;
+        fewer = c.take_ahead-then-not-is_trapped.ensures.fewer;
+      };
+      here = record {
+        kept = λ push was. either (c.take_ahead.ensures.kept push was) inl (λ met. inr (settled_by task is c.args.group push ((covers push (c.requires.here push was).0 met.cell).0 met.way)));
+        only = c.take_ahead.ensures.only;
+        fewer = c.take_ahead.ensures.fewer;
+      };
+      search = refl;
+      inside = refl;
+    }
 
 pub returns-then-not-is_trapped-clause-found : goal.returns-then-not-is_trapped-clause-found
 returns-then-not-is_trapped-clause-found g c =
-    let l = c.settle_ahead.ensures in
-    let u = c.settle_ahead-then-not-is_trapped.ensures in
-    let r = c.settle_ahead-then-not-is_trapped-2.ensures in
-    let d = c.settle_ahead-then-not-is_trapped-3.ensures in (
-      λ push has covers. each_dir ⊥ push.dir
-          (λ e. l.none_away push (u.asked.away.only push (r.asked.away.only push (d.asked.away.only push has))) e covers)
-          (λ e. u.none_away push (r.asked.away.only push (d.asked.away.only push has)) e covers)
-          (λ e. r.none_away push (d.asked.away.only push has) e covers)
-          (λ e. d.none_away push has e covers),
-      λ push has covers. each_dir ⊥ push.dir
-          (λ e. l.none_here push (u.asked.here.only push (r.asked.here.only push (d.asked.here.only push has))) e covers)
-          (λ e. u.none_here push (r.asked.here.only push (d.asked.here.only push has)) e covers)
-          (λ e. r.none_here push (d.asked.here.only push has) e covers)
-          (λ e. d.none_here push has e covers),
+    let task = c.args.task.now in
+    let is = c.requires.task in
+    let covers = c.ways_ahead-ways.ensures in
+    let misses = rw (c.boxes-kept.ensures, c.requires.boxes) at c.in-One.ensures in (
+      λ push has covered.
+          let out = (c.requires.away push (c.take_ahead-then-not-is_trapped.ensures.only push has)).0 in
+          let ahead = ahead_is task is c.args.group c.requires.group push (open_in task is push out) c.in-One.to misses covered in
+          c.take_ahead-then-not-is_trapped.ensures.none push has (record { cell = ahead; way = (covers push out ahead).1 covered }),
+      λ push has covered.
+          let out = (c.requires.here push (c.take_ahead.ensures.only push has)).0 in
+          let ahead = ahead_is task is c.args.group c.requires.group push (open_in task is push out) c.in-One.to misses covered in
+          c.take_ahead.ensures.none push has (record { cell = ahead; way = (covers push out ahead).1 covered }),
     )
 
 pub returns-else-not-is_trapped-clause-found : goal.returns-else-not-is_trapped-clause-found

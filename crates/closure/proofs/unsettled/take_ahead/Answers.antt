@@ -2,10 +2,10 @@ use Rattle.std.proofs.Common.{◌≡◌, ◌<◌, length, sym, ◌∙◌, inl, i
 use Rattle.std.proofs.lemmas.List.{get_or_default}
 use Rattle.cellset.proofs.Truth.{either}
 use Rattle.closure.proofs.Taken.{taken_before, taken_kept, taken_only}
-use Rattle.closure.proofs.unsettled.take_moves.Goals as goal
+use Rattle.closure.proofs.unsettled.take_ahead.Goals as goal
 
-pub loop-at-preserved-then-is_move : goal.loop-at-preserved-then-is_move
-loop-at-preserved-then-is_move c =
+pub loop-at-preserved-then-is_ahead : goal.loop-at-preserved-then-is_ahead
+loop-at-preserved-then-is_ahead c =
     let old = c.loop-at.pushes.items in
     let new = c.swap_remove.new.self.items in
     let low = c.loop-at-test.true in
@@ -21,7 +21,7 @@ loop-at-preserved-then-is_move c =
     record {
       within = omega arith;
       kept = λ p was. either (inv.kept p was)
-          (λ there. either (kept p there) inl (λ is. inr (rw (is ∙ same) (c.is_move.ensures.0 c.if-is_move.true))))
+          (λ there. either (kept p there) inl (λ is. inr (rw (is ∙ same) (c.is_ahead.ensures.0 c.if-is_ahead.true))))
           inr;
       only = λ p is. inv.only p (only p is);
       fewer = omega arith;
