@@ -1,5 +1,5 @@
-"""tests/run speed PROGRAM [WORD..]: plants slow, greedy and broken programs, and limits that are too
-high, each of which bench/run has to find, all or some by their names. Ends in 'N passed, M
+"""tests/run speed PROGRAM [WORD..]: plants slow, greedy and broken programs, and limits that are
+too high, each of which bench/run has to find, all or some by their names. Ends in 'N passed, M
 failed'."""
 import os
 import unittest.mock

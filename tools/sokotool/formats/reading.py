@@ -235,8 +235,8 @@ class Reader:
     # ---- letters for other levels
 
     def _try_elsewhere(self, it: Loose) -> None:
-        """Tries letters on all other levels: whole, between titles, by paragraphs, and line by line.
-        Reports those that solve none. A name is for no other level."""
+        """Tries letters on all other levels: whole, between titles, by paragraphs, and line by
+        line. Reports those that solve none. A name is for no other level."""
         if it.group.is_name:
             return
         group, size = it.group, sum(len(piece.letters) for piece in it.pieces)
