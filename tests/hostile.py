@@ -81,10 +81,10 @@ def archives(cases: Cases) -> None:
     one = ONE.encode()
     zipped("bomb.zip", {"a.xsb": bytes(300_000_000)})
     attack(cases, "a bomb", ["convert", "out", "bomb.zip"], 2, "cannot read bomb.zip")
-    zipped("up.zip", {it: one for it in ("../up.xsb", "/tmp/sokoaudit-up.xsb", "a/../../up.xsb",
-                                         "..\\up.xsb", "C:\\up.xsb")})
+    zipped("up.zip", {it: one for it in ("../up.xsb", os.path.abspath("whole.xsb"),
+                                         "a/../../up.xsb", "..\\up.xsb", "C:\\up.xsb")})
     attack(cases, "paths that lead up", ["convert", "out", "up.zip"], 0)
-    cases.holds("nothing is unpacked", not os.path.exists("/tmp/sokoaudit-up.xsb"))
+    cases.holds("nothing is unpacked", not os.path.exists("whole.xsb"))
     zipped("link.zip", {"link.xsb": b"/etc/passwd"}, mode=0o120777)
     ran = attack(cases, "a link", ["convert", "out", "link.zip"], 0, "link.xsb")
     cases.holds("it isn't followed", b"root:" not in ran.output + ran.errors)

@@ -60,7 +60,7 @@ def plant(program: str, lines: str) -> None:
 
 
 def multiplied(times: int, rooms: int) -> str:
-    """Writes a table of limits that are so many times as high, and returns its name."""
+    """Writes a table of limits this many times as high, and returns its name."""
     rows = (f"{name} | {limit.units * times:.3f} | {limit.room * rooms} | {limit.said}\n"
             for name, limit in timing.read_limits().items())
     write("limits", "".join(rows))
