@@ -3,7 +3,7 @@
 -- group covers the result if its boxes are all there after the push and its region has that cell. A push out of a pattern is a push out of its
 -- group.
 use Rattle.std.proofs.Common.{◌≡◌, ◌≢◌, Bool, false, ℕ, ◌<◌, ◌≤◌, List, length, get_or, set, refl, sym, ◌∙◌, ap, subst, inl, inr, arith}
-use Rattle.std.{specs.Prelude.IsTrue, specs.Prelude.slice_index, specs.List.Contains, proofs.lemmas.Bool.cases_lt}
+use Rattle.std.{specs.Prelude.IsTrue, specs.Prelude.slice_index, specs.List.Contains, proofs.lemmas.Bool.cases_lt, proofs.lemmas.Bool.false≢true}
 use Rattle.std.proofs.lemmas.List.{get_or-set_other, get_or-set_same, length-set, get_or_default}
 use Rattle.cellset.specs.{Cell.IsOn, Cell.neighbor, Cell.opposite, CellSet.Cells, CellSet.Has, declared.cell.Cell.Cell, declared.dir.Dir.Dir}
 use Rattle.cellset.specs.declared.dir.Dir.TheVariants.{L, U, R, D}
@@ -16,7 +16,8 @@ use Rattle.cellset.proofs.CellLists.{has_listed}
 use Rattle.certificates.specs.Pattern.{Pattern, InPatternRegion, IsCovered, PushesOut, after_push, CoversPushesOf}
 use Rattle.closure.specs.{Arena.pattern_at, GroupRegions.IsFreeAt, Run.state_after, declared.groups.Groups.Groups}
 use Rattle.closure.specs.{declared.tables.Tables.Tables, Groups.IsGrouped, Groups.boxes_of, Groups.list_of, Groups.position_at, Tables.AreTables}
-use Rattle.closure.specs.GroupPushes.{AreNoted, CoversFrom, CoversToward, IsPushOf}
+use Rattle.closure.specs.GroupPushes.{AreNoted, CoversFrom, CoversToward, IsPushOf, IsPushedBox, pushed_cell}
+use Rattle.closure.specs.{Ways.goes, declared.tables.PushedBox.PushedBox, declared.ways.Ways.Ways}
 use Rattle.certificates.proofs.RegionCells.{region_on}
 use Rattle.closure.proofs.Arenas.{list_long}
 use Rattle.closure.proofs.Grouped.{box_floor, covered_of_group, group_in_room, line_boxes, of_line}
@@ -158,6 +159,41 @@ module _ {S : Type 0} (tables : Tables S) (is : AreTables tables) (g : ℕ) wher
     pub toward_trap : (cell : Cell) (dir : Dir) (p : Push) → IsPushOf tables.board.now position cell dir p → Has tables.trap.members p.to →
         CoversToward tables.board.now (list_of tables.groups) position cell dir
     toward_trap cell dir p of has = covered_one tables.board.now position cell dir (list_of tables.groups) p of (onto_trap_covered p of.out has)
+
+-- ---- the facts about a box of a group
+module _ {S : Type 0} (tables : Tables S) (is : AreTables tables) (pushed : PushedBox) (of : IsPushedBox tables pushed) (dir : Dir) where
+  low : pushed.number < length (boxes_of tables.groups pushed.group)
+  low = subst (λ b. pushed.number < length b) of.boxes of.number
+
+  same_cell : cell_no (boxes_of tables.groups pushed.group) pushed.number ≡ pushed_cell pushed
+  same_cell = ap (λ b. cell_no b pushed.number) (sym of.boxes)
+
+  pub pushed_on : IsOn tables.board.now.shape (pushed_cell pushed)
+  pushed_on = subst (IsOn tables.board.now.shape) same_cell (cell_on tables is pushed.group of.group pushed.number low dir)
+
+  pub pushed_toward : (push : Push) → PushesOut tables.board.now (position_at tables.board.now tables.groups pushed.group) push → push.from ≡ pushed_cell pushed → push.dir ≡ dir
+      → InPatternRegion tables.board.now (position_at tables.board.now tables.groups pushed.group) (neighbor (pushed_cell pushed) (opposite dir))
+      × IsFreeAt tables.board.now tables.groups pushed.group (neighbor (pushed_cell pushed) dir)
+  pushed_toward push out from toward = rw same_cell at (goes_toward tables is pushed.group of.group pushed.number low dir push out (from ∙ sym same_cell) toward)
+
+  pub pushed_out : InPatternRegion tables.board.now (position_at tables.board.now tables.groups pushed.group) (neighbor (pushed_cell pushed) (opposite dir))
+      → IsFreeAt tables.board.now tables.groups pushed.group (neighbor (pushed_cell pushed) dir) → (player to : Cell) → player ≡ neighbor (pushed_cell pushed) (opposite dir)
+      → to ≡ neighbor (pushed_cell pushed) dir
+      → IsPushOf tables.board.now (position_at tables.board.now tables.groups pushed.group) (pushed_cell pushed) dir
+      (record { player = player; dir = dir; from = pushed_cell pushed; to = to })
+  pushed_out = rw same_cell at (goes_out tables is pushed.group of.group pushed.number low dir)
+
+-- A box without ways has no push.
+goes_none : (w : Ways) (d : Dir) → w.bits ≡ 0 → goes w d ≡ false
+goes_none w L none = rw none refl
+goes_none w U none = rw none refl
+goes_none w R none = rw none refl
+goes_none w D none = rw none refl
+
+pub held_box : {S : Type 0} (tables : Tables S) → AreTables tables → (pushed : PushedBox) → IsPushedBox tables pushed → pushed.ways.bits ≡ 0 → (patterns : List Pattern)
+    → CoversFrom tables.board.now patterns (position_at tables.board.now tables.groups pushed.group) (pushed_cell pushed)
+held_box tables is pushed of none patterns push out from =
+    absurd (false≢true (sym (goes_none pushed.ways push.dir none) ∙ (of.ways push.dir).1 (pushed_toward tables is pushed of push.dir push out from refl)))
 
 -- ---- notes
 module _ (level : Level) (groups : Groups) (noted : List Bool) (are : AreNoted level groups noted) where

@@ -13,6 +13,7 @@ pub mod Searches
 pub mod Settled
 pub mod Moves
 pub mod Numbered
+pub mod Numbers
 pub mod OpenPushes
 pub mod Components
 pub mod Taken

@@ -2,22 +2,22 @@
 -- pushed box leaves and it lacks that box; and it covers the result of no other open push. One whose boxes are all there settles
 -- the pushes from the component of the boxes that it lacks, if its region has the player, and all of them if its own pushes are covered; it covers
 -- the result of no push from the component if its region lacks the player. A group with a box on the trap covers the result of no open push.
-use Rattle.std.proofs.Common.{◌≡◌, ℕ, ◌<◌, List, length, refl, sym, ◌∙◌, inl, inr}
+use Rattle.std.proofs.Common.{◌≡◌, ℕ, ◌<◌, List, length, refl, sym, ◌∙◌, ap, inl, inr}
 use Rattle.std.specs.List.{Contains}
 use Rattle.cellset.specs.declared.dir.Dir.{Dir, TheVariants.L, TheVariants.U, TheVariants.R, TheVariants.D}
-use Rattle.cellset.specs.{CellSet.Cells, CellSet.Has, CellSet.Lacks, declared.cell.Cell.Cell}
-use Rattle.cellset.proofs.{Members.not_both, Truth.either}
+use Rattle.cellset.specs.{Cell.IsOn, Cell.neighbor, Cell.opposite, CellSet.Cells, CellSet.Has, CellSet.Lacks, declared.cell.Cell.Cell}
+use Rattle.cellset.proofs.{Members.not_both, Neighbors.neighbor_forth, Truth.either}
 use Rattle.reach.specs.declared.pushes.Push.{Push}
 use Rattle.board.specs.Game.{Level}
 use Rattle.certificates.specs.CellLists.{cells_in}
 use Rattle.certificates.specs.Pattern.{Pattern, InPatternRegion, CoversPushesOf}
-use Rattle.closure.specs.{GroupPushes.IsPushOf, Run.state_after, Trap.AreOff, Tables.GroupCovers, Place.IsSubset, Component.AreInComponent}
+use Rattle.closure.specs.{GroupPushes.IsPushOf, Open.IsStep, Open.IsThat, Run.state_after, Trap.AreOff, Tables.GroupCovers, Place.IsSubset, Component.AreInComponent}
 use Rattle.closure.specs.{declared.groups.Groups.Groups, declared.task.Task.Task, Groups.boxes_of, Groups.list_of, Groups.position_at}
-use Rattle.closure.specs.Settling.{IsPushOut, IsSettled, IsTask, Misses}
+use Rattle.closure.specs.Settling.{CoversNoneToward, IsPushOut, IsSettled, IsTask, Misses}
 use Rattle.closure.specs.declared.unsettled.Missing.TheVariants.{One, More}
 use Rattle.closure.proofs.Grouped.{box_floor, covered_of_group, group_in_room}
-use Rattle.closure.proofs.{GroupPushes.leaves_room, GroupPushes.toward_trap, Traps.off_after}
-use Rattle.closure.proofs.Settled.{IsPushIn, push_in, ahead_decides, after_within, back_inside, loose_push, subsumed_push}
+use Rattle.closure.proofs.{GroupPushes.leaves_room, GroupPushes.player_behind, GroupPushes.toward_trap, Traps.off_after}
+use Rattle.closure.proofs.Settled.{IsPushIn, push_in, ahead_decides, after_within, back_inside, loose_push, steps_back, subsumed_push}
 
 pub each_dir : (P : Type 0) (d : Dir) → (d ≡ L → P) → (d ≡ U → P) → (d ≡ R → P) → (d ≡ D → P) → P
 each_dir P L l u r d = l refl
@@ -45,6 +45,21 @@ module _ {S : Type 0} (task : Task S) (is : IsTask task) where
   -- The cell that the box of an open push leaves is in the room.
   pub open_from : (push : Push) → IsPushOut task push → Has level.room push.from
   open_from push out = leaves_room task.tables.now is.tables task.group is.group push out
+
+  pub open_on : (push : Push) → IsPushOut task push → IsOn level.shape push.from
+  open_on push out = (is.tables.formed.room push.from (open_from push out)).0
+
+  pub open_step : (push : Push) → IsPushOut task push → IsStep push
+  open_step push out = record { player = player_behind level (at task.group) push.from push.dir push out refl refl; to = out.cell_behind }
+
+  -- A push in a direction to a cell comes from the cell beside that.
+  pub ahead_from : (push : Push) (out : IsPushOut task push) (to : Cell) (dir : Dir) → push.to ≡ to → push.dir ≡ dir → push.from ≡ neighbor to (opposite dir)
+  ahead_from push out to dir ahead toward = rw (← toward, ← ahead) (sym (steps_back level boxes push (open_in push out).move))
+
+  -- It goes to that cell if it comes from there.
+  pub ahead_to : (push : Push) (out : IsPushOut task push) (to : Cell) (dir : Dir) → IsOn level.shape to → IsThat (neighbor to (opposite dir)) dir push → push.to ≡ to
+  ahead_to push out to dir on that =
+      out.cell_behind ∙ (ap (λ c. neighbor c push.dir) that.cell ∙ (ap (λ d. neighbor (neighbor to (opposite dir)) d) that.way ∙ neighbor_forth to dir on.top on.left))
 
   -- The pushes of a box in a direction are settled if one of them is one to the trap.
   pub toward_trap_settled : (cell : Cell) (dir : Dir) (one push : Push) → IsPushOf level (at task.group) cell dir one → Has task.tables.now.trap.members one.to
@@ -98,3 +113,14 @@ module _ {S : Type 0} (task : Task S) (is : IsTask task) where
     noted_settles noted inside =
         subsumed_push level boxes push within.move (list_of groups) (at g) (λ s covers. covered_of_group level groups is.tables.grouped s g covers) noted
         (component.onward push has (at g) (record { boxes = subset.has; player = inside }))
+
+-- A group one of whose boxes isn't there covers the result of no push in a direction, if it doesn't of one from the cell beside that box.
+pub none_toward : {S : Type 0} (task : Task S) (is : IsTask task) (g : ℕ) (lt : g < length task.tables.now.groups.spans.items) (to : Cell)
+    (misses : Misses (boxes_of task.tables.now.groups g) (cells_in task.boxes.now) (One to)) (dir : Dir) (pushes : List Push)
+    → ((push : Push) → Contains pushes push → IsPushOut task push)
+    → ((push : Push) → Contains pushes push → IsThat (neighbor to (opposite dir)) dir push
+    → GroupCovers task.tables.now.board.now task.tables.now.groups g (state_after (cells_in task.boxes.now) push) → ⊥)
+    → CoversNoneToward task g dir pushes
+none_toward task is g lt to misses dir pushes out never push has toward covers =
+    let ahead = ahead_is task is g lt push (open_in task is push (out push has)) to misses covers in
+    never push has (record { cell = ahead_from task is push (out push has) to dir ahead toward; way = toward }) covers

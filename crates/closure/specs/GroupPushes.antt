@@ -5,7 +5,9 @@ use Rattle.reach.specs.declared.pushes.Push.{Push}
 use Rattle.board.specs.Game.{Level}
 use Rattle.certificates.specs.CellLists.{cell_no}
 use Rattle.certificates.specs.Pattern.{Pattern, IsCovered, PushesOut, after_push, CoversPushesOf}
-use Rattle.closure.specs.{declared.pushes.PushedBox.PushedBox, declared.groups.Groups.Groups, Groups.boxes_of, Groups.list_of, Groups.position_at}
+use Rattle.certificates.specs.Pattern.{InPatternRegion}
+use Rattle.closure.specs.{declared.tables.PushedBox.PushedBox, declared.tables.Tables.Tables, declared.groups.Groups.Groups, Groups.boxes_of, Groups.list_of, Groups.position_at}
+use Rattle.closure.specs.{GroupRegions.IsFreeAt, Ways.AreWays}
 
 -- the push out of the pattern moves the box on this cell in the direction
 pub record IsPushOf (level : Level) (pattern : Pattern) (cell : Cell) (dir : Dir) (push : Push) : Type 0 where
@@ -34,8 +36,10 @@ pub record AreNoted (level : Level) (groups : Groups) (noted : List Bool) : Type
   pub long : length noted ≡ length groups.spans.items
   pub covers : (g : ℕ) → g < length noted → IsTrue (slice_index_or noted g false) → CoversPushesOf level (list_of groups) (position_at level groups g)
 
--- a box of a group
-pub record IsPushedBox (groups : Groups) (pushed : PushedBox) : Type 0 where
-  pub group : pushed.group < length groups.spans.items
-  pub boxes : pushed.boxes.now ≡ boxes_of groups pushed.group
+-- a box of a group, and the ways of the pushes out of it
+pub record IsPushedBox {S : Type 0} (tables : Tables S) (pushed : PushedBox) : Type 0 where
+  pub group : pushed.group < length tables.groups.spans.items
+  pub boxes : pushed.boxes.now ≡ boxes_of tables.groups pushed.group
   pub number : pushed.number < length pushed.boxes.now
+  pub ways : AreWays (InPatternRegion tables.board.now (position_at tables.board.now tables.groups pushed.group)) (IsFreeAt tables.board.now tables.groups pushed.group)
+      (pushed_cell pushed) pushed.ways

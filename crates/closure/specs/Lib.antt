@@ -8,6 +8,7 @@ pub mod GroupRegions
 pub mod Groups
 pub mod Kept
 pub mod Lookups
+pub mod Open
 pub mod Component
 pub mod Place
 pub mod Search

@@ -16,6 +16,8 @@ pub record AreLookups {S : Type 0} (tables : Tables S) (lookups : Lookups) : Typ
   pub place : IsPlace tables.board.now lookups.place
   pub free : lookups.flood.free.extent ≡ tables.board.now.shape
   pub region : lookups.flood.region.extent ≡ tables.board.now.shape
+  pub away : lookups.unsettled.away.extent ≡ tables.board.now.shape
+  pub here : lookups.unsettled.here.extent ≡ tables.board.now.shape
 
 -- the lookups are ready to settle the pushes of a group
 pub record IsReady {S : Type 0} (task : Task S) (l : Lookups) : Type 0 where

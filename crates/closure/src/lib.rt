@@ -22,10 +22,10 @@
 //!    noted as covered. If all are, the list is closed. This is so for nearly every list that a program writes.
 //! 6. **Pushes by lookups** (`lookups`, `settling`, `unsettled`), for each other group, by rising number of boxes. Its pushes are open, and
 //!    other groups settle them. A group covers the result of a push exactly if each of its boxes is there or is where the push leads, and its
-//!    region has the cell that the pushed box leaves. If all boxes of a group are there and its region has the player, it covers the results
-//!    of the pushes from the player's component of the room less the boxes that move boxes which it lacks; and if it is noted as covered
-//!    itself, the list covers those of all. A push that is open when all groups were asked isn't covered. If none is open, the group is noted
-//!    as covered.
+//!    region has the cell that the pushed box leaves. So one that lacks a box settles at most the four pushes to it, and these are found by
+//!    the box that they move (`open`). If all boxes of a group are there and its region has the player, it covers the results of the pushes
+//!    from the player's component of the room less the boxes that move boxes which it lacks; and if it is noted as covered itself, the list
+//!    covers those of all. A push that is open when all groups were asked isn't covered. If none is open, the group is noted as covered.
 //! 7. At last the lines are gone through up to the first fault. If a line's group isn't noted, its pushes are settled again. The line gets
 //!    a flood of its own, and the first push left by a player in it is the fault.
 //!
@@ -56,6 +56,7 @@ mod kept;
 mod lawful;
 mod laws;
 mod lookups;
+mod open;
 mod pattern_list;
 mod place;
 mod pushes;

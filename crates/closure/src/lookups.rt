@@ -4,6 +4,7 @@ ghost use Rattle.closure.specs.{Lookups.AreLookups, Tables.AreTables};
 
 use crate::buckets::{Buckets, fill_buckets};
 use crate::group_regions::Flood;
+use crate::open::Open;
 use crate::place::Place;
 use crate::search::Search;
 use crate::tables::Tables;
@@ -41,8 +42,8 @@ impl Lookups {
             flood,
             place,
             unsettled: Unsettled {
-                away: Vec::new(alloc),
-                here: Vec::new(alloc),
+                away: Open::new(alloc, board.shape())?,
+                here: Open::new(alloc, board.shape())?,
                 search: Search {
                     cells: Vec::new(alloc),
                     begun: 0,

@@ -12,19 +12,10 @@ ghost use Rattle.closure.specs.GroupPushes.{AreNoted, CoversFrom, CoversToward, 
 ghost use Rattle.closure.specs.{Tables.AreTables, Trap.AreOff};
 
 use crate::hints::{TRIES, hash_of, hash_with, hash_without};
-use crate::tables::Tables;
+use crate::tables::{PushedBox, Tables};
 use cellset::{Cell, CellSet, Dir};
 use certificates::is_same;
 use reach::Push;
-
-// A box of a group, by its number, and the hash of the other boxes.
-#[derive(Clone, Copy)]
-struct PushedBox<'a> {
-    group: usize,
-    boxes: &'a [Cell],
-    others: usize,
-    number: usize,
-}
 
 // Notes the groups whose pushes the trap and hints settle.
 pub(crate) fn note_hinted<S: CellSet>(tables: &Tables<S>, covered: &mut Vec<bool>)
@@ -49,13 +40,12 @@ fn are_pushes_hinted<S: CellSet>(tables: &Tables<S>, group: usize) -> bool
     }
     let hash = hash_of(boxes);
     for number in 0..boxes.len() {
-        let pushed = PushedBox {
-            group,
-            boxes,
-            others: hash_without(hash, boxes[number]),
-            number,
-        };
-        if !is_hinted_each_way(tables, &pushed) {
+        let pushed = tables.pushed_box(group, boxes, number);
+        if pushed.ways.is_none() {
+            continue;
+        }
+        let others = hash_without(hash, boxes[number]);
+        if !is_hinted_each_way(tables, &pushed, others) {
             return false;
         }
     }
@@ -63,38 +53,43 @@ fn are_pushes_hinted<S: CellSet>(tables: &Tables<S>, group: usize) -> bool
 }
 
 // Returns true only if the list covers each push of a box out of its group.
-fn is_hinted_each_way<S: CellSet>(tables: &Tables<S>, pushed: &PushedBox) -> bool
+fn is_hinted_each_way<S: CellSet>(tables: &Tables<S>, pushed: &PushedBox, others: usize) -> bool
     requires tables { AreTables tables.now }
-    requires pushed { IsPushedBox tables.now.groups pushed.now }
+    requires pushed { IsPushedBox tables.now pushed.now }
     requires off { AreOff tables.now.trap.members pushed.now.boxes.now }
     ensures { IsTrue result → CoversFrom tables.now.board.now (list_of tables.now.groups) (position_at tables.now.board.now tables.now.groups pushed.now.group) (pushed_cell pushed.now) }
 {
-    if !is_hinted_toward(tables, pushed, Dir::L) {
+    if !is_hinted_toward(tables, pushed, others, Dir::L) {
         return false;
     }
-    if !is_hinted_toward(tables, pushed, Dir::U) {
+    if !is_hinted_toward(tables, pushed, others, Dir::U) {
         return false;
     }
-    if !is_hinted_toward(tables, pushed, Dir::R) {
+    if !is_hinted_toward(tables, pushed, others, Dir::R) {
         return false;
     }
-    is_hinted_toward(tables, pushed, Dir::D)
+    is_hinted_toward(tables, pushed, others, Dir::D)
 }
 
 // Returns true only if the list covers the push of a box in a direction, or the push doesn't go out of its group.
 //
 // It and what it calls are inlined, so that the direction is a constant. Without that a list takes a tenth longer.
 #[inline(always)]
-fn is_hinted_toward<S: CellSet>(tables: &Tables<S>, pushed: &PushedBox, dir: Dir) -> bool
+fn is_hinted_toward<S: CellSet>(
+    tables: &Tables<S>,
+    pushed: &PushedBox,
+    others: usize,
+    dir: Dir,
+) -> bool
     requires tables { AreTables tables.now }
-    requires pushed { IsPushedBox tables.now.groups pushed.now }
+    requires pushed { IsPushedBox tables.now pushed.now }
     requires off { AreOff tables.now.trap.members pushed.now.boxes.now }
     ensures { IsTrue result → CoversToward tables.now.board.now (list_of tables.now.groups) (position_at tables.now.board.now tables.now.groups pushed.now.group) (pushed_cell pushed.now) dir }
 {
-    let Some(push) = tables.push_of(pushed.group, pushed.number, dir) else {
+    let Some(push) = tables.push_of(pushed, dir) else {
         return true;
     };
-    tables.is_on_trap(push.to) || is_hinted(tables, pushed, push)
+    tables.is_on_trap(push.to) || is_hinted(tables, pushed.boxes, others, push)
 }
 
 // Returns the number of the first cell from a number on that is this one.
@@ -150,21 +145,19 @@ fn covers_after<S: CellSet>(tables: &Tables<S>, group: usize, boxes: &[Cell], pu
 
 // Returns whether a group that hints name covers the result of a push.
 #[inline(always)]
-fn is_hinted<S: CellSet>(tables: &Tables<S>, pushed: &PushedBox, push: Push) -> bool
+fn is_hinted<S: CellSet>(tables: &Tables<S>, boxes: &[Cell], others: usize, push: Push) -> bool
     requires tables { AreTables tables.now }
     requires room { Has tables.now.board.now.room push.from }
-    requires off { (c : GridCell) → Has (moved (cells_in pushed.now.boxes.now) push.from push.to) c → Lacks tables.now.trap.members c }
-    ensures { IsTrue result → IsCovered tables.now.board.now (list_of tables.now.groups) (state_after (cells_in pushed.now.boxes.now) push) }
+    requires off { (c : GridCell) → Has (moved (cells_in boxes.now) push.from push.to) c → Lacks tables.now.trap.members c }
+    ensures { IsTrue result → IsCovered tables.now.board.now (list_of tables.now.groups) (state_after (cells_in boxes.now) push) }
 {
-    let hash = hash_with(pushed.others, push.to);
+    let hash = hash_with(others, push.to);
     for turn in 0..TRIES {
         let Some(slot) = tables.groups.hints.slot(hash, turn) else {
             return false;
         };
         if let Some(group) = slot.group_for(hash) {
-            if group < tables.groups.spans.len()
-                && covers_after(tables, group, pushed.boxes, push)
-            {
+            if group < tables.groups.spans.len() && covers_after(tables, group, boxes, push) {
                 return true;
             }
         }

@@ -4,7 +4,7 @@ ghost use Rattle.std.specs.List.{Contains};
 ghost use Rattle.cellset.specs.{CellSet.Has, declared.cell.Cell.Cell as GridCell};
 ghost use Rattle.reach.specs.declared.pushes.Push.{Push as OutPush};
 ghost use Rattle.certificates.specs.CellLists.{cells_in};
-ghost use Rattle.closure.specs.{Buckets.AreBuckets, Search.IsPassed, Search.IsSearch, Search.IsSearched, Search.searches_left, Settling.AreOpen, Settling.IsTask};
+ghost use Rattle.closure.specs.{Buckets.AreBuckets, Search.IsPassed, Search.IsSearch, Search.IsSearched, Search.searches_left, Settling.IsPushOut, Settling.IsTask};
 
 use crate::buckets::Buckets;
 use crate::task::Task;
@@ -29,7 +29,7 @@ impl Search {
         pushes: &[Push],
     ) -> Result<(), AllocError>
         requires task { IsTask task.now }
-        requires pushes { AreOpen task.now pushes.now }
+        requires pushes { (push : OutPush) → Contains pushes.now push → IsPushOut task.now push }
         ensures search { OnOk result ((buckets : _) → IsSearch task.now.tables.now.board.now.shape task.now.tables.now.groups buckets self.new) }
         ensures begun { OnOk result (self.new.begun ≡ 0) }
         ensures ahead { OnOk result ((push : OutPush) → Contains pushes.now push → Has (cells_in self.new.cells.items) push.to) }

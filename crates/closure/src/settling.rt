@@ -13,11 +13,12 @@ ghost use Rattle.closure.specs.Settling.{AreOpen, CoversNone, HasAsked, IsOnward
 use crate::buckets::Buckets;
 use crate::hints::{TRIES, hash_of, hash_with, hash_without};
 use crate::lookups::Lookups;
+use crate::open::rank;
 use crate::place::Place;
 use crate::tables::Tables;
 use crate::task::Task;
 use crate::unsettled::Unsettled;
-use cellset::{Cell, CellSet, Dir};
+use cellset::{Cell, CellSet};
 use reach::{Push, Rows};
 use std::alloc::AllocError;
 
@@ -34,7 +35,7 @@ impl Lookups {
         while self.enter(task)? {
             self.unsettled
                 .settle_here(task, &mut self.place, &self.buckets)?;
-            self.left.extend_from_slice(&self.unsettled.here)?;
+            self.left.extend_from_slice(self.unsettled.here.all())?;
         }
         Ok(())
     }
@@ -45,7 +46,7 @@ impl Lookups {
         requires are { AreLookups task.now.tables.now self.old }
         ensures ready { OnOk result (IsReady task.now self.new) }
         ensures left { self.new.left.items ≡ [] }
-        ensures all { OnOk result ((push : OutPush) → IsPushOut task.now push → Contains self.new.unsettled.away.items push ⊎ IsSettled task.now push) }
+        ensures all { OnOk result ((push : OutPush) → IsPushOut task.now push → Contains self.new.unsettled.away.pushes push ⊎ IsSettled task.now push) }
     {
         self.left.clear();
         self.place.player = task.tables.board.player();
@@ -64,19 +65,18 @@ impl Lookups {
         ensures ready { OnOk result (IsReady task.now self.new) }
         ensures left { self.new.left ≡ self.old.left }
         ensures component { IfOk result (λ some. IsTrue some
-            → AreInComponent task.now.tables.now.board.now (cells_in task.now.boxes.now) self.new.place.player self.new.unsettled.here.items) }
-        ensures kept { IfOk result (λ some. IsTrue some → (push : OutPush) → Contains self.old.unsettled.away.items push
-            → Contains self.new.unsettled.away.items push ⊎ Contains self.new.unsettled.here.items push) }
-        ensures fewer { IfOk result (λ some. MatchBool some (length self.new.unsettled.away.items < length self.old.unsettled.away.items)
-            ((push : OutPush) → Contains self.old.unsettled.away.items push → ⊥)) }
+            → AreInComponent task.now.tables.now.board.now (cells_in task.now.boxes.now) self.new.place.player self.new.unsettled.here.pushes) }
+        ensures kept { IfOk result (λ some. IsTrue some → (push : OutPush) → Contains self.old.unsettled.away.pushes push
+            → Contains self.new.unsettled.away.pushes push ⊎ Contains self.new.unsettled.here.pushes push) }
+        ensures fewer { IfOk result (λ some. MatchBool some (length self.new.unsettled.away.pushes < length self.old.unsettled.away.pushes)
+            ((push : OutPush) → Contains self.old.unsettled.away.pushes push → ⊥)) }
     {
-        if self.unsettled.away.is_empty() {
+        let Some(first) = self.unsettled.away.first() else {
             return Ok(false);
-        }
-        let player = self.unsettled.away[0].player;
-        self.flood.find_component(player);
+        };
+        self.flood.find_component(first.player);
         self.unsettled.enter(&self.flood)?;
-        self.place.player = player;
+        self.place.player = first.player;
         Ok(true)
     }
 
@@ -110,15 +110,15 @@ impl Unsettled {
     pub(crate) fn ask_hints<S: CellSet>(&mut self, task: &Task<S>, boxes: &Rows)
         requires task { IsTask task.now }
         requires boxes { boxes.now.members ≡ cells_in task.now.boxes.now }
-        requires away { AreOpen task.now self.old.away.items }
-        requires here { AreOpen task.now self.old.here.items }
+        requires away { AreOpen task.now self.old.away }
+        requires here { AreOpen task.now self.old.here }
         ensures { HasAsked task.now self.old self.new }
     {
         let hash = hash_of(task.boxes);
-        let mut at = self.away.len();
+        let mut at = self.away.all().len();
         while at > 0 {
             at -= 1;
-            if let Some(push) = self.away.get(at) {
+            if let Some(push) = self.away.all().get(at) {
                 let after = hash_with(hash_without(hash, push.from), push.to);
                 self.ask_hinted(task, boxes, after);
             }
@@ -129,8 +129,8 @@ impl Unsettled {
     fn ask_hinted<S: CellSet>(&mut self, task: &Task<S>, boxes: &Rows, hash: usize)
         requires task { IsTask task.now }
         requires boxes { boxes.now.members ≡ cells_in task.now.boxes.now }
-        requires away { AreOpen task.now self.old.away.items }
-        requires here { AreOpen task.now self.old.here.items }
+        requires away { AreOpen task.now self.old.away }
+        requires here { AreOpen task.now self.old.here }
         ensures { HasAsked task.now self.old self.new }
     {
         for turn in 0..TRIES {
@@ -157,14 +157,14 @@ impl Unsettled {
         requires place { IsPlaceOf task.now place.old }
         requires buckets { AreBuckets task.now.tables.now.board.now task.now.tables.now.groups buckets.now }
         requires settling { IsSettling task.now buckets.now self.old }
-        requires component { AreInComponent task.now.tables.now.board.now (cells_in task.now.boxes.now) place.old.player self.old.here.items }
+        requires component { AreInComponent task.now.tables.now.board.now (cells_in task.now.boxes.now) place.old.player self.old.here.pushes }
         ensures place { place.new ≡ place.old }
         ensures onward { OnOk result (IsOnward task.now buckets.now self.old self.new) }
-        ensures rest { OnOk result ((push : OutPush) → Contains self.new.here.items push → IsSettled task.now push → ⊥) }
+        ensures rest { OnOk result ((push : OutPush) → Contains self.new.here.pushes push → IsSettled task.now push → ⊥) }
     {
         self.ask_last(task, place);
         self.settle_inside(task, place);
-        while !self.here.is_empty() {
+        while !self.here.all().is_empty() {
             if !self.ask_next(task, place, buckets)? {
                 return Ok(());
             }
@@ -175,9 +175,9 @@ impl Unsettled {
     // Asks the group that settled the last component.
     fn ask_last<S: CellSet>(&mut self, task: &Task<S>, place: &mut Place)
         requires place { IsPlaceOf task.now place.old }
-        requires away { AreOpen task.now self.old.away.items }
-        requires here { AreOpen task.now self.old.here.items }
-        requires component { AreInComponent task.now.tables.now.board.now (cells_in task.now.boxes.now) place.old.player self.old.here.items }
+        requires away { AreOpen task.now self.old.away }
+        requires here { AreOpen task.now self.old.here }
+        requires component { AreInComponent task.now.tables.now.board.now (cells_in task.now.boxes.now) place.old.player self.old.here.pushes }
         ensures place { place.new ≡ place.old }
         ensures asked { HasAsked task.now self.old self.new }
     {
@@ -195,12 +195,12 @@ impl Unsettled {
     fn settle_inside<S: CellSet>(&mut self, task: &Task<S>, place: &mut Place)
         requires place { IsPlaceOf task.now place.old }
         requires inside { (g : ℕ) → Contains self.old.inside.items g → IsSubset task.now.tables.now.groups (cells_in task.now.boxes.now) g }
-        requires away { AreOpen task.now self.old.away.items }
-        requires here { AreOpen task.now self.old.here.items }
-        requires component { AreInComponent task.now.tables.now.board.now (cells_in task.now.boxes.now) place.old.player self.old.here.items }
+        requires away { AreOpen task.now self.old.away }
+        requires here { AreOpen task.now self.old.here }
+        requires component { AreInComponent task.now.tables.now.board.now (cells_in task.now.boxes.now) place.old.player self.old.here.pushes }
         ensures place { place.new ≡ place.old }
         ensures asked { HasAsked task.now self.old self.new }
-        ensures none { (g : ℕ) → Contains self.new.inside.items g → CoversNone task.now g self.new.here.items }
+        ensures none { (g : ℕ) → Contains self.new.inside.items g → CoversNone task.now g self.new.here.pushes }
     {
         for at in 0..self.inside.len() {
             let group = self.inside[at];
@@ -218,11 +218,11 @@ impl Unsettled {
         requires place { IsPlaceOf task.now place.old }
         requires buckets { AreBuckets task.now.tables.now.board.now task.now.tables.now.groups buckets.now }
         requires settling { IsSettling task.now buckets.now self.old }
-        requires component { AreInComponent task.now.tables.now.board.now (cells_in task.now.boxes.now) place.old.player self.old.here.items }
-        requires none { (g : ℕ) → Contains self.old.inside.items g → CoversNone task.now g self.old.here.items }
+        requires component { AreInComponent task.now.tables.now.board.now (cells_in task.now.boxes.now) place.old.player self.old.here.pushes }
+        requires none { (g : ℕ) → Contains self.old.inside.items g → CoversNone task.now g self.old.here.pushes }
         ensures place { place.new ≡ place.old }
         ensures onward { OnOk result (IsOnward task.now buckets.now self.old self.new) }
-        ensures none { OnOk result ((g : ℕ) → Contains self.new.inside.items g → CoversNone task.now g self.new.here.items) }
+        ensures none { OnOk result ((g : ℕ) → Contains self.new.inside.items g → CoversNone task.now g self.new.here.pushes) }
         ensures fewer { IfOk result (λ some. MatchBool some
             (searches_left task.now.tables.now.groups self.new.search < searches_left task.now.tables.now.groups self.old.search)
             (IsSearched task.now.tables.now.board.now.shape task.now.tables.now.groups buckets.now self.new.search)) }
@@ -281,17 +281,5 @@ fn is_least(push: Push, known: Option<Push>) -> bool
             push.player < first.player
                 || push.player == first.player && rank(push.dir) < rank(first.dir)
         }
-    }
-}
-
-// Returns the place of a direction in the order left, up, right, down.
-fn rank(dir: Dir) -> u8
-    ensures { result ≡ dir_rank dir }
-{
-    match dir {
-        Dir::L => 0,
-        Dir::U => 1,
-        Dir::R => 2,
-        Dir::D => 3,
     }
 }

@@ -1,9 +1,9 @@
 //! The tables of an index: all that is kept of a list of patterns.
 ghost use Rattle.std.specs.Prelude.{◌≡◌, ◌<◌, ◌↔◌, IfOk, IsTrue, MatchBool, MatchOption, length};
 ghost use Rattle.cellset.specs.{Cell.IsOn, CellSet.Has, CellSet.Lacks, declared.cell.Cell.Cell as GridCell};
-ghost use Rattle.certificates.specs.CellLists.{cell_no, cells_in};
+ghost use Rattle.certificates.specs.CellLists.{cells_in};
 ghost use Rattle.certificates.specs.Pattern.{InPatternRegion, AreLawful};
-ghost use Rattle.closure.specs.{Arena.list_in, GroupPushes.HasNoPush, GroupPushes.IsPushOf};
+ghost use Rattle.closure.specs.{Arena.list_in, GroupPushes.HasNoPush, GroupPushes.IsPushOf, GroupPushes.IsPushedBox, GroupPushes.pushed_cell};
 ghost use Rattle.closure.specs.{Trap.AreOff, Trap.IsTrapOf, Groups.boxes_of, Groups.position_at};
 ghost use Rattle.closure.specs.Tables.{AreTables};
 
@@ -11,8 +11,10 @@ use crate::arena::Arena;
 use crate::group_regions::{Regions, find_regions};
 use crate::groups::{Groups, group};
 use crate::trap::is_trapped;
+use crate::ways::Ways;
 use board::Board;
 use cellset::{Cell, CellSet, Dir};
+use certificates::number_of;
 use reach::{Push, Rows};
 use std::alloc::{AllocError, Global};
 
@@ -25,6 +27,15 @@ pub(crate) struct Tables<'a, S: CellSet> {
     pub trapless: bool,
     pub groups: Groups,
     pub regions: Regions,
+}
+
+// A box of a group, by its number, and the ways in which it can be pushed.
+#[derive(Clone, Copy)]
+pub(crate) struct PushedBox<'a> {
+    pub group: usize,
+    pub boxes: &'a [Cell],
+    pub number: usize,
+    pub ways: Ways,
 }
 
 impl<'a, S: CellSet> Tables<'a, S> {
@@ -85,22 +96,44 @@ impl<'a, S: CellSet> Tables<'a, S> {
         is_trapped(boxes, &self.trap)
     }
 
-    // Returns the push of a box in a direction, if it goes out of its group.
+    // Returns a box of a group, by its number, with its ways.
     #[inline(always)]
-    pub(crate) fn push_of(&self, group: usize, number: usize, dir: Dir) -> Option<Push>
+    pub(crate) fn pushed_box<'b>(
+        &self,
+        group: usize,
+        boxes: &'b [Cell],
+        number: usize,
+    ) -> PushedBox<'b>
         requires tables { AreTables self.now }
         requires group { group < length self.now.groups.spans.items }
-        requires number { number < length (boxes_of self.now.groups group) }
-        requires off { AreOff self.now.trap.members (boxes_of self.now.groups group) }
-        ensures { MatchOption result
-            (HasNoPush self.now.board.now (position_at self.now.board.now self.now.groups group) (cell_no (boxes_of self.now.groups group) number) dir)
-            (IsPushOf self.now.board.now (position_at self.now.board.now self.now.groups group) (cell_no (boxes_of self.now.groups group) number) dir) }
+        requires boxes { boxes.now ≡ boxes_of self.now.groups group }
+        requires number { number < length boxes.now }
+        requires off { AreOff self.now.trap.members boxes.now }
+        ensures is { IsPushedBox self.now result }
+        ensures same { (result.group ≡ group) × (result.boxes.now ≡ boxes.now) × (result.number ≡ number) }
     {
-        if !self.regions.ways[self.groups.spans[group].from as usize + number].has(dir) {
+        PushedBox {
+            group,
+            boxes,
+            number,
+            ways: self.regions.ways[self.groups.spans[group].from as usize + number],
+        }
+    }
+
+    // Returns the push of a box in a direction, if it goes out of its group.
+    #[inline(always)]
+    pub(crate) fn push_of(&self, pushed: &PushedBox, dir: Dir) -> Option<Push>
+        requires tables { AreTables self.now }
+        requires pushed { IsPushedBox self.now pushed.now }
+        ensures { MatchOption result
+            (HasNoPush self.now.board.now (position_at self.now.board.now self.now.groups pushed.now.group) (pushed_cell pushed.now) dir)
+            (IsPushOf self.now.board.now (position_at self.now.board.now self.now.groups pushed.now.group) (pushed_cell pushed.now) dir) }
+    {
+        if !pushed.ways.has(dir) {
             return None;
         }
         let shape = self.board.shape();
-        let from = self.groups.boxes(group)[number];
+        let from = pushed.boxes[pushed.number];
         let Some(player) = shape.step(from, dir.opposite()) else {
             return None;
         };
@@ -125,5 +158,24 @@ impl<'a, S: CellSet> Tables<'a, S> {
             → IsTrue result ↔ InPatternRegion self.now.board.now (position_at self.now.board.now self.now.groups group) cell }
     {
         self.regions.kept.has(self.regions.of[group], cell)
+    }
+
+    // Returns whether a cell of the room is in the region of a group.
+    #[inline(always)]
+    pub(crate) fn is_in_region(&self, group: usize, cell: Cell) -> bool
+        requires tables { AreTables self.now }
+        requires group { group < length self.now.groups.spans.items }
+        requires off { AreOff self.now.trap.members (boxes_of self.now.groups group) }
+        requires cell { IsOn self.now.board.now.shape cell }
+        ensures { Has self.now.board.now.room cell
+            → IsTrue result ↔ InPatternRegion self.now.board.now (position_at self.now.board.now self.now.groups group) cell }
+    {
+        if !self.is_inside(group, cell) {
+            return false;
+        }
+        match number_of(self.groups.boxes(group), cell) {
+            Some(_) => false,
+            None => true,
+        }
     }
 }

@@ -35,6 +35,7 @@ returns-clause-ready g c =
     let are = c.requires.are in
     let free = c.take_out.ensures in
     let asked = c.ask_hints.ensures in
+    let begun = c.in_ok-begin.ensures.settling c.args.self.now.buckets in
     record {
       are = record {
         buckets = are.buckets;
@@ -44,6 +45,8 @@ returns-clause-ready g c =
         };
         free = free.same.0 ∙ are.free;
         region = ap (λ r. r.extent) free.same.1 ∙ are.region;
+        away = asked.away.extent ∙ begun.away.extent;
+        here = asked.here.extent ∙ begun.here.extent;
       };
       boxes = c.load_rows.ensures.members;
       free = record { extent = free.same.0 ∙ are.free; members = λ q. rw c.room_rows.ensures.members at (free.free q) };

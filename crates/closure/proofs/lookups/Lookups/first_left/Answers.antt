@@ -19,6 +19,8 @@ returns-clause-are g c = record {
   place = c.requires.are.place;
   free = rw c.find_line-whole.ensures.same.0 c.requires.are.free;
   region = c.find_line-whole.ensures.same.1 ∙ c.requires.are.region;
+  away = c.requires.are.away;
+  here = c.requires.are.here;
 }
 
 pub returns-clause-exact : goal.returns-clause-exact

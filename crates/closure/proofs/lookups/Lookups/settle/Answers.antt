@@ -17,21 +17,21 @@ loop-self-preserved g c =
     let entered = c.in_ok-enter.ensures in
     let here = c.in_ok-settle_here.ensures.onward in
     let same = c.in_ok-settle_here.ensures.place in
-    let add = rw c.deref.ensures.value at c.in_ok-extend_from_slice.ensures.items in
+    let add = rw c.all.ensures at c.in_ok-extend_from_slice.ensures.items in
     let are = entered.ready.are in
     record {
       ready = record {
-        are = record { buckets = are.buckets; place = rw same are.place; free = are.free; region = are.region };
+        are = record { buckets = are.buckets; place = rw same are.place; free = are.free; region = are.region; away = here.settling.away.extent; here = here.settling.here.extent };
         boxes = rw same entered.ready.boxes;
         free = entered.ready.free;
         whole = entered.ready.whole;
         settling = here.settling;
       };
-      only = λ push h. either (Contains-append_cases c.loop-self.self.left.items c.settle_here.new.self.here.items push (rw (add, entered.left) at h))
+      only = λ push h. either (Contains-append_cases c.loop-self.self.left.items c.settle_here.new.self.here.pushes push (rw (add, entered.left) at h))
           (inv.only push)
-          (λ new. ((here.settling.here push new).0, c.in_ok-settle_here.ensures.rest push new));
+          (λ new. ((here.settling.here.out push new).0, c.in_ok-settle_here.ensures.rest push new));
       all = λ push out. either (inv.all push out)
-          (λ left. inl (rw (add, entered.left) (Contains-append_left _ c.settle_here.new.self.here.items push left)))
+          (λ left. inl (rw (add, entered.left) (Contains-append_left _ c.settle_here.new.self.here.pushes push left)))
           (λ rest. either rest
           (λ away. either (entered.kept c.if-branch.true push away)
           (λ still. inr (here.away.kept push still))

@@ -8,8 +8,8 @@ abbrev pub invariant-loop-self : goal.invariant-loop-self
 invariant-loop-self g l = record {
   ready : IsReady l.task l.self;
   only : (push : Push) → Contains l.self.left.items push → IsPushOut l.task push × (IsSettled l.task push → ⊥);
-  all : (push : Push) → IsPushOut l.task push → Contains l.self.left.items push ⊎ (Contains l.self.unsettled.away.items push ⊎ IsSettled l.task push);
+  all : (push : Push) → IsPushOut l.task push → Contains l.self.left.items push ⊎ (Contains l.self.unsettled.away.pushes push ⊎ IsSettled l.task push);
 }
 
 abbrev pub decreases-loop-self : goal.decreases-loop-self
-decreases-loop-self g l = length l.self.unsettled.away.items
+decreases-loop-self g l = length l.self.unsettled.away.pushes

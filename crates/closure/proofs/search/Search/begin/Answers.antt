@@ -21,7 +21,7 @@ loop-push-preserved g c =
     let lt = c.loop-push-test.true in
     record {
       on = λ q has. either (Contains-push_cases xs _ q (rw c.in_ok-push.ensures.items at has)) (inv.on q)
-          (λ same. subst (IsOn c.args.task.now.tables.now.board.now.shape) same (c.requires.pushes _ (All-contains_itself pushes n _ lt)).0.free.on);
+          (λ same. subst (IsOn c.args.task.now.tables.now.board.now.shape) same (c.requires.pushes _ (All-contains_itself pushes n _ lt)).free.on);
       ahead = λ i p below. rw c.in_ok-push.ensures.items (elim (cases_lt i n) [
         | inl low ↦ Contains-append_left xs _ _ (inv.ahead i p low)
         | inr from ↦ let here : i ≡ n = omega arith in rw (here, get_or_default pushes n p no_push lt) (Contains-push xs _)

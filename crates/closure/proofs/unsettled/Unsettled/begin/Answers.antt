@@ -1,5 +1,5 @@
 -- Each push out of the group moves one of its boxes, in one of the four directions.
-use Rattle.std.proofs.Common.{◌≡◌, ◌⊎◌, inl, inr, arith}
+use Rattle.std.proofs.Common.{◌≡◌, ◌⊎◌, ◌∙◌, ap, inl, inr, arith}
 use Rattle.std.specs.List.{Contains}
 use Rattle.std.proofs.lemmas.List.{get_or_default}
 use Rattle.cellset.{proofs.Truth.either}
@@ -19,13 +19,15 @@ loop-number-preserved g c =
     let u = c.open_toward-in-loop-number.ensures in
     let r = c.open_toward-in-loop-number-2.ensures in
     let d = c.open_toward-in-loop-number-3.ensures in
-    let new = c.open_toward-in-loop-number-3.new.self.away.items in
+    let new = c.open_toward-in-loop-number-3.new.self.away.pushes in
     let Opened : Push → Type 0 = λ push. Contains new push ⊎ IsSettled task push in
+    let box = c.pushed_box-pushed.ensures.same in
     record {
       away = c.in_ok-open_toward-4.ensures.away;
+      here = d.here ∙ (r.here ∙ (u.here ∙ (l.here ∙ inv.here)));
       all = one_more (λ i. (push : Push) → IsPushOut task push → push.from ≡ cell_no task.boxes.now i → Opened push) c.loop-number.number
           (λ i lt push out from. either (inv.all i lt push out from) (λ h. inl (d.kept push (r.kept push (u.kept push (l.kept push h))))) inr)
-          (λ push out from. each_dir (Opened push) push.dir
+          (λ push out at. let from = rw (← box.1, ← box.2) at at in each_dir (Opened push) push.dir
           (λ e. either (c.in_ok-open_toward.ensures.all push out from e) (λ h. inl (d.kept push (r.kept push (u.kept push h)))) inr)
           (λ e. either (c.in_ok-open_toward-2.ensures.all push out from e) (λ h. inl (d.kept push (r.kept push h))) inr)
           (λ e. either (c.in_ok-open_toward-3.ensures.all push out from e) (λ h. inl (d.kept push h)) inr)
@@ -33,7 +35,7 @@ loop-number-preserved g c =
     }
 
 pub begin-requires-clause-pushes : goal.begin-requires-clause-pushes
-begin-requires-clause-pushes g c = rw c.deref.ensures.value c.loop-number.invariant.away
+begin-requires-clause-pushes g c = λ push has. (c.loop-number.invariant.away.out push (rw c.all.ensures at has)).0
 
 pub returns-clause-settling : goal.returns-clause-settling
 returns-clause-settling g c = λ buckets.
@@ -41,11 +43,11 @@ returns-clause-settling g c = λ buckets.
     let found = c.in_ok-begin.ensures in
     record {
       away = inv.away;
-      here = λ push has. absurd (none_in push (rw c.clear-2.ensures.items at has));
+      here = record { extent = c.clear-2.ensures.extent ∙ (ap (λ h. h.extent) inv.here ∙ c.requires.here); out = λ push has. absurd (none_in push (rw c.clear-2.ensures.none at has)) };
       search = found.search buckets;
       boxes_searched = found.boxes;
-      away_searched = λ push has. found.ahead push (rw c.deref.ensures.value has);
-      here_searched = λ push has. absurd (none_in push (rw c.clear-2.ensures.items at has));
+      away_searched = λ push has. found.ahead push (rw c.all.ensures has);
+      here_searched = λ push has. absurd (none_in push (rw c.clear-2.ensures.none at has));
       inside = λ h has. absurd (none_in h (rw c.clear-3.ensures.items at has));
       asked = λ h lt passed. let low = passed.begun in let none = found.begun in absurd (omega arith);
     }

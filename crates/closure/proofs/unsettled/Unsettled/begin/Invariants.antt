@@ -7,7 +7,8 @@ use Rattle.closure.proofs.unsettled.Unsettled.begin.Given as goal
 
 abbrev pub invariant-loop-number : goal.invariant-loop-number
 invariant-loop-number g l = record {
-  away : AreOpen l.task l.self.away.items;
+  away : AreOpen l.task l.self.away;
+  here : l.self.here ≡ l.fn.self.here;
   all : (i : ℕ) → i < l.number → (push : Push) → IsPushOut l.task push → push.from ≡ cell_no l.task.boxes.now i
-      → Contains l.self.away.items push ⊎ IsSettled l.task push;
+      → Contains l.self.away.pushes push ⊎ IsSettled l.task push;
 }

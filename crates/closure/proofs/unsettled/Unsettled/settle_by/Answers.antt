@@ -18,7 +18,7 @@ returns-then-not-is_inside-clause-none g c =
     let decides = c.is_inside.ensures c.requires.place.place.room (lacks_within (cells_in (boxes_of task.tables.now.groups c.args.group)) (cells_in task.boxes.now) c.args.place.now.player
     c.requires.group.has c.requires.component.outside) in
     λ push has covers. false≢true (sym c.if-not-is_inside.true ∙ decides.1 (inside_player task is c.args.group c.requires.group
-    c.args.place.now.player c.args.self.now.here.items c.requires.component push has (open_in task is push (c.requires.here push has).0) covers))
+    c.args.place.now.player c.args.self.now.here.pushes c.requires.component push has (open_in task is push (c.requires.here.out push has).0) covers))
 
 pub returns-then-task-group-clause-asked : goal.returns-then-task-group-clause-asked
 returns-then-task-group-clause-asked g c =
@@ -32,10 +32,11 @@ returns-then-task-group-clause-asked g c =
     record {
       away = taken_none _ _;
       here = record {
-        kept = λ push was. inr (noted_settles task is c.args.group c.requires.group c.args.place.now.player c.args.self.now.here.items c.requires.component push was
-            (open_in task is push (c.requires.here push was).0) noted inside);
-        only = λ push has. absurd (none_in push (rw c.clear.ensures.items at has));
-        fewer = rw c.clear.ensures.items (omega arith);
+        extent = c.clear.ensures.extent;
+        kept = λ push was. inr (noted_settles task is c.args.group c.requires.group c.args.place.now.player c.args.self.now.here.pushes c.requires.component push was
+            (open_in task is push (c.requires.here.out push was).0) noted inside);
+        only = λ push has. absurd (none_in push (rw c.clear.ensures.none at has));
+        fewer = rw c.clear.ensures.none (omega arith);
       };
       search = refl;
       inside = refl;
@@ -84,9 +85,10 @@ returns-clause-asked g c =
     record {
       away = taken_none _ _;
       here = record {
+        extent = taken.extent;
         kept = λ push was. either (taken.kept push was) inl
-            (λ standing. inr (inside_settles task is c.args.group c.requires.group c.args.place.now.player c.args.self.now.here.items c.requires.component push was
-            (open_in task is push (c.requires.here push was).0) inside (rw c.boxes-kept.ensures at ((c.lift.ensures.members push.from).0 standing).1)));
+            (λ standing. inr (inside_settles task is c.args.group c.requires.group c.args.place.now.player c.args.self.now.here.pushes c.requires.component push was
+            (open_in task is push (c.requires.here.out push was).0) inside (rw c.boxes-kept.ensures at ((c.lift.ensures.members push.from).0 standing).1)));
         only = taken.only;
         fewer = taken.fewer;
       };
@@ -99,7 +101,7 @@ returns-clause-none g c =
     let task = c.args.task.now in
     let is = c.requires.place.is in
     λ push has covers.
-    let open_before = c.requires.here push (c.take_standing.ensures.only push has) in
+    let open_before = c.requires.here.out push (c.take_standing.ensures.only push has) in
     let move = (open_in task is push open_before.0).move in
     let lacks = lacks_pushed task.tables.now.board.now (cells_in task.boxes.now) push move (position_at task.tables.now.board.now task.tables.now.groups c.args.group) covers.1 in
     c.take_standing.ensures.none push has ((c.lift.ensures.members push.from).1 (rw c.requires.place.boxes move.box, rw c.boxes-kept.ensures lacks))

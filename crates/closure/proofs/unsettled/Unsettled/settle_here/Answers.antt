@@ -1,5 +1,5 @@
 use Rattle.std.proofs.Common.{◌∙◌}
-use Rattle.closure.proofs.Asked.{asked_on, none_settled, onward_asked, onward_on, component_less}
+use Rattle.closure.proofs.Asked.{open_less, asked_on, none_settled, onward_asked, onward_on, component_less}
 use Rattle.closure.proofs.unsettled.Unsettled.settle_here.Goals as goal
 
 pub settle_inside-requires : goal.settle_inside-requires
@@ -10,8 +10,8 @@ settle_inside-requires g c =
     record {
       place = rw same c.requires.place;
       inside = λ h has. was.inside h (rw now.inside at has);
-      away = λ push has. was.away push (now.away.only push has);
-      here = λ push has. was.here push (now.here.only push has);
+      away = open_less c.args.task.now _ _ was.away now.away;
+      here = open_less c.args.task.now _ _ was.here now.here;
       component = rw same (component_less c.args.task.now _ _ _ c.requires.component now.here.only);
     }
 

@@ -7,7 +7,7 @@ abbrev pub invariant-loop-self : goal.invariant-loop-self
 invariant-loop-self g l = record {
   place : l.place ≡ l.fn.place;
   onward : IsOnward l.task l.buckets l.fn.self l.self;
-  none : (h : ℕ) → Contains l.self.inside.items h → CoversNone l.task h l.self.here.items;
+  none : (h : ℕ) → Contains l.self.inside.items h → CoversNone l.task h l.self.here.pushes;
 }
 
 abbrev pub decreases-loop-self : goal.decreases-loop-self

@@ -3,7 +3,7 @@ use Rattle.std.proofs.Common.{◌≡◌, ◌<◌, length, sym, ◌∙◌, subst,
 use Rattle.std.{specs.Prelude.slice_index, specs.List.Contains}
 use Rattle.std.proofs.lemmas.List.{get_or_default}
 use Rattle.closure.specs.Settling.{CoversNone}
-use Rattle.closure.proofs.Asked.{asked_on, component_less}
+use Rattle.closure.proofs.Asked.{open_less, asked_on, component_less}
 use Rattle.closure.proofs.unsettled.Unsettled.settle_inside.Goals as goal
 use Rattle.closure.proofs.unsettled.Unsettled.settle_inside.Goals.{After-index-group}
 
@@ -18,7 +18,7 @@ settle_by-requires g c =
     record {
       place = rw c.loop-at.invariant.place c.requires.place;
       group = c.requires.inside c.index-group.result.now (rw now.inside at listed);
-      here = λ push has. c.requires.here push (now.here.only push has);
+      here = open_less c.args.task.now _ _ c.requires.here now.here;
       component = rw c.loop-at.invariant.place (component_less c.args.task.now _ _ _ c.requires.component now.here.only);
     }
 
@@ -28,7 +28,7 @@ loop-at-preserved g c =
     let now = c.settle_by.ensures in
     let lt = within g (goal.at.loop-at-preserved g c).After-index-group in
     let items = c.loop-at.self.inside.items in
-    let here = c.settle_by.new.self.here.items in
+    let here = c.settle_by.new.self.here.pushes in
     let read : c.index-group.result.now ≡ slice_index items c.loop-at.at = c.index-group.ensures ∙ get_or_default items c.loop-at.at c.index-group.result.now 0 lt in
     record {
       place = now.place ∙ c.loop-at.invariant.place;
@@ -45,5 +45,5 @@ returns-clause-none g c =
     let items = c.loop-at.self.inside.items in
     λ h has.
     let lt : has.0 < length c.args.self.now.inside.items = rw c.loop-at.invariant.asked.inside at has.1 in
-    subst (λ k. CoversNone c.args.task.now k c.loop-at.self.here.items) (get_or_default items has.0 0 h has.1 ∙ has.2)
+    subst (λ k. CoversNone c.args.task.now k c.loop-at.self.here.pushes) (get_or_default items has.0 0 h has.1 ∙ has.2)
     (c.loop-at.invariant.none has.0 (omega arith))
