@@ -45,7 +45,7 @@ def worst() -> Iterator[Timed]:
     yield chambers(side=255, big=60, lines=4000, rooms=60)
     yield nested(side=255, lines=2, boxes=12000)
     yield many_ahead(side=255, lines=12, decoys=4000, boxes=3000)
-    yield one_each(side=255, lines=20, decoys=9000, boxes=3000)
+    yield cell_by_cell(side=255, lines=20, decoys=6000, boxes=3000)
     yield parted(side=255, lines=50, decoys=10, boxes=200)
     yield parted(side=255, lines=12, decoys=12, boxes=400, beyond=True)
     yield held(side=255, low=125)
@@ -324,15 +324,15 @@ def many_ahead(side: int, lines: int, decoys: int, boxes: int) -> Timed:
                  listed([*texts, *(line([it]) for it in ends), *found]))
 
 
-def one_each(side: int, lines: int, decoys: int, boxes: int) -> Timed:
-    """Lines of many boxes, and decoys of the cell ahead of one push and of a box that is there, each
-    of which covers the result of that push alone."""
+def cell_by_cell(side: int, lines: int, decoys: int, boxes: int) -> Timed:
+    """Lines of many boxes, and decoys of the cell ahead of a push and of a box that is there, each of
+    which covers what leads to that cell."""
     some, ends, level = crowd(side, boxes)
     texts = [line(some[:it] + some[it + 1:] + ends) for it in range(lines)]
     ahead = [(x + dx, y + dy) for x, y in some for dx, dy in ((-1, 0), (0, -1), (1, 0), (0, 1))]
     random.Random(1).shuffle(ahead)
     found = dict.fromkeys(line([it, ends[1]]) for it in ahead)
-    return Timed("lines of many boxes, and decoys that cover one push each", AUDIT, level,
+    return Timed("lines of many boxes, and decoys that cover what leads to one cell", AUDIT, level,
                  listed([*texts, *islice(found, decoys)]))
 
 
