@@ -186,6 +186,8 @@ class Transactions(Case):
             transaction.finish("journal")
             found = {it: data for it, data in self.files().items() if it[0] != "."}
             said = f"moment {moment}, {name}: {found}"
+            beside = found.pop(f"{name}.conflict-1", OLD.get(name))
+            self.assertEqual(beside, OLD.get(name), said)
             if there:
                 self.assertIn(b"typed", found.pop(name), said)
             self.assertIn(found, [{it: data for it, data in state.items()
@@ -321,6 +323,28 @@ class Transactions(Case):
             transaction.finish("journal")
             self.assertEqual(saved, {name: self.read(name) for name in saved})
             self.assert_has({*b"".join(BEFORE.values()).split()}, (moment, edited, goes_on))
+
+    def test_no_line_is_lost_if_a_save_is_followed_by_a_kill(self) -> None:
+        """An editor that has read a former file saves over the new one, and the run is killed after
+        that: before it ends the write, or while it takes it back."""
+        decided = len(self.calls()) - 2 * len(NAMES)
+        for moment, name, goes_on in itertools.product(
+                range(1, decided + 1), ("a", "b"), (False, True)):
+            for killed in itertools.count(moment):
+                self.start(BEFORE)
+
+                def act(now: int) -> None:
+                    if now == moment:
+                        way = "in place" if killed % 2 else "by rename"
+                        self.save(name, way, BEFORE[name] + b"typed\n")
+                    kill_at(killed, goes_on)(now)
+                with at_calls(act) as calls, contextlib.suppress(Killed):
+                    self.commit(BEFORE, AFTER)
+                transaction.finish("journal")
+                self.assert_has({*b"".join(BEFORE.values()).split(), b"typed"},
+                                (moment, name, goes_on, killed))
+                if killed > len(calls):
+                    break
 
     # ---- the journal, and the disk
 

@@ -9,7 +9,7 @@ ends. It has read the former file or the new one, and nothing tells which. If it
 one, its save lacks the lines that moved into the file, so the other files have to be put back. If
 it has read the new one, its save lacks the lines that moved out, which the others don't have then.
 So the others are put back, and the former file stays beside the saved one, under a name that no
-write replaces. After a write was cut off an editor has read the new file: `finish` goes on.
+write replaces. `finish` does the same: the save may have come before the write was cut off.
 
 The new files and the journal are on the disk before the first move, the moves are before the
 journal goes, and its name is gone there before a former file goes. So `finish` also ends what a
@@ -81,22 +81,22 @@ def commit(files: Sequence[Tuple[str, Optional[bytes], Optional[bytes]]], journa
         with system.uninterrupted():
             _begin(journal, moves)
             made.clear()
-            changed = _end(moves, journal, is_new=True)
+            changed = _end(moves, journal)
     if changed:
         raise Changed(next(name for name, *_ in files if os.path.realpath(name) == changed))
 
 
 def finish(journal: str) -> str:
-    """Ends a write that was cut off: goes on with it, or takes it back if a file that it left as it
-    was has been changed since. Returns the path of such a file, or "". New files of a write that
-    had no journal yet are removed, and former ones of a write whose journal is gone."""
+    """Ends a write that was cut off: goes on with it, or takes it back if somebody has changed a
+    file. Returns the path of such a file, or "". New files of a write that had no journal yet are
+    removed, and former ones of a write whose journal is gone."""
     try:
         with open(journal, "rb") as file:
             moves = [Move(*words) for words in json.load(file)]
     except (FileNotFoundError, ValueError):
         moves = []  # There is no journal, or it was cut off itself.
     with system.uninterrupted():  # or former files keep their hidden names
-        changed = _end(moves, journal, is_new=False)
+        changed = _end(moves, journal)
     folder = glob.escape(os.path.dirname(journal))
     for left in glob.glob(os.path.join(folder, f"{output.TEMPORARY}{_mark(journal)}*")):
         output.remove(left)
@@ -109,13 +109,12 @@ def _mark(journal: str) -> str:
     return texts.digest(os.fsencode(os.path.basename(journal)))[:8] + "-"
 
 
-def _end(moves: Sequence[Move], journal: str, is_new: bool) -> str:
-    """Makes the moves, or takes all back if somebody has changed a file. While a write is new, that
-    may also be a new file: what is saved over it was read before."""
+def _end(moves: Sequence[Move], journal: str) -> str:
+    """Makes the moves, or takes all back if somebody has changed a former file or a new one."""
     try:
         changed = next((it.path for it in moves if not it.make()), "") or next(
             (it.path for it in moves if _digest(it.aside) not in ("", it.before)
-             or is_new and it.is_lost()), "")
+             or it.is_lost()), "")
         for it in moves if changed else ():
             it.take_back()
         _keep_names(journal, moves)
