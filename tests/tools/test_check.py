@@ -288,6 +288,29 @@ class Typed(Check):
         self.assertIn(b"; by hand\nlevel 2\nsolution\nRurD\nend\n", self.read("mine.answers"))
         self.assertFalse(os.path.exists("mine.kept.xsb"))
 
+    def test_comments_between_records_of_a_level_that_is_away_for_one_run(self) -> None:
+        """They stay in mine.answers. If that is lost, or they were typed beside the kept record,
+        they come back with it: once."""
+        self.write("a.txt", LOST)
+        self.write("b.txt", CORNER)
+        self.check("mine", "a.txt", "b.txt")
+        record = b"level 2\nsolution\nRurD\nend\n"
+        self.write("mine.answers", b"sokoban-answers 1\n; apart\n\n; by hand\n" + record)
+        self.check("mine", "a.txt")
+        self.assertIn(b"; apart\n", self.read("mine.answers"))
+        self.assertNotIn(b"; apart\n", self.read("mine.kept.answers"))
+        typed = self.read("mine.kept.answers").replace(b"; by", b"; apart\n; typed\n\n; by")
+        without = self.read("mine.answers").replace(b"; apart\n\n", b"")
+        for mine, comments in ((without, b"; apart\n; typed\n\n"),
+                               (self.read("mine.answers"), b"; typed\n\n")):
+            self.write("mine.answers", mine)
+            self.write("mine.kept.answers", typed)
+            self.check("mine", "a.txt", "b.txt")
+            self.assertIn(comments + b"; by hand\n" + record, self.read("mine.answers"))
+            self.assertEqual(self.read("mine.answers").count(b"; apart\n"), 1)
+            self.assertFalse(os.path.exists("mine.kept.answers"))
+            self.check("mine", "a.txt")
+
     def test_refused_record_stays_until_another_is_accepted(self) -> None:
         self.write("a.txt", CORNER)
         self.check("mine", "a.txt")

@@ -205,10 +205,24 @@ class Pool:
 
     def _written(self) -> bytes:
         """Returns the answers file with the chosen ones, and the comments between them."""
-        parts = [answers.spelled(self._apart.get(number, []))
+        apart = self._comments()
+        parts = [answers.spelled(apart.get(number, []))
                  + (self.chosen[number].answer.record(number) if number in self.chosen else b"")
-                 for number in sorted({*self.chosen, *self._apart})]
+                 for number in sorted({*self.chosen, *apart})]
         return answers.text(parts)
+
+    def _comments(self) -> Dict[int, List[bytes]]:
+        """Returns the comments between records, each before the next level or the end: those of
+        NAME.answers, and what else was typed before kept records that have a place now."""
+        found = dict(self._apart)
+        said = {line for lines in found.values() for line in lines if line}
+        for it in self._given.get(STORED, ()):
+            new = [line for line in it.record.apart if line not in said]
+            place = next((one.number for one in it.targets if self._has_place([one])), 0)
+            if place and any(new):
+                found[place] = found.get(place, []) + new
+                said.update(line for line in new if line)
+        return found
 
     def other_answers(self) -> bytes:
         """Returns the answers file with the others."""
@@ -277,7 +291,8 @@ class Pool:
                     or key in known):
                 known.add(key)
                 head = shelf.head_of(level.number, level.title)
-                entries.append(shelf.Entry(head, block, record))
+                # The comments before it stay in NAME.answers.
+                entries.append(shelf.Entry(head, block, record._replace(apart=[])))
         return entries
 
     def _has_place(self, targets: Sequence[Candidate]) -> bool:
