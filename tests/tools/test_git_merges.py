@@ -114,6 +114,16 @@ class GitMerges(Check):
         self.assertEqual(self.tool("check", "my", "inbox", "--compare").out,
                          b"my: no file would change\n")
 
+    def test_comments_before_a_record_that_both_have(self) -> None:
+        """Each typed one, with an empty line below it."""
+        for name, comment in (("other", "by the other"), ("mine", "by me")):
+            self.git("checkout", "-qb", name, self.main)
+            self.typed("my.answers", "level 2\n", f"; {comment}\n\nlevel 2\n")
+            self.commit()
+        self.merged()
+        self.assertIn(b"; by me\n\n; by the other\n\nlevel 2\n", self.read("my.answers"))
+        self.assertEqual(self.read("my.answers").count(b"level 2\n"), 1)
+
     def test_three_versions(self) -> None:
         """Git may also leave what both had."""
         self.git("config", "merge.conflictStyle", "diff3")

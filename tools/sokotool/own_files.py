@@ -64,7 +64,11 @@ class Files:
         for other in others:
             more = answers.read_text(self.name + end, other, most, rising=False)
             known = {(it.level, it.answer) for it in found.records}
-            found.records.extend(it for it in more.records if (it.level, it.answer) not in known)
+            said = {line for it in found.records for line in it.apart if line}
+            theirs = [it._replace(apart=[line for line in it.apart if line not in said])
+                      for it in more.records]
+            found.records.extend(it for it in theirs
+                                 if any(it.apart) or (it.level, it.answer) not in known)
             found.rest.extend(it for it in more.rest if it not in found.rest)
         # A record may be typed below the note, and another one below that.
         for at, record in enumerate(found.records if _NOTE in data else ()):
