@@ -43,7 +43,8 @@ class Stale(Exception):
 class Keeper(History):
     """A keeper whose editor saves in place or by a rename, unless the file was changed since it was
     opened. No editor can look and save at once: if check replaced the file in between, what check
-    wrote there is gone, and `has_written_over` is true."""
+    wrote there is gone, and `has_written_over` is true until a run has ended whole: before that,
+    some of it may be in hidden and former files."""
 
     def __init__(self, chance: random.Random) -> None:
         super().__init__(chance)
@@ -56,17 +57,20 @@ class Keeper(History):
 
     def put(self, name: str, lines: List[str]) -> None:
         is_rename, new, old = self.chance.random() < .5, name + ".new", name + ".old"
-        if is_rename:
-            super().put(new, lines)
-        os.link(name, old)  # which is replaced now, unless check is faster
         try:
+            if is_rename:
+                super().put(new, lines)
+            os.link(name, old)  # which is replaced now, unless check is faster
             if super().lines(old) != self.opened[name]:
                 raise Stale
             if is_rename:
                 self.swap(new, name)
+                replaced = os.stat(new)
             else:
-                super().put(name, lines)
-            self.has_written_over |= not os.path.samefile(new if is_rename else name, old)
+                with open(name, "w", encoding="utf-8") as file:
+                    replaced = os.fstat(file.fileno())
+                    file.write("".join(line + "\n" for line in lines))
+            self.has_written_over |= not os.path.samestat(replaced, os.stat(old))
         finally:
             for it in (old, new):
                 if os.path.exists(it):
@@ -136,7 +140,7 @@ class Weeks(Case):
             there = words_in(False) if how == "whole" else words_anywhere()
             if keeper.has_written_over:
                 keeper.words &= there
-                keeper.has_written_over = False
+                keeper.has_written_over = how != "whole"
             self.assertFalse(sorted(keeper.words - there), f"day {day}, {how}")
             for name in glob.glob("mine*.conflict-*"):  # the keeper has read them
                 os.remove(name)
