@@ -271,8 +271,8 @@ class Merge(Case):
     def test_faults(self) -> None:
         for text, why in (("", "is no answers file: line 1 isn't 'sokoban-answers 1'"),
                           ("x\n", "is no answers file: line 1 isn't 'sokoban-answers 1'"),
-                          ("sokoban-answers 1\nlevel 0\n", "line 2: 'level 0' is neither a line "
-                           "'level N' nor a comment, which begins with ';'"),
+                          ("sokoban-answers 1\nlevel 0\n", "line 2: 'level 0': there is no such "
+                           "level, the highest is 10000"),
                           ("sokoban-answers 1\nLevel 2\n", "line 2: 'Level 2' is neither a line "
                            "'level N' nor a comment, which begins with ';'"),
                           ("sokoban-answers 1\nlevel 10001\n", "line 2: 'level 10001': there is no "

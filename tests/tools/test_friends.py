@@ -81,9 +81,13 @@ class Answers(Check):
         self.assertIn("problem: in/b.answers line 1: answers to levels that are not there: b.xsb "
                       "is missing", self.lines(self.check("mine", "in")))
         os.rename("in/b.answers", "in/a.answers")
-        self.write("in/a.answers", "sokoban-answers 1\n" + PROOF.replace("1", "7", 1))
-        self.assertIn("problem: in/a.answers line 2: 'level 7': there is no such level, the "
-                      "highest is 1", self.lines(self.check("mine", "in")))
+        # A record for no level costs no other one.
+        for name, number in (("mine", "7"), ("other", "0"), ("third", "-1")):
+            self.write("in/a.answers", "sokoban-answers 1\n" + PROOF.replace("1", number, 1)
+                       + PROOF)
+            self.assertIn(f"problem: in/a.answers line 2: 'level {number}': there is no such "
+                          "level, the highest is 1", self.lines(self.check(name, "in")))
+            self.assertIn(b"; the corner\n", self.read(f"{name}.answers"))
         # The levels lie beside a file that is named alone.
         self.write("in/a.answers", "sokoban-answers 1\n" + PROOF)
         self.write("turned.txt", "\n".join(row[::-1] for row in LOST.splitlines()) + "\n")

@@ -95,19 +95,27 @@ class Table(Case):
         longer = one.replace("rRR", "rlrRR")
         for name, text in (("emil", two + one), ("fred", longer + one + two + longer),
                            ("gina", one + two + one.replace("level 1", "level 12")),
-                           ("hugo", one.replace("level 1", "level 2") + two)):
+                           ("hugo", one.replace("level 1", "level 2") + two),
+                           ("ines", one + one.replace("level 1", "level 0") + two),
+                           ("jan", one.replace("level 1", "level 01") + "".join(
+                               one.replace("level 1", f"level {number}")
+                               for number in ("-1", "1.5", "9" * 20)) + two)):
             self.write(f"{name}.answers", "sokoban-answers 1\n" + text)
-        result, _, standings = self.table("emil.answers", "fred.answers", "gina.answers",
-                                          "hugo.answers")
+        names = "emil", "fred", "gina", "ines", "jan"
+        result, _, standings = self.table(*(f"{it}.answers" for it in (*names, "hugo")))
         self.assertEqual(standings[1:], [*(f"1\t{name}\t2\t0\t0\t0\t7\t4\t2\t2\t"
-                                           for name in ("emil", "fred", "gina")),
-                                         "4\thugo\t1\t0\t0\t1\t4\t2\t1\t1\t"])
+                                           for name in names),
+                                         "6\thugo\t1\t0\t0\t1\t4\t2\t1\t1\t"])
         self.assertEqual((result.status, result.err.splitlines()), (0, [
             "table: emil.answers line 6: the records aren't in order, or several are for a level: "
             "they count as if they were sorted, the best one of each level",
             "table: fred.answers line 6: the records aren't in order, or several are for a level: "
             "they count as if they were sorted, the best one of each level",
             "table: gina.answers line 10: there is no level 12: this record doesn't count",
+            "table: ines.answers line 6: there is no level 0: this record doesn't count",
+            "table: jan.answers line 6: there is no level -1: this record doesn't count",
+            "table: jan.answers line 10: there is no level 1.5: this record doesn't count",
+            f"table: jan.answers line 14: there is no level {'9' * 20}: this record doesn't count",
             "table: hugo.answers line 6: the records aren't in order, or several are for a level: "
             "they count as if they were sorted, the best one of each level"]))
 

@@ -10,6 +10,9 @@ _BLANKS = b" \t\r"
 Cell = Tuple[int, int]
 _HEADER = re.compile(rb"sokoban-answers ([12])")
 _LEVEL = re.compile(rb"level ([1-9][0-9]*)")
+# with any number, such as 007, or 0, which no level has
+_ANY_LEVEL = re.compile(rb"level ([-+]?[0-9][0-9.,/]*)")
+_ABOVE_ALL = 10 ** 10
 
 
 class Fault(Exception):
@@ -110,7 +113,8 @@ class Answers(NamedTuple):
 
 def read(data: bytes, levels: Optional[int] = None, rising: bool = True) -> Answers:
     """Reads an answers text, or raises its first `Fault`. `levels` is the number of levels, where
-    it is known. Where `rising` is false, the levels may come in any order."""
+    it is known. Where `rising` is false, the levels may come in any order, and a number that no
+    level can have is above every level."""
     lines = texts.lines(data)
     header = _HEADER.fullmatch(lines[0]) if lines else None
     if not header:
@@ -126,10 +130,11 @@ def read(data: bytes, levels: Optional[int] = None, rising: bool = True) -> Answ
             if not line:
                 apart, above = apart + above, []
             continue
-        if not (match := _LEVEL.fullmatch(line)):
+        if not (match := (_LEVEL if rising else _ANY_LEVEL).fullmatch(line)):
             raise Fault(first, "level")
+        number = match[1].lstrip(b"+0")
         # Past nine digits a number is above every level, and is not converted.
-        level = int(match[1]) if len(match[1]) < 10 else 10 ** 10
+        level = int(number) if number.isdigit() and len(number) < 10 else _ABOVE_ALL
         if rising and level <= last:
             raise Fault(first, "order")
         if levels is not None and level > levels:
@@ -168,7 +173,7 @@ def read_whole(data: bytes, levels: Optional[int] = None, rising: bool = True) -
     the next one: the auditor reads both as one, and refuses that."""
     found = read(data, levels, rising)
     for number, line in (it for record in found.records for it in record.body):
-        if _LEVEL.fullmatch(line):
+        if _ANY_LEVEL.fullmatch(line):
             raise Fault(number, "end")
     return found
 

@@ -116,23 +116,23 @@ def _sorted(data: bytes, found: Sequence[levels.Level], say: Callable[[int, str]
     try:
         answers.read(data, len(found))
         return data
-    except answers.Fault as fault:
-        if fault.why not in ("order", "unknown"):
-            return data
+    except answers.Fault:
+        pass
     try:
         read = answers.read(data, rising=False)
     except answers.Fault:
         return data
-    by_level = texts.grouped((it.level, it) for it in read.records if it.level <= len(found))
+    known = [it for it in read.records if it.level <= len(found)]
+    lines = texts.lines(data)
     for record in read.records:
         if record.level > len(found):
-            say(record.line, f"there is no level {record.level}: this record doesn't count")
-    orders = [it.level for it in read.records if it.level <= len(found)]
-    if orders != sorted(by_level):
-        line = next(two.line for one, two in zip(read.records, read.records[1:])
-                    if two.level <= one.level)
+            say(record.line, f"there is no {texts.shown(lines[record.line - 1])}: this record "
+                "doesn't count")
+    line = next((two.line for one, two in zip(known, known[1:]) if two.level <= one.level), 0)
+    if line:
         say(line, "the records aren't in order, or several are for a level: they count as if they "
             "were sorted, the best one of each level")
+    by_level = texts.grouped((it.level, it) for it in known)
     return answers.text([min(several, key=lambda it: _rank(it, found[level - 1])).text
                          for level, several in sorted(by_level.items())], read.version)
 

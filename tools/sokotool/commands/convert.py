@@ -126,7 +126,8 @@ def read_files(collection: Collection, listed: Sequence[sources.Export]) -> None
 
 def _read_answers(reader: reading.Reader, name: str, data: bytes,
                   its_levels: Optional[sources.Export]) -> None:
-    """Reads answers that sokotool or sokoaudit wrote to the levels of another export."""
+    """Reads answers that sokotool or sokoaudit wrote to the levels of another export. A record that
+    is for none of them is left out."""
     if its_levels is None:
         stem = texts.shown(os.path.splitext(os.path.basename(name))[0])
         reader.collection.fault(
@@ -134,7 +135,13 @@ def _read_answers(reader: reading.Reader, name: str, data: bytes,
         return
     try:
         found = levels.read(its_levels.read())
-        reader.add_answers(name, found, answers.read(data, len(found), rising=False))
+        read = answers.read(data, rising=False)
+        for record in read.records:
+            if record.level > len(found):
+                why = answers.advice(data, answers.Fault(record.line, "unknown"), len(found))
+                reader.collection.fault(record.line, why, name)
+        reader.add_answers(name, found, read._replace(
+            records=[it for it in read.records if it.level <= len(found)]))
     except texts.Stop as stop:
         reader.collection.fault(1, str(stop), name)
     except answers.Fault as fault:
