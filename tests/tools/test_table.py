@@ -376,6 +376,15 @@ The file could not be audited: answers line 9 unclosed
         self.assertEqual(standings[1:], ["1\tanna.answers\t2\t0\t0\t0\t7\t4\t2\t2\t",
                                          "2\tanna\t1\t0\t0\t1\t3\t2\t1\t1\t"])
 
+    def test_names_that_are_formulas(self) -> None:
+        """A spreadsheet runs none, wherever a name is printed."""
+        signs = "=+-@"
+        for sign in signs:
+            self.write(f"{sign}1.answers", solutions("rRR") if sign != "=" else "no answers\n")
+        _, rows, standings = self.table("--", *(f"{sign}1.answers" for sign in signs))
+        printed = [row.split("\t")[1] for row in rows[1:] + standings[1:]]
+        self.assertEqual({*printed}, {f"'{sign}1" for sign in signs})
+
     @is_slow
     @unittest.skipUnless(BROWSER, "there is no browser (chromium) here")
     def test_page_in_a_browser(self) -> None:

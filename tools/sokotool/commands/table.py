@@ -16,7 +16,7 @@ import argparse
 import os
 import sys
 
-from .. import contest_mails, contest_page, entrants, levels, output, texts
+from .. import contest_mails, contest_page, entrants, levels, output, sheet, texts
 from ..contest import HEAD, STANDINGS_HEAD, Contest
 from . import above_zero
 
@@ -65,7 +65,7 @@ def run(options: argparse.Namespace) -> int:
                 raise texts.Stop(f"would write over {texts.shown(name)}")
     output.write_files(files)
     for row in (HEAD, *contest.rows(), (), STANDINGS_HEAD, *contest.standings()):
-        print(*row, sep="\t")
+        print(*map(sheet.plain, row), sep="\t")
     return int(any(entrant.fault for entrant in every))
 
 
