@@ -26,10 +26,10 @@ def expand(text: str, most: int) -> str:
     # the open groups: how often each is repeated, and its text so far
     groups = [(1, io.StringIO())]
 
-    def add(text: str, times: int) -> None:
-        if groups[-1][1].tell() + len(text) * times > most:
+    def add(text: str, times: int, rest: str = "") -> None:
+        if groups[-1][1].tell() + len(text) * times + len(rest) > most:
             raise TooLong(f"is longer than {most} when it is written out")
-        groups[-1][1].write(text * times)
+        groups[-1][1].write(text * times + rest)
 
     for number, after in (match.groups() for match in _TOKEN.finditer(text)):
         # No number of ten digits is within a limit.
@@ -46,8 +46,7 @@ def expand(text: str, most: int) -> str:
             again, group = groups.pop()
             add(group.getvalue(), again)
         else:
-            add(after[:1], times)
-            add(after[1:], 1)
+            add(after[:1], times, after[1:])
     if len(groups) > 1:
         raise Wrong("has an unclosed bracket")
     return groups[0][1].getvalue()

@@ -1,6 +1,6 @@
 """Gathers the lines of letters between two levels into groups, each of which may be a solution or
 several."""
-from typing import Callable, Dict, List, NamedTuple, Optional, Sequence, Set, Tuple
+from typing import Dict, List, NamedTuple, Optional, Sequence, Set, Tuple
 
 from . import letters
 
@@ -50,7 +50,7 @@ class Groups:
     """The groups in the lines that are added. A heading without letters is in `empty`. `said` tells
     what a line says."""
 
-    def __init__(self, said: Callable[[str], Optional[letters.Said]]) -> None:
+    def __init__(self, said: letters.SaidIn) -> None:
         self.found: List[Group] = []
         self.empty: List[Place] = []
         self._said = said

@@ -1,6 +1,6 @@
 """Letters of solutions in lines of text: alone in a line, or among words."""
 import re
-from typing import List, NamedTuple, Optional, Tuple
+from typing import Callable, List, NamedTuple, Optional, Tuple
 
 from . import coding, markup
 
@@ -74,6 +74,10 @@ class Said(NamedTuple):
     has_colon: bool = False
     is_numbered: bool = False
     is_name: bool = False
+
+
+# `said_in`, perhaps with what it has returned before
+SaidIn = Callable[[str], Optional[Said]]
 
 
 def _bare(line: str) -> str:

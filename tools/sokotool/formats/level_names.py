@@ -18,14 +18,14 @@ class Names:
     """The titles of levels, and the numbers that a list counts: those of the export of its name, of
     its own, or of the only one."""
 
-    def __init__(self, exports: Sequence[Export], found: Sequence[Level]) -> None:
-        self.exports = exports
+    def __init__(self, exports: Sequence[Export], found: Sequence[Level], said: letters.SaidIn
+                 ) -> None:
+        self.exports, self._said = exports, said
         self._by_title: Dict[str, List[int]] = {}
         self._by_export = texts.grouped((it.export, i) for i, it in enumerate(found))
         self._by_path, self._by_stem = (
             texts.grouped((name_of(exports[number].file), number) for number in self._by_export)
             for name_of in (_path, _stem))
-        self._said = texts.cached(letters.said_in)
         for number, its in self._by_export.items():
             for i, title in zip(its, _titles(exports[number], found)):
                 self._by_title.setdefault(_key(title), []).append(i)

@@ -46,7 +46,7 @@ class Reader:
         # what is reported: the file, the line, why, and the level whose number is known when it is
         # written, or -1; and whether something is left out or wrong
         self.waiting: List[Tuple[str, int, str, int, bool]] = []
-        self.names = Names([], [])
+        self.names = Names([], [], letters.said_in)
         self._boards: Dict[int, Board] = {}
         # the letters that were taken from lines
         self._taken: Dict[Place, List[str]] = {}
@@ -98,9 +98,10 @@ class Reader:
         """Gives the letters to levels."""
         self.solving = [[] for _ in self.levels]
         self.failing = [[] for _ in self.levels]
-        loose = self._try_below()
+        said = texts.cached(letters.said_in)
+        loose = self._try_below(said)
         if loose:
-            self.names = Names(self.exports, self.levels)
+            self.names = Names(self.exports, self.levels, said)
         for it in loose:
             self._try_elsewhere(it)
         for answered in self._answers:
@@ -108,10 +109,9 @@ class Reader:
 
     # ---- letters below a level
 
-    def _try_below(self) -> List[Loose]:
+    def _try_below(self, said: letters.SaidIn) -> List[Loose]:
         """Tries the letters below each level on it. Returns those that solve nothing."""
         loose: List[Loose] = []
-        said = texts.cached(letters.said_in)
         above, groups = -1, Groups(said)
         for number, export in enumerate(self.exports):
             for at, gap in enumerate(export.gaps()):
@@ -331,7 +331,7 @@ class Reader:
                 self._tries += 1
                 board = self._boards.get(i) or self._boards.setdefault(i, self._board(i))
                 if i != tried and _may_play(board, steps):
-                    attempt = self.collection.attempt(text, board)
+                    attempt = self.collection.attempt(spelled, board)
                     found += [(i, attempt)] * (attempt.why is None and attempt.pushes > 0)
             if found:
                 return [it for it in found if not self.solving[it[0]]] or found
