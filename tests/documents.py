@@ -28,7 +28,7 @@ from tests.definitions import CLAIMS, Specs
 from tests.runner import TOP, Cases, arguments, chosen, enter_folder, read, shell
 
 # the least number of commands of each page that has some
-LEAST = {"README.md": 2, "certificates.md": 10, "keeping.md": 50, "solvers.md": 14}
+LEAST = {"README.md": 5, "certificates.md": 10, "keeping.md": 50, "solvers.md": 14}
 COMMAND = re.compile(r"(?m)^\$ (.*\n(?:> .*\n)*)((?:(?!\$ ).*\n)*)")
 
 

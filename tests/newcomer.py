@@ -22,6 +22,10 @@ GIVEN = {"mine": "mine", "FILES": "samples/exports", "LEVELS": "samples/first.xs
          "ANSWERS": "samples/first.answers", "N": "4", "/usr/local": "installed"}
 # their status, if it isn't 0: some of the samples are broken on purpose
 STATUS = {"sokotool check": 1, "sokotool.pyz check": 1}
+# a phone shows a page 390 pixels wide, with a margin of 16 on each side
+PHONE = 390 - 2 * 16
+# the columns of a block of code on a page of a forge, in a wide window
+COLUMNS = 92
 # the tests, among which this part is
 TESTS = ("python3 -m tests", "py -m tests")
 # these show their help or need words, which the page leaves out
@@ -53,16 +57,29 @@ def is_pictured(cases: Cases, command: str, said: str) -> None:
                "\n".join(html.unescape(shown).split()))
 
 
+def is_readable(cases: Cases, picture: str) -> None:
+    """A case: on a phone the letters of a picture are at least 9 pixels high."""
+    wide = max(map(int, re.findall(r'(?m)^<svg .*viewBox="0 0 (\d+) ', read(picture))))
+    least = min(map(int, re.findall(r'font-size="(\d+)"', read(picture)))) * PHONE / wide
+    cases.holds(f"the letters of {picture} are large enough on a phone", least >= 9,
+                f"{least:.1f} pixels")
+
+
 def are_drawn(cases: Cases, variables: Dict[str, str]) -> None:
     """A case: the picture of the levels is the one of the samples and their report."""
     with tempfile.TemporaryDirectory() as folder:
         succeeds(cases, f"packaging/pictures {folder}", variables)
         cases.same("the picture of the levels", read(f"{folder}/first.svg"), read(LEVELS))
+    for picture in LEVELS, PICTURE:
+        is_readable(cases, picture)
 
 
 def blocks(cases: Cases, page: str, variables: Dict[str, str]) -> None:
-    """A case for each command of a block. What it prints on standard output is what is shown."""
+    """A case for each command of a block. What it prints on standard output is what is shown. No
+    line is wider than the block."""
     for kind, body in re.findall(r"(?ms)^```([^\n]*)\n(.*?)^```", page):
+        wide = [it for it in body.splitlines() if len(it) > COLUMNS]
+        cases.holds(f"a block of {kind} has {COLUMNS} columns or less", not wide, *wide)
         if kind == "sh":
             for command in (it for it in body.splitlines() if it not in TESTS):
                 said = succeeds(cases, command, {**variables, "SOKOAUDIT_QUIET": "1"})
