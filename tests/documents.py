@@ -21,6 +21,7 @@ can't.
 import glob
 import os
 import re
+import shutil
 from shlex import quote
 from typing import Dict, Iterator, Mapping, Tuple
 
@@ -68,7 +69,15 @@ def without_toolchain(cases: Cases) -> Dict[str, str]:
 
 def run_page(cases: Cases, page: str, variables: Mapping[str, str]) -> None:
     """Runs the steps in one shell, so that a command finds the files and the $? of the commands
-    before it. A NUL ends what each command prints."""
+    before it. A NUL ends what each command prints. A page that types git is skipped without it."""
+    steps = list(steps_of(page))
+    typed = [command for file, command, _ in steps if not file]
+    number, least = len(typed), LEAST.get(os.path.basename(page), 0)
+    cases.holds(f"{page} has {least} commands or more, and none if LEAST doesn't name it",
+                number >= least and (least or not number), f"it has {number}")
+    if any(it.startswith("git ") for it in typed) and not shutil.which("git"):
+        cases.skip(os.path.basename(page), "there is no command git", number)
+        return
     with enter_folder() as room:
         program = variables["SOKOAUDIT"]
         tool = f"{os.path.dirname(program)}/sokotool"
@@ -76,16 +85,13 @@ def run_page(cases: Cases, page: str, variables: Mapping[str, str]) -> None:
             os.symlink(f"{TOP}/{name}", name)
         os.symlink(tool if os.path.exists(tool) else f"{TOP}/sokotool", "sokotool")
         os.symlink(program, "sokoaudit")
-        steps, script = list(steps_of(page)), "status=0\n"
+        script = "status=0\n"
         for file, text, _ in steps:
             if file:
                 script += f"mkdir -p $(dirname {file}); printf %s {quote(text)} >{file}\n"
             else:
                 script += f"(exit $status); eval {quote(text)}\nstatus=$?; printf '\\0'\n"
         variables = {**variables, "PATH": f"{room}:{variables['PATH']}", "LC_ALL": "C"}
-        number, least = sum(not file for file, _, _ in steps), LEAST.get(os.path.basename(page), 0)
-        cases.holds(f"{page} has {least} commands or more, and none if LEAST doesn't name it",
-                    number >= least and (least or not number), f"it has {number}")
         printed = iter(shell(script, env=variables).split("\0")[:-1])
         for file, command, wanted in steps:
             if not file:
