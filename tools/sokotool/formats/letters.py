@@ -15,7 +15,9 @@ _RUN = re.compile(rf"[{_WORD}(){BETWEEN}]+")
 _ALONE = re.compile(rf"[0-9(){BETWEEN}]*[lurdLURD][{_WORD}(){BETWEEN}]*=?")
 _PURE = re.compile(rf"[lurdLURD](?:[lurdLURD{BETWEEN}]*[lurdLURD])?")
 _FRONT = re.compile(r"[>;\s|]*(?:[\[(]?[0-9]+[.):\]]\s+)?")
-_LOOSE_NUMBER = re.compile(rf"(?<![\w(])[0-9]+(?=[{BETWEEN}]|$)|(?<!\w)[0-9]+(?=[,;])")
+# a search skips fast to the first digit, since each way begins with that
+_LOOSE_NUMBER = re.compile(
+    rf"[0-9](?:(?<![\w(].)[0-9]*(?=[{BETWEEN}]|$)|(?<!\w.)[0-9]*(?=[,;]))")
 # one of several strings with letters in a line
 _STRING = re.compile("[\"'`]([lurdLURD0-9()]+)[\"'`]")
 _NUMBERED = re.compile(r"[>;\s|#(\[]*[0-9]+(?:[.):\];,|=]+\s*|\s+)(?=[lurdLURD(0-9\"'`])")

@@ -9,7 +9,8 @@ from .export_lines import Export, Level
 
 # how many lines above letters, and how many words of each, may name their level
 MOST_ABOVE, MOST_WORDS = 6, 12
-_BETWEEN = re.compile(r"[\s:;,=|\"'\[\]{}<>()#*.>/-]+")
+# what stands between words, beside blanks
+_BETWEEN = dict.fromkeys(map(ord, ":;,=|\"'[]{}<>()#*./-"), " ")
 _NUMBER = re.compile(r"\W*(?:[^\W\d_]+\W+){0,3}([0-9]{1,5})(?![0-9])")
 _BARE_NUMBER = re.compile(r"\W*(?:(?:level|puzzle|no|nr|number)\W*)?[0-9]+\W*", re.I)
 
@@ -44,7 +45,7 @@ class Names:
         by_number: Set[int] = set()
         its = self._counted(number)
         for line in self._words(number, at):
-            words: List[str] = [it for it in _BETWEEN.split(line[:1000].casefold()) if it]
+            words = _words_in(line[:1000])
             for first in range(min(len(words), MOST_WORDS)):
                 for end in range(first + 1, min(len(words), first + MOST_WORDS) + 1):
                     by_title |= {*self._by_title.get(" ".join(words[first:end]), ())}
@@ -108,9 +109,14 @@ def _titles(export: Export, found: Sequence[Level]) -> List[str]:
     return [it.title for it in levels.read("\n".join(made).encode("utf-8", "replace"))]
 
 
+def _words_in(text: str) -> List[str]:
+    """Returns the words of a text in lower case."""
+    return text.casefold().translate(_BETWEEN).split()
+
+
 def _key(title: str) -> str:
     """Returns a title as titles are compared."""
-    return " ".join(_BETWEEN.split(title.casefold())).strip()
+    return " ".join(_words_in(title))
 
 
 def _path(file: str) -> str:
