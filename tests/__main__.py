@@ -2,14 +2,16 @@
 is the gate (.ci/run). Without it the reference stands for the program: each part below that finds
 its commands runs, and each has a line that says what was left out and why. On Windows, where it is
 'py -m tests', what needs no shell runs. Ends in 'N passed, M failed'."""
+import contextlib
 import os
 import re
 import shutil
 import subprocess
 import sys
+import tempfile
 import time
 from concurrent.futures import ThreadPoolExecutor, as_completed
-from typing import Dict, List, NamedTuple
+from typing import Dict, Iterator, List, NamedTuple
 
 TOP = os.path.dirname(os.path.dirname(os.path.realpath(__file__)))
 # the parts, those that take longest first, each with the commands that it cannot do without
@@ -31,6 +33,13 @@ PARTS = {
 }
 NUMBERS = re.compile(r"(\d+) passed, (\d+) failed(?:, (\d+) skipped)?")
 FAILURE = re.compile(r"(?m)^\S.*: FAILED: ")
+# loads what the parts load
+LOADS = """
+import importlib, pkgutil, unittest, formats, rules, solve, sokotool, tests.runner
+for it in pkgutil.walk_packages(sokotool.__path__, "sokotool."):
+    if not it.name.endswith("__main__"):
+        importlib.import_module(it.name)
+"""
 FIRST = """There is no command rt, the Rattle toolchain: nothing is proved here, and the reference
 in Python stands for the program. HACKING.md says what is tested with the toolchain."""
 
@@ -57,8 +66,9 @@ def command_of(part: str) -> List[str]:
 def given_to(part: str) -> Dict[str, str]:
     """The variables that a part gets beside those of any machine: what stands for another system
     (tests/lacking), and where the script stands for the program, no note of the reference."""
-    given = {it: os.environ[it] for it in ("LACKING", "LACKING_TESTS") if it in os.environ}
-    paths = ["tools", "reference", "include", *(["tests/lacking"] if given else [])]
+    kept = "LACKING", "LACKING_TESTS", "PYTHONPYCACHEPREFIX"
+    given = {it: os.environ[it] for it in kept if it in os.environ}
+    paths = ["tools", "reference", "include", *(["tests/lacking"] if "LACKING" in given else [])]
     quiet = {"SOKOAUDIT_QUIET": "1"} if "sokoaudit" in part.split() else {}
     return {**given, **quiet, "RT_JOBS": "1",
             "PYTHONPATH": os.pathsep.join(os.path.join(TOP, it) for it in paths)}
@@ -98,11 +108,26 @@ def show(ended: Ended) -> None:
         print(*(f"    {it}" for it in said[first:][:200]), sep="\n", flush=True)
 
 
+@contextlib.contextmanager
+def compiled() -> Iterator[None]:
+    """Compiles what the parts load into a folder, where each Python that they start finds it: the
+    programs keep nothing that is compiled, and a tenth of the time would go to that."""
+    with tempfile.TemporaryDirectory(prefix="sokoaudit-") as folder:
+        os.environ["PYTHONPYCACHEPREFIX"] = folder
+        try:
+            subprocess.run([sys.executable, "-c", LOADS], cwd=TOP, stderr=subprocess.DEVNULL,
+                           env={**os.environ, **given_to(""), "PYTHONDONTWRITEBYTECODE": ""},
+                           check=False)
+            yield
+        finally:
+            del os.environ["PYTHONPYCACHEPREFIX"]
+
+
 def run_parts() -> None:
     """Runs the parts, at once where there are processors, and prints the sum of their numbers."""
     print(f"{FIRST}\n\n{'part':16} passed failed skipped seconds  skipped, because", flush=True)
     sums = [0, 0, 0]
-    with ThreadPoolExecutor(os.cpu_count()) as pool:
+    with compiled(), ThreadPoolExecutor(os.cpu_count()) as pool:
         running = [pool.submit(run, part) for part in PARTS]
         try:
             for it in as_completed(running):

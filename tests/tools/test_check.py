@@ -608,7 +608,7 @@ class Unchanged(Check):
         asked = ("import pkgutil, sys; sys.path[0] = sys.argv[1]; from sokotool import conversion; "
                  "read = pkgutil.get_data; got = []; pkgutil.get_data = lambda *it: ("
                  "got.append(it[1]), read(*it))[1]; print(conversion.code(), *got)")
-        whole, packed = (subprocess.run([sys.executable, "-c", asked, path], check=True,
+        whole, packed = (subprocess.run([sys.executable, "-B", "-c", asked, path], check=True,
                                         stdout=subprocess.PIPE).stdout.decode().split()
                          for path in (f"{TOP}/tools", zipped))
         self.assertEqual(whole[0], packed[0])
