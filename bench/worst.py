@@ -325,8 +325,8 @@ def many_ahead(side: int, lines: int, decoys: int, boxes: int) -> Timed:
 
 
 def cell_by_cell(side: int, lines: int, decoys: int, boxes: int) -> Timed:
-    """Lines of many boxes, and decoys of the cell ahead of a push and of a box that is there, each of
-    which covers what leads to that cell."""
+    """Lines of many boxes, and decoys of the cell ahead of a push and of a box that is there, each
+    of which covers what leads to that cell."""
     some, ends, level = crowd(side, boxes)
     texts = [line(some[:it] + some[it + 1:] + ends) for it in range(lines)]
     ahead = [(x + dx, y + dy) for x, y in some for dx, dy in ((-1, 0), (0, -1), (1, 0), (0, 1))]
