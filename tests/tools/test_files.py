@@ -384,6 +384,7 @@ class Reading(Case):
         self.assertEqual(self.tool("check", "my", "many.txt").err,
                          "check: many.txt line 40001: more than 10000 levels\n")
 
+    @is_slow
     @needs_a_memory_limit
     def test_hostile_lines(self) -> None:
         """33 MB of such lines take at most 30 s and 1 GB; some are tried here within 1 GB."""

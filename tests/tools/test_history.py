@@ -19,7 +19,7 @@ from typing import Any, Dict, List, NamedTuple, Sequence, Set, Tuple
 
 from sokotool import levels
 from tests.tools.ending import EndsEarly, Killed, Meanwhile
-from tests.tools.helping import TOP, Case, reference_here
+from tests.tools.helping import TOP, Case, is_slow, reference_here
 
 HISTORIES = 60
 RUNS = 6
@@ -273,6 +273,7 @@ class Histories(Case):
     def check(self, seconds: int = 0) -> Any:
         return self.tool("check", "mine", "inbox", "--seconds", str(seconds), "--jobs", "1")
 
+    @is_slow
     def test_every_typed_word_stays(self) -> None:
         """After each run each word is in some file of NAME, and after one that was not ended early
         it is in one that isn't a former file."""
