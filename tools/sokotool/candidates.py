@@ -212,8 +212,8 @@ class Pool:
         return answers.text(parts)
 
     def _comments(self) -> Dict[int, List[bytes]]:
-        """Returns the comments between records, each before the next level or the end: those of
-        NAME.answers, and what else was typed before kept records that have a place now."""
+        """Returns the comments between records, each before the next level or the end: the comments
+        of NAME.answers, and what else was typed before kept records that have a place now."""
         found = dict(self._apart)
         said = {line for lines in found.values() for line in lines if line}
         for it in self._given.get(STORED, ()):
